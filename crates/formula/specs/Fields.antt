@@ -1,0 +1,59 @@
+-- which fields each kind and each rule has: the bit map that stands before it in a file
+use mathlib.Core.Path.{_≡_, refl}
+use mathlib.Core.List.{List, [], _∷_}
+use mathlib.Core.Bool.{Bool, true, false, _&&_}
+use Prim.Native.Nat.{ℕ, zero, suc, _+_, _<_}
+use lib.Dec.{eqb, leb}
+use Rattle.formula.specs.Kind
+use Rattle.formula.specs.Rule
+
+-- kinds 2 to 10 have A, 4 and 5 have B
+abbrev pub hasA : ℕ → Bool
+hasA k = leb Kind.LETTER k && leb k Kind.NAME
+
+abbrev pub hasB : ℕ → Bool
+hasB k = leb Kind.OR k && leb k Kind.AND
+
+-- rules 2 to 9 have a principal, 2 to 10 a first child, 3 a second child, 11 a back link
+abbrev pub hasPrincipal : ℕ → Bool
+hasPrincipal r = leb Rule.OR r && leb r Rule.U
+
+abbrev pub hasFirst : ℕ → Bool
+hasFirst r = leb Rule.OR r && leb r Rule.D
+
+abbrev pub hasSecond : ℕ → Bool
+hasSecond r = eqb r Rule.AND
+
+abbrev pub hasBack : ℕ → Bool
+hasBack r = eqb r Rule.BACK
+
+abbrev pub bit : Bool → ℕ → ℕ
+bit true n = n
+bit false n = 0
+
+-- bit 0: A, bit 1: B
+abbrev pub mapOf : ℕ → ℕ
+mapOf k = bit (hasA k) 1 + bit (hasB k) 2
+
+-- bit 0: principal, bit 1: first child, bit 2: second child, bit 3: back link
+abbrev pub lowMap : ℕ → ℕ
+lowMap r = bit (hasPrincipal r) 1 + bit (hasFirst r) 2 + bit (hasSecond r) 4 + bit (hasBack r) 8
+
+-- a field is two bytes, or 0 in its record where the kind or rule lacks it
+abbrev pub FitField : Bool → ℕ → Type 0
+FitField true n = n < 65536
+FitField false n = n ≡ 0
+
+-- n values from v on
+pub values : (ℕ → ℕ) → ℕ → ℕ → List ℕ
+values f zero v = []
+values f (suc n) v = f v ∷ values f n (suc v)
+
+-- document 01's maps, by kind and by rule, as it numbers them
+pub maps-by-kind : values mapOf 11 0 ≡ 0 ∷ 0 ∷ 1 ∷ 1 ∷ 3 ∷ 3 ∷ 1 ∷ 1 ∷ 1 ∷ 1 ∷ 1 ∷ []
+unfolding values
+maps-by-kind = refl
+
+pub maps-by-rule : values lowMap 12 0 ≡ 0 ∷ 0 ∷ 3 ∷ 7 ∷ 3 ∷ 3 ∷ 3 ∷ 3 ∷ 3 ∷ 3 ∷ 2 ∷ 8 ∷ []
+unfolding values
+maps-by-rule = refl

@@ -1,0 +1,39 @@
+-- the records
+pub mod Kind
+pub mod Rule
+pub mod Table
+pub mod Codes
+pub mod Nodes
+pub mod Fields
+-- syntax
+pub mod Shape
+pub mod Target
+pub mod Free
+pub mod WellFormed
+pub mod Conditions
+pub mod Formed
+pub mod TableLaws
+-- refusals 20 to 23 computed
+pub mod Below
+pub mod Upward
+pub mod Rows
+pub mod RowLaws
+pub mod Judge
+pub mod TestLaws
+pub mod JudgeExact
+-- Kripke meaning
+pub mod Truth
+pub mod Chain
+pub mod Bounds
+pub mod States
+pub mod StateLaws
+pub mod Meaning
+pub mod MeaningLaws
+pub mod FixLaws
+pub mod OwnLaws
+-- refutation within a number of modal steps
+pub mod FalseSets
+pub mod Rank
+pub mod Stages
+pub mod StageLaws
+pub mod Complete

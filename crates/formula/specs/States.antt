@@ -1,0 +1,42 @@
+-- finite models, sets of their states, and the set that each connective makes
+use mathlib.Core.Bool.{Bool, true, false, not, _&&_, _||_}
+use mathlib.Core.Path.{_≡_}
+use Prim.Native.Nat.{ℕ, _<_}
+use Rattle.formula.specs.Truth.{_⊑_, some, every}
+use Rattle.formula.specs.Shape.{Leaf, never, always, letter, negated, Two, or, and, Step, diamond, box, Fix, mu, nu}
+
+-- letter s p: state s has letter p; succ s u: state u is a successor of s; states lie below the size
+pub record Model : Type 0 where
+  pub size : ℕ
+  pub letter : ℕ → ℕ → Bool
+  pub succ : ℕ → ℕ → Bool
+
+-- a set says of each state whether it is in; only states below the size count
+abbrev pub Set : Type 0
+Set = ℕ → Bool
+
+abbrev pub Sub : ℕ → Set → Set → Type 0
+Sub n A B = (s : ℕ) → s < n → A s ⊑ B s
+
+abbrev pub Same : ℕ → Set → Set → Type 0
+Same n A B = (s : ℕ) → s < n → A s ≡ B s
+
+unfoldable pub twoSet : Two → Set → Set → Set
+twoSet or A B s = A s || B s
+twoSet and A B s = A s && B s
+
+module _ (M : Model) where
+  unfoldable pub leafSet : Leaf → Set
+  leafSet never s = false
+  leafSet always s = true
+  leafSet (letter p) s = M .letter s p
+  leafSet (negated p) s = not (M .letter s p)
+
+  unfoldable pub stepSet : Step → Set → Set
+  stepSet diamond A s = some (M .size) (λ u. M .succ s u && A u)
+  stepSet box A s = every (M .size) (λ u. not (M .succ s u) || A u)
+
+-- where the iteration of a fixpoint starts: at no state, at all
+unfoldable pub start : Fix → Set
+start mu s = false
+start nu s = true
