@@ -17,7 +17,7 @@ use Rattle.formula.specs.Below.{by-smaller}
 use Rattle.formula.specs.Meaning.{own}
 use Rattle.formula.specs.TableLaws.{past-end, target-at, name-fix}
 use Rattle.formula.specs.FalseSets.{two-false, step-false}
-use Rattle.formula.specs.Rank.{Refuted, by-leaf, by-or, by-left, by-right, by-diamond, by-box, by-nu, by-mu, refuted-more}
+use Rattle.formula.specs.Rank.{Refuted, by-leaf, by-or, by-left, by-right, by-diamond, by-box, by-nu, by-mu, refuted-by, refuted-more}
 use Rattle.formula.specs.Stages.{stageClause, stage, stages, enough, rank}
 use Rattle.formula.specs.StageLaws.{stage-at, left-own}
 
@@ -30,18 +30,18 @@ module _ (M : Model) (t : Table) (wf : WellFormed t) where
     refutes-step : (e : ℕ) (v : Shape) → shape t e ≡ v → ((c : ℕ) → Operand v c → Refutes (suc k) (stage M t W) c)
         → (s : ℕ) → s < M .size → stageClause M t W (stage M t W) e v s ≡ false → Refuted M t (suc k) (targetOf v e) s
     unfolding stageClause targetOf
-    refutes-step e (leaf i) q ih s l h = by-leaf i q h
+    refutes-step e (leaf i) q ih s l h = refuted-by M t q (by-leaf h)
     refutes-step e (two or a b) q ih s l h =
-        let (x, y) = two-false or _ _ s .0 h in by-or a b q (ih a (inl refl) s l x) (ih b (inr refl) s l y)
+        let (x, y) = two-false or _ _ s .0 h in refuted-by M t q (by-or (ih a (inl refl) s l x) (ih b (inr refl) s l y))
     refutes-step e (two and a b) q ih s l h = go (two-false and _ _ s .0 h)
       where
         go : (stage M t W a s ≡ false) ⊎ (stage M t W b s ≡ false) → Refuted M t (suc k) e s
-        go (inl x) = by-left a b q (ih a (inl refl) s l x)
-        go (inr y) = by-right a b q (ih b (inr refl) s l y)
-    refutes-step e (step diamond a) q ih s l h = by-diamond a q (λ u m g. earlier a u m (step-false M diamond _ s .0 h u m g))
-    refutes-step e (step box a) q ih s l h = let (u, m, g, f) = step-false M box _ s .0 h in by-box a u q m g (earlier a u m f)
-    refutes-step e (fix mu a) q ih s l h = by-mu a q h
-    refutes-step e (fix nu a) q ih s l h = by-nu a q (ih a refl s l h)
+        go (inl x) = refuted-by M t q (by-left (ih a (inl refl) s l x))
+        go (inr y) = refuted-by M t q (by-right (ih b (inr refl) s l y))
+    refutes-step e (step diamond a) q ih s l h = refuted-by M t q (by-diamond (λ u (m, g). earlier a u m (step-false M diamond _ s .0 h u m g)))
+    refutes-step e (step box a) q ih s l h = let (u, m, g, f) = step-false M box _ s .0 h in refuted-by M t q (by-box (m, g) (earlier a u m f))
+    refutes-step e (fix mu a) q ih s l h = refuted-by M t q (by-mu h)
+    refutes-step e (fix nu a) q ih s l h = refuted-by M t q (by-nu (ih a refl s l h))
     refutes-step e (name x) q ih s l h =
         let (σ, a, p) = name-fix t wf e x q in refuted-more M t (rw (target-at t x p) at (earlier x s l h))
 
@@ -61,4 +61,4 @@ module _ (M : Model) (t : Table) (wf : WellFormed t) where
     where
       go : Dec (e < length t) → Refuted M t (rank M t) (target t e) s
       go (yes m) = stages-refute (suc (enough M t)) e s l (sub-false (left-own M t wf e m) s l h)
-      go (no m) = let q = past-end t e (omega arith) in rw (target-at t e q) (unfold targetOf leafSet in by-leaf never q refl)
+      go (no m) = let q = past-end t e (omega arith) in rw (target-at t e q) (unfold targetOf leafSet in refuted-by M t q (by-leaf refl))

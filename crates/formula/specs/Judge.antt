@@ -4,6 +4,7 @@ use mathlib.Core.Bool.{Bool, true, false, not, _||_}
 use Prim.Native.Nat.{ℕ}
 use lib.Dec.{leb}
 use lib.ListN.{length, getD}
+use Rattle.verdict.specs.Tests.{choose}
 use Rattle.formula.specs.Table.{Table}
 use Rattle.formula.specs.Shape.{Shape, leaf, two, step, fix, name, Leaf, never, always, letter, negated, mu, nu, shapeOf, shape}
 use Rattle.formula.specs.Rows.{Row, has, union, clear, single, upTo, meets}
@@ -98,10 +99,6 @@ ownOpen o e (two p a b) = false
 ownOpen o e (step m a) = false
 ownOpen o e (fix σ a) = has (getD o a []) e
 ownOpen o e (name x) = false
-
-abbrev pub choose : Bool → ℕ → ℕ → ℕ
-choose true x y = x
-choose false x y = y
 
 unfoldable pub low : List Row → ℕ → Bool
 unfolding meets upTo

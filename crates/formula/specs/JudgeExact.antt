@@ -12,10 +12,11 @@ use Rattle.formula.specs.Free.{Free, named, inside}
 use Rattle.formula.specs.TableLaws.{in-table}
 use Rattle.formula.specs.Conditions.{Bad, OutOfBounds, NotAbove, Alternates, nu-in-mu, mu-in-nu, OwnUnguarded}
 use Rattle.formula.specs.Formed.{InBounds, Fits, Earns, bounds, above, alternation, unguarded, Formed}
+use Rattle.verdict.specs.Tests.{choose}
 use Rattle.verdict.specs.Tells.{Tells, fails, fails-holds, not-tells}
 use Rattle.verdict.specs.Verdict.{Verdict, accepted, refused, scan}
 use Rattle.verdict.specs.VerdictLaws.{accepted-not-refused, First, Passes, scan-says, scan-holds, scan-refuses, scan-first}
-use Rattle.formula.specs.Judge.{bad, frees, opens, isMu, isNu, marks, low, mixed, loose, choose, judgeBy, judgeTable}
+use Rattle.formula.specs.Judge.{bad, frees, opens, isMu, isNu, marks, low, mixed, loose, judgeBy, judgeTable}
 use Rattle.formula.specs.TestLaws.{bad-tells, under, operand-under, alternates-fix, own-fix, low-tells, mixed-tells, unguarded-tells, fits-tells}
 
 -- none of 20 to 23

@@ -13,6 +13,7 @@ pub mod WellFormed
 pub mod Conditions
 pub mod Formed
 pub mod TableLaws
+pub mod ShapeLaws
 -- refusals 20 to 23 computed
 pub mod Below
 pub mod Upward

@@ -11,6 +11,10 @@ pub record Model : Type 0 where
   pub letter : ℕ → ℕ → Bool
   pub succ : ℕ → ℕ → Bool
 
+-- u is a successor of s
+abbrev pub Successor : Model → ℕ → ℕ → Type 0
+Successor M s u = (u < M .size) × (M .succ s u ≡ true)
+
 -- a set says of each state whether it is in; only states below the size count
 abbrev pub Set : Type 0
 Set = ℕ → Bool
