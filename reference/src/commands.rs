@@ -1,0 +1,128 @@
+//! The commands of the program. Each answers a text for the output and whether
+//! all is good, or a failure for the error output.
+
+use reference::corpus::{self, CheckRecord, EvalRecord};
+use reference::generate::{self, Tally};
+use reference::{check, describe, evaluate, Refusal};
+use std::fmt::Write;
+
+pub const USAGE: &str = "usage:
+  reference check FILE                      run a corpus of claims and proofs
+  reference eval FILE                       run a corpus of claims and models
+  reference verdict CLAIM PROOF             judge one claim and proof
+  reference generate check SEED COUNT FILE  write a corpus of claims and proofs
+  reference generate eval SEED COUNT FILE   write a corpus of claims and models";
+
+/// How many mismatches are shown.
+const SHOWN: usize = 10;
+
+pub struct Report {
+    pub text: String,
+    pub good: bool,
+}
+
+pub struct Failure(pub String);
+
+type Outcome = Result<Report, Failure>;
+
+pub fn run_checks(file: &str) -> Outcome {
+    let records = corpus::read_checks(&read(file)?).map_err(|damage| about(file, damage))?;
+    Ok(compare(&records, |record| {
+        let got = check(&record.claim, &record.proof);
+        (got != record.answer).then(|| mismatch(describe(record.answer), describe(got)))
+    }))
+}
+
+pub fn run_evals(file: &str) -> Outcome {
+    let records = corpus::read_evals(&read(file)?).map_err(|damage| about(file, damage))?;
+    Ok(compare(&records, |record| {
+        let got = evaluate(&record.claim, &record.model);
+        let expected = match Refusal::unpack(record.answer) {
+            None => Ok(record.words.clone()),
+            Some(refusal) => Err(refusal),
+        };
+        (got != expected).then(|| mismatch(show_words(&expected), show_words(&got)))
+    }))
+}
+
+pub fn verdict(claim: &str, proof: &str) -> Outcome {
+    let answer = check(&read(claim)?, &read(proof)?);
+    Ok(Report {
+        text: format!("{}\n", describe(answer)),
+        good: true,
+    })
+}
+
+pub fn generate_checks(seed: &str, count: &str, file: &str) -> Outcome {
+    let records: Vec<CheckRecord> = generate::checks(number(seed)?)
+        .take(number(count)? as usize)
+        .collect();
+    write(file, &corpus::write_checks(&records))?;
+    Ok(tally(records.iter().map(|record| record.answer)))
+}
+
+pub fn generate_evals(seed: &str, count: &str, file: &str) -> Outcome {
+    let records: Vec<EvalRecord> = generate::evals(number(seed)?)
+        .take(number(count)? as usize)
+        .collect();
+    write(file, &corpus::write_evals(&records))?;
+    Ok(tally(records.iter().map(|record| record.answer)))
+}
+
+fn compare<T>(records: &[T], mismatch: impl Fn(&T) -> Option<String>) -> Report {
+    let mut text = String::new();
+    let mut failed = 0;
+    for (index, record) in records.iter().enumerate() {
+        if let Some(line) = mismatch(record) {
+            failed += 1;
+            if failed <= SHOWN {
+                let _ = writeln!(text, "record {index}: {line}");
+            }
+        }
+    }
+    let passed = records.len() - failed;
+    let _ = writeln!(text, "{passed} passed, {failed} failed");
+    Report {
+        text,
+        good: failed == 0,
+    }
+}
+
+fn mismatch(expected: String, got: String) -> String {
+    format!("expected {expected}, got {got}")
+}
+
+fn show_words(outcome: &Result<Vec<u64>, Refusal>) -> String {
+    match outcome {
+        Err(refusal) => refusal.to_string(),
+        Ok(words) => {
+            let words: Vec<String> = words.iter().map(|word| format!("{word:x}")).collect();
+            format!("words [{}]", words.join(" "))
+        }
+    }
+}
+
+/// The share of each outcome in a generated corpus.
+fn tally(answers: impl Iterator<Item = u32>) -> Report {
+    Report {
+        text: Tally::of(answers).to_string(),
+        good: true,
+    }
+}
+
+fn number(text: &str) -> Result<u64, Failure> {
+    text.parse()
+        .map_err(|_| Failure(format!("not a number: {text}\n{USAGE}")))
+}
+
+fn read(file: &str) -> Result<Vec<u8>, Failure> {
+    std::fs::read(file).map_err(|error| about(file, error))
+}
+
+fn write(file: &str, bytes: &[u8]) -> Result<(), Failure> {
+    std::fs::write(file, bytes).map_err(|error| about(file, error))
+}
+
+fn about(file: &str, error: impl std::fmt::Display) -> Failure {
+    Failure(format!("{file}: {error}"))
+}

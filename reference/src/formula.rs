@@ -1,0 +1,104 @@
+//! Entries as formulas: bounds, free names, alternation and guardedness
+//! (refusals 20 to 23), and the target of an operand.
+
+use crate::bits::Bits;
+use crate::claim::{Entry, Kind};
+use crate::refusal::Refusal;
+
+const LETTERS: u16 = 32;
+
+/// "20 over all entries; 21, 22, 23 entry by entry"
+pub fn judge(entries: &[Entry]) -> Result<(), Refusal> {
+    for (number, entry) in entries.iter().enumerate() {
+        if !in_bounds(entries, number, entry) {
+            return Err(Refusal::new(20, number));
+        }
+    }
+    let mut below = Vec::with_capacity(entries.len());
+    for (number, entry) in entries.iter().enumerate() {
+        below.push(judge_names(entries, number, entry, &below)?);
+    }
+    Ok(())
+}
+
+/// "Operands and bodies lie below their entry; a name's fixpoint lies above it."
+fn in_bounds(entries: &[Entry], number: usize, entry: &Entry) -> bool {
+    let (a, b) = (usize::from(entry.a), usize::from(entry.b));
+    match entry.kind {
+        Kind::False | Kind::True => true,
+        Kind::Letter | Kind::Negated => entry.a < LETTERS,
+        Kind::Or | Kind::And => a < number && b < number,
+        Kind::Diamond | Kind::Box | Kind::Mu | Kind::Nu => a < number,
+        Kind::Name => a > number && entries.get(a).is_some_and(|f| f.kind.is_fixpoint()),
+    }
+}
+
+/// The names an entry leaves open. Kept for every entry, so that operands used
+/// many times are walked once.
+#[derive(Clone, Copy, Default)]
+struct Names {
+    free: Bits,
+    /// Reached without a box or diamond on the way.
+    bare: Bits,
+}
+
+fn judge_names(
+    entries: &[Entry],
+    number: usize,
+    entry: &Entry,
+    below: &[Names],
+) -> Result<Names, Refusal> {
+    let mut names = names_of(entry, below);
+    if entry.kind.is_fixpoint() {
+        names.free.remove(number);
+    }
+    if names.free.iter().any(|name| name <= number) {
+        return Err(Refusal::new(21, number));
+    }
+    if entry.kind.is_fixpoint() {
+        if names
+            .free
+            .iter()
+            .any(|name| entries[name].kind != entry.kind)
+        {
+            return Err(Refusal::new(22, number));
+        }
+        if names.bare.contains(number) {
+            return Err(Refusal::new(23, number));
+        }
+    }
+    Ok(names)
+}
+
+/// The names of the operands together, before a fixpoint takes its own away.
+fn names_of(entry: &Entry, below: &[Names]) -> Names {
+    let (a, b) = (usize::from(entry.a), usize::from(entry.b));
+    match entry.kind {
+        Kind::False | Kind::True | Kind::Letter | Kind::Negated => Names::default(),
+        Kind::Name => Names {
+            free: Bits::one(a),
+            bare: Bits::one(a),
+        },
+        Kind::Or | Kind::And => Names {
+            free: below[a].free.union(below[b].free),
+            bare: below[a].bare.union(below[b].bare),
+        },
+        Kind::Diamond | Kind::Box => Names {
+            free: below[a].free,
+            bare: Bits::default(),
+        },
+        Kind::Mu | Kind::Nu => below[a],
+    }
+}
+
+/// "The target of an operand is the operand, or its fixpoint if it is a name."
+pub fn target(entries: &[Entry], operand: u16) -> u16 {
+    match entries[usize::from(operand)] {
+        Entry {
+            kind: Kind::Name,
+            a,
+            ..
+        } => a,
+        _ => operand,
+    }
+}

@@ -1,0 +1,74 @@
+//! A deterministic generator of inputs: claims with proofs and claims with
+//! models, good, nearly good and damaged. The same seed gives the same inputs.
+
+mod damage;
+mod formulas;
+mod models;
+mod near_miss;
+mod number;
+mod pairs;
+mod provable;
+mod rng;
+mod search;
+mod step;
+mod tally;
+
+pub mod extremes;
+
+pub use rng::Rng;
+pub use tally::Tally;
+
+use crate::check::{check, evaluate};
+use crate::corpus::{CheckRecord, EvalRecord};
+use crate::draft;
+use crate::refusal::answer;
+
+/// An endless run of claims and proofs with the reference's answers.
+pub fn checks(seed: u64) -> impl Iterator<Item = CheckRecord> {
+    inputs(seed, |rng| {
+        let (claim, proof) = pairs::check_pair(rng);
+        let answer = check(&claim, &proof);
+        CheckRecord {
+            claim,
+            proof,
+            answer,
+        }
+    })
+}
+
+/// An endless run of claims and models with the reference's answers.
+pub fn evals(seed: u64) -> impl Iterator<Item = EvalRecord> {
+    inputs(seed, |rng| {
+        let (claim, model) = pairs::eval_pair(rng);
+        let outcome = evaluate(&claim, &model);
+        EvalRecord {
+            claim,
+            model,
+            answer: answer(&outcome),
+            words: outcome.unwrap_or_default(),
+        }
+    })
+}
+
+/// Claims and proofs that keep every rule by construction.
+pub fn accepted(seed: u64) -> impl Iterator<Item = (Vec<u8>, Vec<u8>)> {
+    inputs(seed, |rng| {
+        let proved = pairs::accepted(rng);
+        (proved.claim().bytes, proved.proof().bytes)
+    })
+}
+
+/// Well-formed models of at most 64 states.
+pub fn models(seed: u64) -> impl Iterator<Item = Vec<u8>> {
+    inputs(seed, |rng| draft::model(&models::states(rng)).bytes)
+}
+
+/// Well-formed small claims, with models of at most `states` states.
+pub fn small_evals(seed: u64, states: usize) -> impl Iterator<Item = (Vec<u8>, Vec<u8>)> {
+    inputs(seed, move |rng| pairs::small_eval_pair(rng, states))
+}
+
+fn inputs<T>(seed: u64, make: impl Fn(&mut Rng) -> T) -> impl Iterator<Item = T> {
+    let mut rng = Rng::new(seed);
+    std::iter::repeat_with(move || make(&mut rng))
+}

@@ -1,0 +1,285 @@
+//! Whole inputs: claims with proofs and claims with models, good and bad.
+
+use super::damage::damage;
+use super::extremes::{hard_entries, limits};
+use super::formulas::{Builder, Scope, Shape};
+use super::models;
+use super::near_miss::near_miss;
+use super::number::number;
+use super::provable::{provable, Provable};
+use super::rng::Rng;
+use super::search::search;
+use super::step::{Flaw, FLAWS};
+use crate::bits::Bits;
+use crate::check::check;
+use crate::claim::{Entry, Kind};
+use crate::draft::{self, DraftNode, File};
+use crate::proof::Rule;
+
+/// A claim with a proof not yet laid down.
+pub struct Proved {
+    pub entries: Vec<Entry>,
+    pub members: Vec<u16>,
+    pub nodes: Vec<DraftNode>,
+}
+
+impl Proved {
+    pub fn claim(&self) -> File {
+        draft::claim(&self.entries, &self.members)
+    }
+
+    pub fn proof(&self) -> File {
+        draft::proof(&self.nodes)
+    }
+
+    fn files(&self) -> (Vec<u8>, Vec<u8>) {
+        (self.claim().bytes, self.proof().bytes)
+    }
+}
+
+/// A claim with a proof that keeps every rule.
+pub fn accepted(rng: &mut Rng) -> Proved {
+    loop {
+        let claim = provable(rng);
+        if let Some(proved) = prove(rng, claim, Flaw::None) {
+            return proved;
+        }
+    }
+}
+
+fn accepted_with_loop(rng: &mut Rng) -> Proved {
+    loop {
+        let proved = accepted(rng);
+        if proved.nodes.iter().any(|node| node.rule == Rule::Back) {
+            return proved;
+        }
+    }
+}
+
+/// A claim and a proof made with one mistake on purpose. A search may come
+/// through without making it; a few are tried.
+fn flawed(rng: &mut Rng) -> Proved {
+    for _ in 0..6 {
+        let flaw = rng.pick(&FLAWS).unwrap_or(Flaw::GivesUp);
+        let claim = match rng.below(3) {
+            0 => any_claim(rng, false),
+            _ => provable(rng),
+        };
+        let found = prove(rng, claim, flaw).filter(|proved| {
+            let (claim, proof) = proved.files();
+            check(&claim, &proof) != 0
+        });
+        if let Some(proved) = found {
+            return proved;
+        }
+    }
+    accepted(rng)
+}
+
+fn prove(rng: &mut Rng, claim: Provable, flaw: Flaw) -> Option<Proved> {
+    let steps = search(rng, &claim, flaw)?;
+    let nodes = number(rng, &steps, flaw != Flaw::LoopWithoutCompanion);
+    Some(Proved {
+        entries: claim.entries,
+        members: claim.members,
+        nodes,
+    })
+}
+
+/// Any claim, seldom one that holds; a wild one may break 21 to 23.
+fn any_claim(rng: &mut Rng, wild: bool) -> Provable {
+    let shape = Shape {
+        size: rng.between(1, 120),
+        depth: rng.between(1, 9),
+        letters: if rng.chance(1, 4) { 32 } else { 3 },
+        wild,
+    };
+    let roots = rng.between(1, 3);
+    let mut builder = Builder::new(rng, shape);
+    for _ in 0..roots {
+        builder.formula(Scope::closed(), shape.depth);
+    }
+    let entries = builder.entries;
+    let members = any_members(rng, &entries);
+    Provable {
+        dual: vec![None; entries.len()],
+        entries,
+        members,
+        valid: Bits::default(),
+    }
+}
+
+fn any_members(rng: &mut Rng, entries: &[Entry]) -> Vec<u16> {
+    let mut fit: Vec<u16> = (0..entries.len())
+        .filter(|&number| entries[number].kind != Kind::Name)
+        .map(|number| number as u16)
+        .collect();
+    let last = fit.last().copied().into_iter();
+    rng.shuffle(&mut fit);
+    fit.truncate(rng.between(0, 4));
+    fit.extend(last);
+    fit.sort_unstable();
+    fit.dedup();
+    fit
+}
+
+/// The bytes of a claim and a proof.
+pub fn check_pair(rng: &mut Rng) -> (Vec<u8>, Vec<u8>) {
+    match rng.below(40) {
+        0..=9 => accepted(rng).files(),
+        10..=15 => flawed(rng).files(),
+        16..=27 => changed(rng).files(),
+        28..=30 => {
+            let proved = accepted(rng);
+            let bytes = damage(rng, &proved.proof());
+            (proved.claim().bytes, bytes)
+        }
+        31..=33 => {
+            let proved = accepted(rng);
+            (damage(rng, &proved.claim()), proved.proof().bytes)
+        }
+        34..=36 => (wild_claim(rng).bytes, accepted(rng).proof().bytes),
+        37 => (accepted(rng).claim().bytes, accepted(rng).proof().bytes),
+        38 => other_members(rng).files(),
+        _ => rare_pair(rng),
+    }
+}
+
+/// Large files are rare, for they take long to write.
+fn rare_pair(rng: &mut Rng) -> (Vec<u8>, Vec<u8>) {
+    match rng.below(4) {
+        0 => {
+            let (claim, proof) = limits(rng);
+            (claim.bytes, proof.bytes)
+        }
+        1 => {
+            let (claim, proof) = limits(rng);
+            (claim.bytes, damage(rng, &proof))
+        }
+        2 => hard_pair(rng).files(),
+        _ => (noise(rng, b"CLM1"), noise(rng, b"PRF1")),
+    }
+}
+
+/// A hard claim proved from `true` beside it.
+fn hard_pair(rng: &mut Rng) -> Proved {
+    let mut entries = hard_entries(rng);
+    entries.truncate(255);
+    entries.push(Entry::new(Kind::True, 0, 0));
+    let last = (entries.len() - 1) as u16;
+    let member = 2 * last + 1;
+    let mut root = DraftNode::new(Rule::W, member - 2, vec![member - 2, member]);
+    root.first = 1;
+    Proved {
+        entries,
+        members: vec![last - 1, last],
+        nodes: vec![root, DraftNode::new(Rule::Ax2, 0, vec![member])],
+    }
+}
+
+fn changed(rng: &mut Rng) -> Proved {
+    let mut proved = if rng.chance(1, 2) {
+        accepted(rng)
+    } else {
+        accepted_with_loop(rng)
+    };
+    for _ in 0..rng.between(1, 2) {
+        near_miss(rng, &mut proved.nodes, &proved.entries);
+    }
+    proved
+}
+
+/// A good proof with the claim's members changed, or the root's sequent.
+fn other_members(rng: &mut Rng) -> Proved {
+    let mut proved = accepted(rng);
+    if rng.chance(1, 2) {
+        proved.members = any_members(rng, &proved.entries);
+    } else if let Some(root) = proved.nodes.first_mut() {
+        let at = rng.below(root.codes.len());
+        root.codes[at] ^= 1;
+    }
+    proved
+}
+
+/// A claim that may break scope, alternation, guardedness or bounds.
+fn wild_claim(rng: &mut Rng) -> File {
+    let mut claim = any_claim(rng, true);
+    if rng.chance(1, 3) {
+        let at = rng.below(claim.entries.len());
+        let count = claim.entries.len();
+        let entry = &mut claim.entries[at];
+        entry.a = match rng.below(4) {
+            0 => at as u16,
+            1 => count as u16,
+            2 => 32,
+            _ => rng.below(count + 1) as u16,
+        };
+        if rng.chance(1, 2) {
+            entry.b = rng.below(count) as u16;
+        }
+    }
+    draft::claim(&claim.entries, &claim.members)
+}
+
+fn noise(rng: &mut Rng, opening: &[u8; 4]) -> Vec<u8> {
+    let length = rng.below(60);
+    let noise = (0..length).map(|_| rng.word() as u8 & 15);
+    opening
+        .iter()
+        .copied()
+        .chain(noise.collect::<Vec<_>>())
+        .collect()
+}
+
+/// The bytes of a claim and a model.
+pub fn eval_pair(rng: &mut Rng) -> (Vec<u8>, Vec<u8>) {
+    let claim = match rng.below(20) {
+        0 => hard_claim(rng),
+        1..=3 => wild_claim(rng),
+        4..=8 => {
+            let claim = provable(rng);
+            draft::claim(&claim.entries, &claim.members)
+        }
+        _ => {
+            let claim = any_claim(rng, false);
+            draft::claim(&claim.entries, &claim.members)
+        }
+    };
+    let model = draft::model(&models::states(rng));
+    match rng.below(10) {
+        0..=5 => (claim.bytes, model.bytes),
+        6 => (damage(rng, &claim), model.bytes),
+        _ => (claim.bytes, damaged_model(rng, &model)),
+    }
+}
+
+fn hard_claim(rng: &mut Rng) -> File {
+    let entries = hard_entries(rng);
+    let last = (entries.len() - 1) as u16;
+    draft::claim(&entries, &[last])
+}
+
+/// Byte damage, or one state too many, or none.
+fn damaged_model(rng: &mut Rng, model: &File) -> Vec<u8> {
+    match rng.below(12) {
+        0 => draft::model(&models::states_of(rng, 65)).bytes,
+        1 => draft::model(&[]).bytes,
+        _ => damage(rng, model),
+    }
+}
+
+/// A well-formed claim and model, the claim small enough for slow methods.
+pub fn small_eval_pair(rng: &mut Rng, states: usize) -> (Vec<u8>, Vec<u8>) {
+    let shape = Shape {
+        size: rng.between(2, 12),
+        depth: rng.between(2, 5),
+        letters: 2,
+        wild: false,
+    };
+    let mut builder = Builder::new(rng, shape);
+    let root = builder.formula(Scope::closed(), shape.depth);
+    let entries = builder.entries;
+    let count = rng.between(1, states);
+    let model = draft::model(&models::states_of(rng, count));
+    (draft::claim(&entries, &[root]).bytes, model.bytes)
+}

@@ -1,0 +1,36 @@
+//! A checker and evaluator for claims, Focus proofs and finite models, written
+//! from the specification alone. It is the independent judge for the real gate:
+//! plain Rust, no dependencies, no shared definitions.
+//!
+//! The layers, from the bytes up:
+//! * `bytes`, `claim`, `proof`, `model` read files (refusals 10–14, 30–34, 60–64);
+//! * `formula` judges entries (20–23), `tree` child numbers (35);
+//! * `rules` and `loops` judge a decoded proof (36–39);
+//! * `evaluate` gives each entry its meaning in a model;
+//! * `check` and `gate` are the calls, `corpus` and `generate` serve the tests.
+
+mod bits;
+mod bytes;
+mod check;
+mod claim;
+mod evaluate;
+mod formula;
+mod gate;
+mod loops;
+mod model;
+mod proof;
+mod refusal;
+mod rules;
+mod sequent;
+mod tree;
+
+pub mod corpus;
+pub mod draft;
+pub mod generate;
+
+pub use check::{check, evaluate, judge, Decoded, Judgement};
+pub use claim::{Claim, Entry, Kind};
+pub use gate::Gate;
+pub use model::Model;
+pub use proof::{Node, Proof, Rule};
+pub use refusal::{describe, Refusal};

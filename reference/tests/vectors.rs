@@ -1,0 +1,30 @@
+//! Every record of the vectors.
+
+use reference::{check, corpus, describe, evaluate, Refusal};
+use std::path::Path;
+
+fn vectors(file: &str) -> Vec<u8> {
+    let folder = Path::new(env!("CARGO_MANIFEST_DIR")).join("../tests/vectors/base");
+    std::fs::read(folder.join(file)).expect("the vectors lie beside the reference")
+}
+
+#[test]
+fn every_record_agrees() {
+    let checks = corpus::read_checks(&vectors("check.bin")).expect("whole records");
+    let evals = corpus::read_evals(&vectors("eval.bin")).expect("whole records");
+    assert_eq!((checks.len(), evals.len()), (3551, 519));
+    for (index, record) in checks.iter().enumerate() {
+        let got = check(&record.claim, &record.proof);
+        let (got, expected) = (describe(got), describe(record.answer));
+        assert_eq!(got, expected, "check record {index}");
+    }
+    for (index, record) in evals.iter().enumerate() {
+        let got = evaluate(&record.claim, &record.model);
+        let expected = match Refusal::unpack(record.answer) {
+            None => Ok(record.words.clone()),
+            Some(refusal) => Err(refusal),
+        };
+        assert_eq!(got, expected, "eval record {index}");
+    }
+    println!("vectors: {} records agree", checks.len() + evals.len());
+}
