@@ -1,9 +1,10 @@
 -- which fields each kind and each rule has: the bit map that stands before it in a file
 use mathlib.Core.Path.{_≡_, refl}
-use mathlib.Core.List.{List, [], _∷_}
+use mathlib.Core.List.{[], _∷_}
 use mathlib.Core.Bool.{Bool, true, false, _&&_}
-use Prim.Native.Nat.{ℕ, zero, suc, _+_, _<_}
+use Prim.Native.Nat.{ℕ, _+_, _<_}
 use lib.Dec.{eqb, leb}
+use Rattle.verdict.specs.Lists.{valuesFrom}
 use Rattle.formula.specs.Kind
 use Rattle.formula.specs.Rule
 
@@ -44,16 +45,11 @@ abbrev pub FitField : Bool → ℕ → Type 0
 FitField true n = n < 65536
 FitField false n = n ≡ 0
 
--- n values from v on
-pub values : (ℕ → ℕ) → ℕ → ℕ → List ℕ
-values f zero v = []
-values f (suc n) v = f v ∷ values f n (suc v)
-
 -- document 01's maps, by kind and by rule, as it numbers them
-pub maps-by-kind : values mapOf 11 0 ≡ 0 ∷ 0 ∷ 1 ∷ 1 ∷ 3 ∷ 3 ∷ 1 ∷ 1 ∷ 1 ∷ 1 ∷ 1 ∷ []
-unfolding values
+pub maps-by-kind : valuesFrom mapOf 0 11 ≡ 0 ∷ 0 ∷ 1 ∷ 1 ∷ 3 ∷ 3 ∷ 1 ∷ 1 ∷ 1 ∷ 1 ∷ 1 ∷ []
+unfolding valuesFrom
 maps-by-kind = refl
 
-pub maps-by-rule : values lowMap 12 0 ≡ 0 ∷ 0 ∷ 3 ∷ 7 ∷ 3 ∷ 3 ∷ 3 ∷ 3 ∷ 3 ∷ 3 ∷ 2 ∷ 8 ∷ []
-unfolding values
+pub maps-by-rule : valuesFrom lowMap 0 12 ≡ 0 ∷ 0 ∷ 3 ∷ 7 ∷ 3 ∷ 3 ∷ 3 ∷ 3 ∷ 3 ∷ 3 ∷ 2 ∷ 8 ∷ []
+unfolding valuesFrom
 maps-by-rule = refl

@@ -5,6 +5,7 @@ pub mod Table
 pub mod Codes
 pub mod Nodes
 pub mod Fields
+pub mod Records
 -- syntax
 pub mod Shape
 pub mod Target
@@ -22,6 +23,9 @@ pub mod RowLaws
 pub mod Judge
 pub mod TestLaws
 pub mod JudgeExact
+pub mod Plain
+pub mod Columns
+pub mod PlainNodes
 -- Kripke meaning
 pub mod Truth
 pub mod Chain

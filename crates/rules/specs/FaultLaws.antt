@@ -16,6 +16,7 @@ use Rattle.rules.specs.Sequents.{rule}
 use Rattle.rules.specs.Rules.{Keeps, back}
 use Rattle.rules.specs.Correct.{Correct}
 use Rattle.verdict.specs.Verdict.{Verdict, accepted, refused, pick, scan}
+use Rattle.rules.specs.View.{plain}
 use Rattle.rules.specs.Judge.{children-fit, adopted, root, keeps, loop, rule-number, judge}
 use Rattle.rules.specs.Faults.{ChildrenFit, Adopted, Claimed, GoodLeaf, Before, Earns, bad-child, orphan, other-root, rule-broken, bad-link, bad-loop}
 use Rattle.rules.specs.Given.{Given}
@@ -55,11 +56,11 @@ module _ {ok : ℕ → Bool} {P : ℕ → Type 0} (number : ℕ → ℕ) (n : �
           inl (z .numbered, record { inside = i; before = λ w b. x w (omega arith) .says (z .before w (omega arith) b); lacks = fails (x q i) (z .bad) })
       go (inr (f, r)) = inr (λ w b. x w b .says (f w (omega arith) (omega arith)), r)
 
-number-back : (p : Proof) (v : ℕ) → rule p v ≡ Rule.BACK → rule-number p v ≡ 38
+number-back : (p : Proof) (v : ℕ) → rule p v ≡ Rule.BACK → rule-number (plain p) v ≡ 38
 unfolding rule-number
 number-back p v e = rw (eq-eqb (rule p v) Rule.BACK e) refl
 
-number-other : (p : Proof) (v : ℕ) → rule p v ≢ Rule.BACK → rule-number p v ≡ 37
+number-other : (p : Proof) (v : ℕ) → rule p v ≢ Rule.BACK → rule-number (plain p) v ≡ 37
 unfolding rule-number
 number-other p v n = rw (ne-eqb (rule p v) Rule.BACK n) refl
 
@@ -71,18 +72,18 @@ pick-refuses false x {m} {r} {k} {q} h =
     inl (refl, a, b)
 
 module _ (t : Table) (claim : List ℕ) (p : Proof) (G : Given t p) where
-  children-told : (v : ℕ) → v < length p → Tells (children-fit p v) (ChildrenFit p v)
+  children-told : (v : ℕ) → v < length p → Tells (children-fit (plain p) v) (ChildrenFit p v)
   children-told v i = children-fit-tells p v i
 
-  adopted-told : (v : ℕ) → v < length p → Tells (adopted p v) (Adopted p v)
-  adopted-told v i = adopted-tells p v
+  adopted-told : (v : ℕ) → v < length p → Tells (adopted (plain p) v) (Adopted p v)
+  adopted-told v i = adopted-tells p v i
 
   module _ (T : Tree p) where
-    keeps-told : (v : ℕ) → v < length p → Tells (keeps t p v) (Keeps t p v)
+    keeps-told : (v : ℕ) → v < length p → Tells (keeps t (plain p) v) (Keeps t p v)
     keeps-told v i = keeps-tells t p T G v i
 
     module _ (K : Before (length p) (Keeps t p)) where
-      leaf-told : (v : ℕ) → v < length p → Tells (loop p v) (GoodLeaf p v)
+      leaf-told : (v : ℕ) → v < length p → Tells (loop (plain p) v) (GoodLeaf p v)
       leaf-told v i = leaf-tells t p T v (K v i)
 
       loops-earn : Claimed claim p → {k q : ℕ} → loops-stage t claim p ≡ refused k q → Earns t claim p k q
@@ -99,20 +100,20 @@ module _ (t : Table) (claim : List ℕ) (p : Proof) (G : Given t p) where
           go (inr (f, r)) = absurd (accepted-not-refused (sym r))
 
     rules-earn : Claimed claim p → {k q : ℕ} → rules-stage t claim p ≡ refused k q → Earns t claim p k q
-    rules-earn C {k} {q} h = go (scanned (rule-number p) (length p) keeps-told (loops-stage t claim p) h)
+    rules-earn C {k} {q} h = go (scanned (rule-number (plain p)) (length p) keeps-told (loops-stage t claim p) h)
       where
-        bad : Lacks (Keeps t p) (length p) q → Dec (rule p q ≡ Rule.BACK) → Earns t claim p (rule-number p q) q
+        bad : Lacks (Keeps t p) (length p) q → Dec (rule p q ≡ Rule.BACK) → Earns t claim p (rule-number (plain p) q) q
         bad l (yes b) = rw (number-back p q b) (bad-link T C (l .inside) (l .before) b (λ k. l .lacks (back b k)))
         bad l (no n) = rw (number-other p q n) (rule-broken T C (l .inside) (l .before) n (l .lacks))
 
-        go : ((rule-number p q ≡ k) × Lacks (Keeps t p) (length p) q) ⊎ (Before (length p) (Keeps t p) × (loops-stage t claim p ≡ refused k q)) → Earns t claim p k q
+        go : ((rule-number (plain p) q ≡ k) × Lacks (Keeps t p) (length p) q) ⊎ (Before (length p) (Keeps t p) × (loops-stage t claim p ≡ refused k q)) → Earns t claim p k q
         go (inl (e, l)) = rw (← e) (bad l (ℕ-discrete (rule p q) Rule.BACK))
         go (inr (f, r)) = loops-earn f C r
 
     claim-earn : {k q : ℕ} → claim-stage t claim p ≡ refused k q → Earns t claim p k q
-    claim-earn {k} {q} h = go (pick-refuses (root claim p) (rules-stage t claim p) h)
+    claim-earn {k} {q} h = go (pick-refuses (root claim (plain p)) (rules-stage t claim p) h)
       where
-        go : ((root claim p ≡ false) × (36 ≡ k) × (0 ≡ q)) ⊎ ((root claim p ≡ true) × (rules-stage t claim p ≡ refused k q)) → Earns t claim p k q
+        go : ((root claim (plain p) ≡ false) × (36 ≡ k) × (0 ≡ q)) ⊎ ((root claim (plain p) ≡ true) × (rules-stage t claim p ≡ refused k q)) → Earns t claim p k q
         go (inl (f, e, z)) = rw (← e, ← z) (other-root T (fails (root-tells claim p) f))
         go (inr (r, h)) = rules-earn (root-tells claim p .says r) h
 
@@ -150,15 +151,15 @@ module _ (t : Table) (claim : List ℕ) (p : Proof) (G : Given t p) where
   earned-refused (other-root T n) = tree-passes T ∙ rw (fails-holds (root-tells claim p) n) refl
   earned-refused (rule-broken {q = q} T C i b n k) =
       claim-passes T C
-      ∙ first-scanned (rule-number p) (length p) (keeps-told T) (loops-stage t claim p) (record { inside = i; before = b; lacks = k })
+      ∙ first-scanned (rule-number (plain p)) (length p) (keeps-told T) (loops-stage t claim p) (record { inside = i; before = b; lacks = k })
       ∙ ap (λ (m : ℕ). refused m q) (number-other p q n)
   earned-refused (bad-link {q = q} T C i b e k) =
       claim-passes T C
-      ∙ first-scanned (rule-number p) (length p) (keeps-told T) (loops-stage t claim p) (record { inside = i; before = b; lacks = λ z. k (keeps-back e z) })
+      ∙ first-scanned (rule-number (plain p)) (length p) (keeps-told T) (loops-stage t claim p) (record { inside = i; before = b; lacks = λ z. k (keeps-back e z) })
       ∙ ap (λ (m : ℕ). refused m q) (number-back p q e)
   earned-refused (bad-loop T C K i b e π n) =
       claim-passes T C
-      ∙ all-scanned (rule-number p) (length p) (keeps-told T) (loops-stage t claim p) K
+      ∙ all-scanned (rule-number (plain p)) (length p) (keeps-told T) (loops-stage t claim p) K
       ∙ first-scanned (λ _. 39) (length p) (leaf-told T K) accepted (record { inside = i; before = b; lacks = λ g. n (g e π) })
 
   pub exact-refusal : {k q : ℕ} → (judge t claim p ≡ refused k q) ↔ Earns t claim p k q

@@ -24,10 +24,10 @@ module _ (t : Table) (wf : WellFormed t) (M : Model) where
   FalseAt e s = own M t e s ≡ false
 
   -- what an entry's shape makes of its targets is false where the entry is
-  by-shape : (e s : ℕ) {v : Shape} → s < M .size → shape t e ≡ v → FalseAt e s → closed M t v s ≡ false
+  pub by-shape : (e s : ℕ) {v : Shape} → s < M .size → shape t e ≡ v → FalseAt e s → closed M t v s ≡ false
   by-shape e s {v} l q f = sym (own-law M t wf e v q s l) ∙ f
 
-  false-passes : Passes t M FalseAt FalseAt
+  pub false-passes : Passes t M FalseAt FalseAt
   unfolding closed
   false-passes = record {
     or = λ e s l q f. two-false or _ _ s .0 (by-shape e s l (or-shape t e q) f);
@@ -37,7 +37,7 @@ module _ (t : Table) (wf : WellFormed t) (M : Model) where
     diamond = λ e s l q f u h. step-false M diamond _ s .0 (by-shape e s l (diamond-shape t e q) f) u (h .0) (h .1);
   }
 
-  refuted-passes : (j : ℕ) → Passes t M (Refuted M t j) (Before (Refuted M t) j)
+  pub refuted-passes : (j : ℕ) → Passes t M (Refuted M t j) (Before (Refuted M t) j)
   refuted-passes j = record {
     or = λ e s l q r. or-refuted M t (refuted-as M t (or-shape t e q) r);
     and = λ e s l q r. and-refuted M t (refuted-as M t (and-shape t e q) r);
@@ -46,7 +46,7 @@ module _ (t : Table) (wf : WellFormed t) (M : Model) where
     diamond = λ e s l q r. diamond-refuted M t (refuted-as M t (diamond-shape t e q) r);
   }
 
-  pub kripke : Falsity t M
+  unfoldable pub kripke : Falsity t M
   unfolding closed leafSet
   kripke = record {
     false-at = FalseAt;

@@ -8,6 +8,9 @@ pub mod Correct
 -- refusals 35 to 39: what each means, and the first one computed
 pub mod Given
 pub mod Faults
+pub mod Alike
+pub mod View
+pub mod ViewLaws
 pub mod Judge
 pub mod Steps
 pub mod TreeLaws

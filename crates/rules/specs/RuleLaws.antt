@@ -12,6 +12,7 @@ use Rattle.formula.specs.Nodes.{Proof, node}
 use Rattle.rules.specs.Tree.{Tree}
 use Rattle.rules.specs.Sequents.{rule, sequent, firstSequent, secondSequent, principal, formula, focus, side, Belongs}
 use Rattle.rules.specs.Rules.{stepped, A, B, Principal, Clash, Truth, BackLeaf, Keeps, ax1, ax2, or, and, box, mu, nu, weaken, into-focus, out-of-focus, discharge, back}
+use Rattle.rules.specs.View.{plain}
 use Rattle.rules.specs.Judge.{codes, firstCodes, secondCodes, sides, belongs, of-kind, tests, keeps, ax1-kept, ax2-kept, or-kept, and-kept, box-kept, mu-kept, nu-kept, weaken-kept, focus-kept, discharge-kept, back-kept}
 use Rattle.rules.specs.Given.{Given}
 use Rattle.verdict.specs.Tells.{Tells, tells-as, eqb-tells, and-tells}
@@ -38,84 +39,84 @@ by-rule P a b c d e f g h i j k l m (suc (suc (suc (suc (suc (suc (suc (suc (suc
 by-rule P a b c d e f g h i j k l m (suc (suc (suc (suc (suc (suc (suc (suc (suc (suc (suc (suc r)))))))))))) = m r
 
 module _ (t : Table) (p : Proof) (T : Tree p) (G : Given t p) (v : ℕ) (real : v < length p) where
-  belongs-tells : Tells (belongs p v) (Belongs p v)
+  belongs-tells : Tells (belongs (plain p) v) (Belongs p v)
   unfolding belongs
-  belongs-tells = member-tells (codes p v) (principal p v)
+  belongs-tells = member-tells (codes (plain p) v) (principal p v)
 
-  principal-tells : (k : ℕ) → Tells (of-kind t p k v) (Principal t p v k)
+  principal-tells : (k : ℕ) → Tells (of-kind t (plain p) k v) (Principal t p v k)
   unfolding of-kind
   principal-tells k = tells-as
       (λ (b, e). record { belongs = b; of-kind = e })
       (λ z. (z .belongs, z .of-kind))
       (and-tells belongs-tells (eqb-tells (kind t (formula p v)) k))
 
-  side-listed : Lists (sides p v) (side p v)
+  side-listed : Lists (sides (plain p) v) (side p v)
   unfolding sides
-  side-listed = lists-remove (principal p v) (codes p v)
+  side-listed = lists-remove (principal p v) (codes (plain p) v)
 
-  ax1-exact : Tells (ax1-kept t p v) (Clash t p v)
+  ax1-exact : Tells (ax1-kept t (plain p) v) (Clash t p v)
   unfolding ax1-kept
   ax1-exact = tells-as
       (λ z. record { plain = z .plain; negated = z .negated; plain-kind = z .opposed .plain-kind; negated-kind = z .opposed .negated-kind; one-letter = z .opposed .one-letter; exactly = z .exactly })
       (λ z. record { plain = z .plain; negated = z .negated; opposed = record { plain-kind = z .plain-kind; negated-kind = z .negated-kind; one-letter = z .one-letter }; exactly = z .exactly })
-      (clash-tells t (codes p v) (G .rising v real))
+      (clash-tells t (codes (plain p) v) (G .rising v real))
 
-  ax2-exact : Tells (ax2-kept t p v) (Truth t p v)
+  ax2-exact : Tells (ax2-kept t (plain p) v) (Truth t p v)
   unfolding ax2-kept
   ax2-exact = tells-as
       (λ z. record { member = z .member; of-kind = z .of-kind; exactly = z .exactly })
       (λ z. record { member = z .member; of-kind = z .of-kind; exactly = z .exactly })
-      (truth-tells t (codes p v) (G .rising v real))
+      (truth-tells t (codes (plain p) v) (G .rising v real))
 
-  or-exact : Tells (or-kept t p v) (Principal t p v Kind.OR × Same (firstSequent p v) (side p v plus code (A t p v) (focus p v) plus code (B t p v) (focus p v)))
+  or-exact : Tells (or-kept t (plain p) v) (Principal t p v Kind.OR × Same (firstSequent p v) (side p v plus code (A t p v) (focus p v) plus code (B t p v) (focus p v)))
   unfolding or-kept
-  or-exact = and-tells (principal-tells Kind.OR) (same-tells (firstCodes p v) (lists-plus _ (lists-plus _ side-listed)))
+  or-exact = and-tells (principal-tells Kind.OR) (same-tells (firstCodes (plain p) v) (lists-plus _ (lists-plus _ side-listed)))
 
-  and-exact : Tells (and-kept t p v)
+  and-exact : Tells (and-kept t (plain p) v)
       (Principal t p v Kind.AND × (Same (firstSequent p v) (side p v plus code (A t p v) (focus p v)) × Same (secondSequent p v) (side p v plus code (B t p v) (focus p v))))
   unfolding and-kept
   and-exact = and-tells (principal-tells Kind.AND)
-      (and-tells (same-tells (firstCodes p v) (lists-plus _ side-listed)) (same-tells (secondCodes p v) (lists-plus _ side-listed)))
+      (and-tells (same-tells (firstCodes (plain p) v) (lists-plus _ side-listed)) (same-tells (secondCodes (plain p) v) (lists-plus _ side-listed)))
 
-  box-exact : Tells (box-kept t p v)
+  box-exact : Tells (box-kept t (plain p) v)
       (Principal t p v Kind.BOX × ((side p v ⊆ (λ c. kind t (entryOf c) ≡ Kind.DIAMOND)) × Same (firstSequent p v) (image (stepped t) (sequent p v))))
   unfolding box-kept
   box-exact = and-tells (principal-tells Kind.BOX)
       (and-tells
-      (tells-as (λ f c m. f c (side-listed .from c m)) (λ f c m. f c (side-listed .into c m)) (all-tells (λ c. eqb-tells (kind t (entryOf c)) Kind.DIAMOND) (sides p v)))
-      (same-tells (firstCodes p v) (lists-each (stepped t) (codes p v))))
+      (tells-as (λ f c m. f c (side-listed .from c m)) (λ f c m. f c (side-listed .into c m)) (all-tells (λ c. eqb-tells (kind t (entryOf c)) Kind.DIAMOND) (sides (plain p) v)))
+      (same-tells (firstCodes (plain p) v) (lists-each (stepped t) (codes (plain p) v))))
 
-  mu-exact : Tells (mu-kept t p v) (Principal t p v Kind.MU × Same (firstSequent p v) (side p v plus code (A t p v) 0))
+  mu-exact : Tells (mu-kept t (plain p) v) (Principal t p v Kind.MU × Same (firstSequent p v) (side p v plus code (A t p v) 0))
   unfolding mu-kept
-  mu-exact = and-tells (principal-tells Kind.MU) (same-tells (firstCodes p v) (lists-plus _ side-listed))
+  mu-exact = and-tells (principal-tells Kind.MU) (same-tells (firstCodes (plain p) v) (lists-plus _ side-listed))
 
-  nu-exact : Tells (nu-kept t p v) (Principal t p v Kind.NU × Same (firstSequent p v) (side p v plus code (A t p v) (focus p v)))
+  nu-exact : Tells (nu-kept t (plain p) v) (Principal t p v Kind.NU × Same (firstSequent p v) (side p v plus code (A t p v) (focus p v)))
   unfolding nu-kept
-  nu-exact = and-tells (principal-tells Kind.NU) (same-tells (firstCodes p v) (lists-plus _ side-listed))
+  nu-exact = and-tells (principal-tells Kind.NU) (same-tells (firstCodes (plain p) v) (lists-plus _ side-listed))
 
-  weaken-exact : Tells (weaken-kept t p v) (Belongs p v × Same (firstSequent p v) (side p v))
+  weaken-exact : Tells (weaken-kept t (plain p) v) (Belongs p v × Same (firstSequent p v) (side p v))
   unfolding weaken-kept
-  weaken-exact = and-tells belongs-tells (same-tells (firstCodes p v) side-listed)
+  weaken-exact = and-tells belongs-tells (same-tells (firstCodes (plain p) v) side-listed)
 
-  focus-exact : (f g : ℕ) → Tells (focus-kept t p f g v) (Belongs p v × ((focus p v ≡ f) × Same (firstSequent p v) (side p v plus code (formula p v) g)))
+  focus-exact : (f g : ℕ) → Tells (focus-kept t (plain p) f g v) (Belongs p v × ((focus p v ≡ f) × Same (firstSequent p v) (side p v plus code (formula p v) g)))
   unfolding focus-kept
-  focus-exact f g = and-tells belongs-tells (and-tells (eqb-tells (focus p v) f) (same-tells (firstCodes p v) (lists-plus _ side-listed)))
+  focus-exact f g = and-tells belongs-tells (and-tells (eqb-tells (focus p v) f) (same-tells (firstCodes (plain p) v) (lists-plus _ side-listed)))
 
-  discharge-exact : Tells (discharge-kept t p v) (Same (firstSequent p v) (sequent p v))
+  discharge-exact : Tells (discharge-kept t (plain p) v) (Same (firstSequent p v) (sequent p v))
   unfolding discharge-kept
-  discharge-exact = same-tells (firstCodes p v) (lists-self (codes p v))
+  discharge-exact = same-tells (firstCodes (plain p) v) (lists-self (codes (plain p) v))
 
-  back-exact : Tells (back-kept t p v) (BackLeaf t p v)
+  back-exact : Tells (back-kept t (plain p) v) (BackLeaf t p v)
   unfolding back-kept
   back-exact = tells-as
       (λ (a, (e, s)). record { companion = a; companion-rule = e; same = s })
       (λ z. (z .companion, (z .companion-rule, z .same)))
       (and-tells (ancestor-tells p T (node p v .back) v real)
-      (and-tells (eqb-tells (rule p (node p v .back)) Rule.D) (same-tells (codes p v) (lists-self (codes p (node p v .back))))))
+      (and-tells (eqb-tells (rule p (node p v .back)) Rule.D) (same-tells (codes (plain p) v) (lists-self (codes (plain p) (node p v .back))))))
 
-  says : (r : ℕ) → rule p v ≡ r → getD (tests t p) r (λ _. false) v ≡ true → Keeps t p v
+  says : (r : ℕ) → rule p v ≡ r → getD (tests t (plain p)) r (λ _. false) v ≡ true → Keeps t p v
   unfolding tests
-  says = by-rule (λ r. rule p v ≡ r → getD (tests t p) r (λ _. false) v ≡ true → Keeps t p v)
+  says = by-rule (λ r. rule p v ≡ r → getD (tests t (plain p)) r (λ _. false) v ≡ true → Keeps t p v)
       (λ e h. ax1 e (ax1-exact .says h))
       (λ e h. ax2 e (ax2-exact .says h))
       (λ e h. let (P, f) = or-exact .says h in or e P f)
@@ -130,7 +131,7 @@ module _ (t : Table) (p : Proof) (T : Tree p) (G : Given t p) (v : ℕ) (real : 
       (λ e h. back e (back-exact .says h))
       (λ r e h. absurd (false≢true h))
 
-  holds : Keeps t p v → keeps t p v ≡ true
+  holds : Keeps t p v → keeps t (plain p) v ≡ true
   unfolding keeps tests
   holds (ax1 e k) = rw e (ax1-exact .holds k)
   holds (ax2 e k) = rw e (ax2-exact .holds k)
@@ -145,6 +146,6 @@ module _ (t : Table) (p : Proof) (T : Tree p) (G : Given t p) (v : ℕ) (real : 
   holds (discharge e f) = rw e (discharge-exact .holds f)
   holds (back e k) = rw e (back-exact .holds k)
 
-  pub keeps-tells : Tells (keeps t p v) (Keeps t p v)
+  pub keeps-tells : Tells (keeps t (plain p) v) (Keeps t p v)
   unfolding keeps
   keeps-tells = record { says = says (rule p v) refl; holds = holds }

@@ -7,9 +7,9 @@ use borrow.Author.Tests.{le-leb, lt-leb}
 use Rattle.formula.specs.Rule
 use Rattle.formula.specs.Table.{Table}
 use Rattle.formula.specs.Nodes.{Proof}
-use Rattle.rules.specs.Sequents.{rule}
 use Rattle.verdict.specs.Verdict.{Verdict, refused, scan}
-use Rattle.rules.specs.Judge.{parents, owner, parent, climb, tests, keeps, ax1-kept, ax2-kept, or-kept, and-kept, box-kept, mu-kept, nu-kept, weaken-kept, focus-kept, discharge-kept, back-kept}
+use Rattle.rules.specs.View.{View, parents, owner}
+use Rattle.rules.specs.Judge.{parent, climb, tests, keeps, ax1-kept, ax2-kept, or-kept, and-kept, box-kept, mu-kept, nu-kept, weaken-kept, focus-kept, discharge-kept, back-kept}
 
 module _ (ok : ℕ → Bool) (number : ℕ → ℕ) (v : ℕ) (rest : Verdict) where
   pub scan-end : scan ok number 0 v rest ≡ rest
@@ -24,7 +24,7 @@ module _ (ok : ℕ → Bool) (number : ℕ → ℕ) (v : ℕ) (rest : Verdict) w
   unfolding scan
   scan-stop n h = rw h refl
 
--- the table of owners after each parent, and the walk up
+-- the table of owners after each parent
 module _ (p : Proof) where
   pub owner-none : (w : ℕ) → owner p w 0 ≡ 0
   unfolding owner
@@ -38,61 +38,63 @@ module _ (p : Proof) where
   unfolding owner
   owner-old w v h = rw h refl
 
-  pub climb-end : (f c w : ℕ) → w ≤ c → climb p f c w ≡ w ∷ []
+-- the walk up
+module _ (q : View) where
+  pub climb-end : (f c w : ℕ) → w ≤ c → climb q f c w ≡ w ∷ []
   unfolding climb
   climb-end zero c w h = refl
   climb-end (suc f) c w h = rw (le-leb w c h) refl
 
-  pub climb-step : (f c w : ℕ) → c < w → climb p (suc f) c w ≡ w ∷ climb p f c (parent p w)
+  pub climb-step : (f c w : ℕ) → c < w → climb q (suc f) c w ≡ w ∷ climb q f c (parent q w)
   unfolding climb
   climb-step f c w h = rw (lt-leb w c h) refl
 
 -- the test that a node's rule names
-module _ (t : Table) (p : Proof) (v : ℕ) where
-  pub keeps-ax1 : rule p v ≡ Rule.AX1 → keeps t p v ≡ ax1-kept t p v
+module _ (t : Table) (q : View) (v : ℕ) where
+  pub keeps-ax1 : q .node v .rule ≡ Rule.AX1 → keeps t q v ≡ ax1-kept t q v
   unfolding keeps tests
   keeps-ax1 e = rw e refl
 
-  pub keeps-ax2 : rule p v ≡ Rule.AX2 → keeps t p v ≡ ax2-kept t p v
+  pub keeps-ax2 : q .node v .rule ≡ Rule.AX2 → keeps t q v ≡ ax2-kept t q v
   unfolding keeps tests
   keeps-ax2 e = rw e refl
 
-  pub keeps-or : rule p v ≡ Rule.OR → keeps t p v ≡ or-kept t p v
+  pub keeps-or : q .node v .rule ≡ Rule.OR → keeps t q v ≡ or-kept t q v
   unfolding keeps tests
   keeps-or e = rw e refl
 
-  pub keeps-and : rule p v ≡ Rule.AND → keeps t p v ≡ and-kept t p v
+  pub keeps-and : q .node v .rule ≡ Rule.AND → keeps t q v ≡ and-kept t q v
   unfolding keeps tests
   keeps-and e = rw e refl
 
-  pub keeps-box : rule p v ≡ Rule.BOX → keeps t p v ≡ box-kept t p v
+  pub keeps-box : q .node v .rule ≡ Rule.BOX → keeps t q v ≡ box-kept t q v
   unfolding keeps tests
   keeps-box e = rw e refl
 
-  pub keeps-mu : rule p v ≡ Rule.MU → keeps t p v ≡ mu-kept t p v
+  pub keeps-mu : q .node v .rule ≡ Rule.MU → keeps t q v ≡ mu-kept t q v
   unfolding keeps tests
   keeps-mu e = rw e refl
 
-  pub keeps-nu : rule p v ≡ Rule.NU → keeps t p v ≡ nu-kept t p v
+  pub keeps-nu : q .node v .rule ≡ Rule.NU → keeps t q v ≡ nu-kept t q v
   unfolding keeps tests
   keeps-nu e = rw e refl
 
-  pub keeps-w : rule p v ≡ Rule.W → keeps t p v ≡ weaken-kept t p v
+  pub keeps-w : q .node v .rule ≡ Rule.W → keeps t q v ≡ weaken-kept t q v
   unfolding keeps tests
   keeps-w e = rw e refl
 
-  pub keeps-f : rule p v ≡ Rule.F → keeps t p v ≡ focus-kept t p 0 1 v
+  pub keeps-f : q .node v .rule ≡ Rule.F → keeps t q v ≡ focus-kept t q 0 1 v
   unfolding keeps tests
   keeps-f e = rw e refl
 
-  pub keeps-u : rule p v ≡ Rule.U → keeps t p v ≡ focus-kept t p 1 0 v
+  pub keeps-u : q .node v .rule ≡ Rule.U → keeps t q v ≡ focus-kept t q 1 0 v
   unfolding keeps tests
   keeps-u e = rw e refl
 
-  pub keeps-d : rule p v ≡ Rule.D → keeps t p v ≡ discharge-kept t p v
+  pub keeps-d : q .node v .rule ≡ Rule.D → keeps t q v ≡ discharge-kept t q v
   unfolding keeps tests
   keeps-d e = rw e refl
 
-  pub keeps-leaf : rule p v ≡ Rule.BACK → keeps t p v ≡ back-kept t p v
+  pub keeps-leaf : q .node v .rule ≡ Rule.BACK → keeps t q v ≡ back-kept t q v
   unfolding keeps tests
   keeps-leaf e = rw e refl

@@ -9,72 +9,82 @@ use lib.Dec.{eqb}
 use lib.ListN.{length}
 use Rattle.formula.specs.Rule
 use Rattle.verdict.specs.Tests.{choose}
+use Rattle.formula.specs.Fields.{hasFirst, hasSecond}
 use Rattle.formula.specs.Nodes.{Proof, node}
 use Rattle.rules.specs.Tree.{Child, first, second, Tree, is-second}
 use Rattle.rules.specs.Sequents.{rule}
-use Rattle.rules.specs.Judge.{has-first, has-second, parents, owner, fits, children-fit, adopted, parent}
+use Rattle.rules.specs.View.{parents, owner, plain}
+use Rattle.rules.specs.Judge.{fits, children-fit, adopted, parent}
 use Rattle.rules.specs.Faults.{HasFirst, Fits, ChildrenFit, Adopted}
-use Rattle.verdict.specs.Tells.{Tells, tells-as, eqb-tells, ltb-tells, leb-tells, and-tells, or-tells, not-tells, if-tells}
+use Rattle.verdict.specs.Tells.{Tells, tells-as, eqb-tells, ltb-tells, leb-tells, and-tells, and-tells-given, or-tells, not-tells, if-tells}
 
 module _ (p : Proof) where
-  has-first-tells : (v : ℕ) → Tells (has-first p v) (HasFirst p v)
-  unfolding has-first
+  has-first-tells : (v : ℕ) → Tells (hasFirst (rule p v)) (HasFirst p v)
   has-first-tells v = and-tells (leb-tells _ _) (leb-tells _ _)
 
-  has-second-tells : (v : ℕ) → Tells (has-second p v) (rule p v ≡ Rule.AND)
-  unfolding has-second
+  has-second-tells : (v : ℕ) → Tells (hasSecond (rule p v)) (rule p v ≡ Rule.AND)
   has-second-tells v = eqb-tells _ _
 
-  pub child-tells : (w v : ℕ) → v < length p → Tells (parents p w v) (Child p v w)
-  unfolding parents
-  child-tells w v real = tells-as into from
-      (or-tells (and-tells (has-first-tells v) (eqb-tells (node p v .first) w)) (and-tells (has-second-tells v) (eqb-tells (node p v .second) w)))
-    where
-      into : (HasFirst p v × (node p v .first ≡ w)) ⊎ ((rule p v ≡ Rule.AND) × (node p v .second ≡ w)) → Child p v w
-      into (inl (h, e)) = first real (h .0) (h .1) e
-      into (inr (h, e)) = second real h e
+  module _ (w : ℕ) (inside : w < length p) where
+    pub child-tells : (v : ℕ) → v < length p → Tells (parents p w v) (Child p v w)
+    unfolding parents
+    child-tells v real = tells-as (λ (_, z). into z) (λ c. (inside, from c))
+        (and-tells
+        (ltb-tells w (length p))
+        (or-tells (and-tells (has-first-tells v) (eqb-tells (node p v .first) w)) (and-tells (has-second-tells v) (eqb-tells (node p v .second) w))))
+      where
+        into : (HasFirst p v × (node p v .first ≡ w)) ⊎ ((rule p v ≡ Rule.AND) × (node p v .second ≡ w)) → Child p v w
+        into (inl (h, e)) = first real (h .0) (h .1) e
+        into (inr (h, e)) = second real h e
 
-      from : Child p v w → (HasFirst p v × (node p v .first ≡ w)) ⊎ ((rule p v ≡ Rule.AND) × (node p v .second ≡ w))
-      from (first _ a b e) = inl ((a, b), e)
-      from (second _ a e) = inr (a, e)
+        from : Child p v w → (HasFirst p v × (node p v .first ≡ w)) ⊎ ((rule p v ≡ Rule.AND) × (node p v .second ≡ w))
+        from (first _ a b e) = inl ((a, b), e)
+        from (second _ a e) = inr (a, e)
 
-  owner-has : (w u v : ℕ) → v ≤ length p → u < v → Child p u w → 0 < owner p w v
-  unfolding owner
-  owner-has w u zero h i c = absurd (omega arith)
-  owner-has w u (suc v) h i c = go (parents p w v) (child-tells w v (omega arith)) (ℕ-discrete u v) (owner-has w u v (omega arith))
-    where
-      go : (b : Bool) → Tells b (Child p v w) → Dec (u ≡ v) → (u < v → Child p u w → 0 < owner p w v) → 0 < choose b (suc v) (owner p w v)
-      go true x d ih = omega arith
-      go false x (yes e) ih = absurd (false≢true (x .holds (rw e at c)))
-      go false x (no n) ih = ih (omega arith) c
+    owner-has : (u v : ℕ) → v ≤ length p → u < v → Child p u w → 0 < owner p w v
+    unfolding owner
+    owner-has u zero h i c = absurd (omega arith)
+    owner-has u (suc v) h i c = go (parents p w v) (child-tells v (omega arith)) (ℕ-discrete u v) (owner-has u v (omega arith))
+      where
+        go : (b : Bool) → Tells b (Child p v w) → Dec (u ≡ v) → (u < v → Child p u w → 0 < owner p w v) → 0 < choose b (suc v) (owner p w v)
+        go true x d ih = omega arith
+        go false x (yes e) ih = absurd (false≢true (x .holds (rw e at c)))
+        go false x (no n) ih = ih (omega arith) c
 
-  owner-finds : (w u v : ℕ) → v ≤ length p → owner p w v ≡ suc u → (u < v) × Child p u w
-  unfolding owner
-  owner-finds w u zero h e = absurd (omega arith)
-  owner-finds w u (suc v) h e = go (parents p w v) (child-tells w v (omega arith)) e (owner-finds w u v (omega arith))
-    where
-      go : (b : Bool) → Tells b (Child p v w) → choose b (suc v) (owner p w v) ≡ suc u → (owner p w v ≡ suc u → (u < v) × Child p u w) → (u < suc v) × Child p u w
-      go true x e ih = let q : v ≡ u = omega arith in (omega arith, rw (← q) (x .says refl))
-      go false x e ih = let (i, c) = ih e in (omega arith, c)
+    owner-finds : (u v : ℕ) → v ≤ length p → owner p w v ≡ suc u → (u < v) × Child p u w
+    unfolding owner
+    owner-finds u zero h e = absurd (omega arith)
+    owner-finds u (suc v) h e = go (parents p w v) (child-tells v (omega arith)) e (owner-finds u v (omega arith))
+      where
+        go : (b : Bool) → Tells b (Child p v w) → choose b (suc v) (owner p w v) ≡ suc u → (owner p w v ≡ suc u → (u < v) × Child p u w) → (u < suc v) × Child p u w
+        go true x e ih = let q : v ≡ u = omega arith in (omega arith, rw (← q) (x .says refl))
+        go false x e ih = let (i, c) = ih e in (omega arith, c)
 
-  unused-tells : (w v : ℕ) → v ≤ length p → Tells (eqb (owner p w v) 0) ((u : ℕ) → u < v → Child p u w → ⊥)
-  unused-tells w v h = tells-as
-      (λ e u i c. omega (arith, owner-has w u v h i c))
-      (λ none. go none (ℕ-discrete (owner p w v) 0))
-      (eqb-tells (owner p w v) 0)
-    where
-      go : ((u : ℕ) → u < v → Child p u w → ⊥) → Dec (owner p w v ≡ 0) → owner p w v ≡ 0
-      go none (yes e) = e
-      go none (no n) = let (i, c) = owner-finds w (owner p w v - 1) v h (omega arith) in absurd (none _ i c)
+    unused-tells : (v : ℕ) → v ≤ length p → Tells (eqb (owner p w v) 0) ((u : ℕ) → u < v → Child p u w → ⊥)
+    unused-tells v h = tells-as
+        (λ e u i c. omega (arith, owner-has u v h i c))
+        (λ none. go none (ℕ-discrete (owner p w v) 0))
+        (eqb-tells (owner p w v) 0)
+      where
+        go : ((u : ℕ) → u < v → Child p u w → ⊥) → Dec (owner p w v ≡ 0) → owner p w v ≡ 0
+        go none (yes e) = e
+        go none (no n) = let (i, c) = owner-finds (owner p w v - 1) v h (omega arith) in absurd (none _ i c)
 
-  fits-tells : (v w : ℕ) → v < length p → Tells (fits p v w) (Fits p v w)
+    pub adopted-tells : Tells (adopted (plain p) w) (Adopted p w)
+    unfolding adopted
+    adopted-tells = or-tells (eqb-tells w 0) (tells-as
+        (λ h. let (i, c) = owner-finds (owner p w (length p) - 1) (length p) (omega arith) (omega arith) in (owner p w (length p) - 1, i, c))
+        (λ (v, i, c). owner-has v (length p) (omega arith) i c)
+        (ltb-tells 0 (owner p w (length p))))
+
+  fits-tells : (v w : ℕ) → v < length p → Tells (fits (plain p) v w) (Fits p v w)
   unfolding fits
   fits-tells v w real = tells-as
       (λ (a, (b, c)). record { above = a; inside = b; unused = c })
       (λ z. (z .above, (z .inside, z .unused)))
-      (and-tells (ltb-tells v w) (and-tells (ltb-tells w (length p)) (unused-tells w v (omega arith))))
+      (and-tells (ltb-tells v w) (and-tells-given (ltb-tells w (length p)) (λ inside. unused-tells w inside v (omega arith))))
 
-  pub children-fit-tells : (v : ℕ) → v < length p → Tells (children-fit p v) (ChildrenFit p v)
+  pub children-fit-tells : (v : ℕ) → v < length p → Tells (children-fit (plain p) v) (ChildrenFit p v)
   unfolding children-fit
   children-fit-tells v real = tells-as
       (λ (f, g). record { first-fits = f; second-fits = λ h. g h .0; differ = λ h. g h .1 })
@@ -82,13 +92,6 @@ module _ (p : Proof) where
       (and-tells
       (if-tells (has-first-tells v) (fits-tells v (node p v .first) real))
       (if-tells (has-second-tells v) (and-tells (fits-tells v (node p v .second) real) (not-tells (eqb-tells (node p v .first) (node p v .second))))))
-
-  pub adopted-tells : (w : ℕ) → Tells (adopted p w) (Adopted p w)
-  unfolding adopted
-  adopted-tells w = or-tells (eqb-tells w 0) (tells-as
-      (λ h. let (i, c) = owner-finds w (owner p w (length p) - 1) (length p) (omega arith) (omega arith) in (owner p w (length p) - 1, i, c))
-      (λ (v, i, c). owner-has w v (length p) (omega arith) i c)
-      (ltb-tells 0 (owner p w (length p))))
 
   pub child-real : {v w : ℕ} → Child p v w → v < length p
   child-real (first h _ _ _) = h
@@ -146,11 +149,11 @@ module _ (p : Proof) where
         go (no n) = let (v, c) = T .some-parent w h n in inr (v, child-real c, c)
 
     -- the parent that the judge finds
-    pub parent-child : (w : ℕ) → w < length p → w ≢ 0 → Child p (parent p w) w
+    pub parent-child : (w : ℕ) → w < length p → w ≢ 0 → Child p (parent (plain p) w) w
     unfolding parent
     parent-child w h n =
         let (v, c) = T .some-parent w h n in
-        owner-finds w (owner p w (length p) - 1) (length p) (omega arith) (omega (arith, owner-has w v (length p) (omega arith) (child-real c) c)) .1
+        owner-finds w h (owner p w (length p) - 1) (length p) (omega arith) (omega (arith, owner-has w h v (length p) (omega arith) (child-real c) c)) .1
 
-    pub parent-is : {v w : ℕ} → Child p v w → parent p w ≡ v
+    pub parent-is : {v w : ℕ} → Child p v w → parent (plain p) w ≡ v
     parent-is c = T .one-parent (parent-child _ (T .inside c) (omega (arith, T .above c))) c .0

@@ -1,4 +1,4 @@
-// The rules, one named constant for each number. The judge's definitions are in specs/.
+// What the rules ask, what a proof earns, and why an accepted one is sound: the definitions and theorems are in specs/.
 ghost use mathlib.Core.Path.{_≡_};
 ghost use Rattle.formula.specs.Fields.{hasSecond};
 

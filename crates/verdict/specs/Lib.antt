@@ -1,7 +1,11 @@
 pub mod Verdict
+pub mod Shown
 pub mod VerdictLaws
 pub mod Lists
+pub mod EachLaws
 pub mod Sets
 pub mod Tests
 pub mod Tells
 pub mod SetTells
+pub mod Index
+pub mod IndexLaws

@@ -33,16 +33,20 @@ ltb-tells a b = record { says = ltb-true a b; holds = lt-ltb a b }
 pub leb-tells : (a b : ℕ) → Tells (leb a b) (a ≤ b)
 leb-tells a b = record { says = leb-true a b; holds = le-leb a b }
 
-pub and-tells : {a b : Bool} {P Q : Type 0} → Tells a P → Tells b Q → Tells (a && b) (P × Q)
-and-tells {a} {b} {P} {Q} x y = record { says = into a (x .says); holds = λ (h, k). from a b (x .holds h) (y .holds k) }
+-- the second test need tell only where the first passes
+pub and-tells-given : {a b : Bool} {P Q : Type 0} → Tells a P → (P → Tells b Q) → Tells (a && b) (P × Q)
+and-tells-given {a} {b} {P} {Q} x y = record { says = into a (x .says); holds = λ (h, k). from a b (x .holds h) (y h .holds k) }
   where
     into : (c : Bool) → (c ≡ true → P) → (c && b) ≡ true → P × Q
-    into true f h = (f refl, y .says h)
+    into true f h = (f refl, y (f refl) .says h)
     into false f h = absurd (false≢true h)
 
     from : (c d : Bool) → c ≡ true → d ≡ true → (c && d) ≡ true
     from true d h k = k
     from false d h k = h
+
+pub and-tells : {a b : Bool} {P Q : Type 0} → Tells a P → Tells b Q → Tells (a && b) (P × Q)
+and-tells x y = and-tells-given x (λ _. y)
 
 pub or-tells : {a b : Bool} {P Q : Type 0} → Tells a P → Tells b Q → Tells (a || b) (P ⊎ Q)
 or-tells {a} {b} {P} {Q} x y = record { says = into a (x .says); holds = λ s. from a (x .holds) s }

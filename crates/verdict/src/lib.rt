@@ -1,10 +1,19 @@
-// A verdict as one number, as the C calls answer it. The definitions of verdicts and of tests are in specs/.
+// A verdict, and the number by which the C calls answer it. The definitions of verdicts and of tests are in specs/.
 ghost use mathlib.Core.Path.{_≡_};
-ghost use Rattle.verdict.specs.Verdict.{packed, refused};
+ghost use Rattle.verdict.specs.Verdict.{packed};
+ghost use Rattle.verdict.specs.Shown.{shown};
 
-// Refusal × 65,536 + place.
-pub fn pack(refusal: u16, place: u16) -> u32
-    ensures { λ r. ⌜ r ≡ packed (refused refusal place) ⌝ }
+pub enum Verdict {
+    Accepted,
+    Refused { number: u16, place: u16 },
+}
+
+// 0 for accepted, or refusal × 65,536 + place.
+pub fn pack(verdict: Verdict) -> u32
+    ensures { λ r. ⌜ r ≡ packed (shown verdict) ⌝ }
 {
-    (refusal as u32) * 65536 + (place as u32)
+    match verdict {
+        Verdict::Accepted => 0,
+        Verdict::Refused { number, place } => (number as u32) * 65536 + (place as u32),
+    }
 }

@@ -1,0 +1,19 @@
+-- definitions
+pub mod Encode
+pub mod Parse
+pub mod Chain
+pub mod Stages
+pub mod File
+pub mod Outcome
+-- laws
+pub mod GotLaws
+pub mod ParseLaws
+pub mod ListLaws
+pub mod Widths
+pub mod FaultLaws
+pub mod ChainLaws
+pub mod ListFaults
+pub mod FileLaws
+pub mod ByteLaws
+pub mod Places
+pub mod Known

@@ -1,0 +1,44 @@
+-- the verdict on two byte lists: the first fault in document 01's order, or acceptance
+use mathlib.Core.List.{List}
+use Prim.Native.Nat.{ℕ}
+use Rattle.verdict.specs.Verdict as verdicts
+use Rattle.verdict.specs.Verdict.{Verdict, accepted}
+use Rattle.encoding.specs.File.{Reading, refused, good}
+use Rattle.formula.specs.Table.{Table}
+use Rattle.formula.specs.Nodes.{Proof}
+use Rattle.formula.specs.Judge.{judgeTable}
+use Rattle.reader.specs.ReadClaim.{readClaim}
+use Rattle.reader.specs.ReadProof.{readProof}
+use Rattle.rules.specs.Judge.{judge}
+
+-- refused before both files are decoded (10 to 34), or the decoding and what the rules say of it (35 to 39 or accepted)
+pub data Checked : Type 0 where
+  unread : ℕ → ℕ → Checked
+  decoded : Table → Proof → Verdict → Checked
+
+-- the proof by bytes, then 35 to 39
+abbrev pub afterProof : Table → List ℕ → Reading Proof → Checked
+afterProof t ms (refused n q) = unread n q
+afterProof t ms (good p) = decoded t p (judge t ms p)
+
+-- 20 over all entries, then 21, 22, 23 entry by entry, then the proof
+abbrev pub afterTable : Verdict → Checked → Checked
+afterTable accepted next = next
+afterTable (verdicts.refused n q) next = unread n q
+
+-- the claim by bytes first
+abbrev pub afterClaim : Reading (Table × List ℕ) → List ℕ → Checked
+afterClaim (refused n q) proof = unread n q
+afterClaim (good c) proof = afterTable (judgeTable (c .0)) (afterProof (c .0) (c .1) (readProof (c .0) proof))
+
+unfoldable pub check : List ℕ → List ℕ → Checked
+unfolding readClaim judgeTable readProof judge
+check claim proof = afterClaim (readClaim claim) proof
+
+abbrev pub answer : Checked → Verdict
+answer (unread n q) = verdicts.refused n q
+answer (decoded t p v) = v
+
+unfoldable pub verdict : List ℕ → List ℕ → Verdict
+unfolding check
+verdict claim proof = answer (check claim proof)

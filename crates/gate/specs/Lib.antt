@@ -1,0 +1,17 @@
+-- the gate's states and calls
+pub mod GateState
+pub mod Numbers
+pub mod Plain
+pub mod Slices
+pub mod Check
+pub mod Present
+pub mod Evaluate
+-- what is right of the two files, and the bridge theorems
+pub mod Correct
+pub mod Earned
+pub mod CheckLaws
+pub mod Found
+pub mod CheckExact
+pub mod Sound
+pub mod PresentLaws
+pub mod Demands

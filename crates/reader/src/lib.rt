@@ -1,0 +1,60 @@
+// The opening letters of claim and proof files. What the files are, and how they are read, is in specs/.
+ghost use mathlib.Core.Path.{_≡_};
+ghost use mathlib.Core.List.{[], _∷_};
+ghost use Rattle.reader.specs.Opening.{opens};
+ghost use Rattle.reader.specs.ClaimFile.{claimOpening};
+ghost use Rattle.reader.specs.ProofFile.{proofOpening};
+
+// The first four bytes of a claim file.
+pub const CLAIM_OPENING: [u8; 4] = *b"CLM1";
+
+// The first four bytes of a proof file.
+pub const PROOF_OPENING: [u8; 4] = *b"PRF1";
+
+// Whether the four letters stand in front of the bytes.
+fn opens(bytes: &[u8], a: u8, b: u8, c: u8, d: u8) -> bool
+    ensures { λ r. ⌜ r ≡ opens (a ∷ b ∷ c ∷ d ∷ []) (now (bytes .entry)) ⌝ }
+{
+    if bytes.len() < 4 {
+        return false;
+    }
+    if bytes[0] != a {
+        return false;
+    }
+    if bytes[1] != b {
+        return false;
+    }
+    if bytes[2] != c {
+        return false;
+    }
+    if bytes[3] != d {
+        return false;
+    }
+    true
+}
+
+// Whether the bytes open as a claim file does.
+pub fn opens_claim(bytes: &[u8]) -> bool
+    ensures { λ r. ⌜ r ≡ opens claimOpening (now (bytes .entry)) ⌝ }
+{
+    opens(
+        bytes,
+        CLAIM_OPENING[0],
+        CLAIM_OPENING[1],
+        CLAIM_OPENING[2],
+        CLAIM_OPENING[3],
+    )
+}
+
+// Whether the bytes open as a proof file does.
+pub fn opens_proof(bytes: &[u8]) -> bool
+    ensures { λ r. ⌜ r ≡ opens proofOpening (now (bytes .entry)) ⌝ }
+{
+    opens(
+        bytes,
+        PROOF_OPENING[0],
+        PROOF_OPENING[1],
+        PROOF_OPENING[2],
+        PROOF_OPENING[3],
+    )
+}

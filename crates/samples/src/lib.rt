@@ -1,0 +1,10 @@
+// Document 01's samples are computed in specs/Samples.antt; here is their number.
+ghost use mathlib.Core.Path.{_≡_};
+ghost use lib.ListN.{length};
+ghost use Rattle.samples.specs.Samples.{samples};
+
+pub fn count() -> usize
+    ensures { λ r. ⌜ r ≡ length samples ⌝ }
+{
+    13
+}
