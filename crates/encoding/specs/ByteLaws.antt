@@ -2,8 +2,9 @@
 use mathlib.Core.Path.{_≡_, refl}
 use mathlib.Core.List.{List, [], _∷_, _++_}
 use mathlib.Core.Bool.{Bool, true, false}
-use Prim.Native.Nat.{ℕ, _/_, _%_, _<_}
+use Prim.Native.Nat.{ℕ, suc, _/_, _%_, _<_}
 use native.Mathlib.Omega.{arith}
+use lib.ListN.{length, getD}
 use Rattle.verdict.specs.Lists.{Each, none, more}
 use Rattle.encoding.specs.Encode.{Bytes, OneByte, TwoBytes, encodeByte, encodeTwo, encodeFour, encodePart, encodeAll}
 
@@ -32,3 +33,8 @@ pub all-bytes : {A : Type 0} {P : A → Type 0} {enc : A → List ℕ} {l : List
 unfolding encodeAll
 all-bytes f none = none
 all-bytes f (more {x = x} h k) = join-bytes (f x h) (all-bytes f k)
+
+-- a list whose every element is a byte
+pub bytes-of : (s : List ℕ) → ((i : ℕ) → i < length s → getD s i 0 < 256) → Bytes s
+bytes-of [] h = none
+bytes-of (x ∷ s) h = let first : x < 256 = h 0 (omega arith) in more first (bytes-of s (λ i l. h (suc i) (omega arith)))

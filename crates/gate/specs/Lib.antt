@@ -15,3 +15,5 @@ pub mod CheckExact
 pub mod Sound
 pub mod PresentLaws
 pub mod Demands
+pub mod Numbered
+pub mod Single

@@ -1,0 +1,76 @@
+-- every refusal's number is at least 10, so its packed form is not 0
+use mathlib.Core.Path.{_≡_, refl, sym, _∙_}
+use mathlib.Core.List.{List}
+use Prim.Native.Nat.{ℕ, _≤_}
+use native.Mathlib.Omega.{arith}
+use Rattle.verdict.specs.Verdict as verdicts
+use Rattle.verdict.specs.Verdict.{Verdict, accepted, packed}
+use Rattle.encoding.specs.Encode.{Bytes}
+use Rattle.encoding.specs.Stages.{Stages, Unfit, unfit}
+use Rattle.encoding.specs.File as file
+use Rattle.formula.specs.Table.{Table}
+use Rattle.formula.specs.Formed as table
+use Rattle.formula.specs.Nodes.{Proof}
+use Rattle.reader.specs.ClaimDocument as claims
+use Rattle.reader.specs.ClaimDocument.{ClaimEarns, ClaimStage, at-entry-count, at-entry, at-fields, at-member-count, at-member}
+use Rattle.reader.specs.ProofDocument as proofs
+use Rattle.reader.specs.ProofDocument.{ProofEarns, ProofStage, at-node-count, at-node, at-code-count, at-code}
+use Rattle.rules.specs.Faults as rules
+use Rattle.gate.specs.Earned.{Earned, by-claim, by-table, by-proof, by-rules}
+use Rattle.gate.specs.Check.{verdict}
+use Rattle.gate.specs.CheckExact.{verdict-earned}
+
+unfit-number : {A : Type 0} {e : A → List ℕ} {P Q : A → Type 0} {k n : ℕ} {w : List ℕ} → Unfit e P Q k w n → n ≡ k
+unfit-number (unfit x p q) = refl
+
+claim-wrong : (σ : ClaimStage) (w : List ℕ) (n : ℕ) → claims.Wrong σ w n → 10 ≤ n
+claim-wrong at-entry-count w n x = omega (arith, unfit-number x)
+claim-wrong (at-entry m es) w n x = omega (arith, unfit-number x)
+claim-wrong (at-fields m es k) w n x = absurd x
+claim-wrong (at-member-count es) w n x = omega (arith, unfit-number x)
+claim-wrong (at-member es m ms) w n x = omega (arith, unfit-number x)
+
+proof-wrong : (t : Table) (σ : ProofStage) (w : List ℕ) (n : ℕ) → proofs.Wrong t σ w n → 10 ≤ n
+proof-wrong t at-node-count w n x = omega (arith, unfit-number x)
+proof-wrong t (at-node m p) w n x = omega (arith, unfit-number x)
+proof-wrong t (proofs.at-fields m p r b) w n x = absurd x
+proof-wrong t (at-code-count m p r v) w n x = omega (arith, unfit-number x)
+proof-wrong t (at-code m p r v k cs) w n x = omega (arith, unfit-number x)
+
+file-number : {A : Type 0} {opening : List ℕ} {number early : ℕ} {enc : A → List ℕ} {Ok : A → Type 0} {X : Stages} {bytes : List ℕ} {n q : ℕ}
+    → 10 ≤ number → 10 ≤ early → ((σ : X .Stage) (w : List ℕ) (n : ℕ) → X .Wrong σ w n → 10 ≤ n)
+    → file.Earned opening number early enc Ok X bytes n q → 10 ≤ n
+file-number a b f (file.no-opening h) = a
+file-number a b f (file.ends-early σ t r e l) = b
+file-number a b f (file.wrong σ w t {n} r e x) = f σ w n x
+file-number a b f (file.bytes-follow x y r o e) = b
+
+table-number : {t : Table} {n q : ℕ} → table.Earns t n q → 10 ≤ n
+table-number (table.bounds h k) = omega arith
+table-number (table.above h k l) = omega arith
+table-number (table.alternation h k l m) = omega arith
+table-number (table.unguarded h k l m o) = omega arith
+
+rules-number : {t : Table} {ms : List ℕ} {p : Proof} {n q : ℕ} → rules.Earns t ms p n q → 10 ≤ n
+rules-number (rules.bad-child a b c) = omega arith
+rules-number (rules.orphan a b c d e) = omega arith
+rules-number (rules.other-root a b) = omega arith
+rules-number (rules.rule-broken a b c d e f) = omega arith
+rules-number (rules.bad-link a b c d e f) = omega arith
+rules-number (rules.bad-loop a b c d e f g h) = omega arith
+
+pub earned-number : {claim proof : List ℕ} {n q : ℕ} → Earned claim proof n q → 10 ≤ n
+earned-number (by-claim e) = file-number (omega arith) (omega arith) claim-wrong e
+earned-number (by-table es ms f e) = table-number e
+earned-number (by-proof es ms f w e) = file-number (omega arith) (omega arith) (proof-wrong es) e
+earned-number (by-rules es ms p f w g e) = rules-number e
+
+-- 0 for accepted, and for nothing else
+pub packed-zero : (claim proof : List ℕ) → Bytes claim → Bytes proof → packed (verdict claim proof) ≡ 0 → verdict claim proof ≡ accepted
+packed-zero claim proof bc bp h = go (verdict claim proof) refl
+  where
+    go : (v : Verdict) → verdict claim proof ≡ v → verdict claim proof ≡ accepted
+    go accepted e = e
+    go (verdicts.refused n q) e =
+        let z : packed (verdicts.refused n q) ≡ 0 = rw e at h in
+        absurd (omega (arith, earned-number (verdict-earned claim proof bc bp e)))
