@@ -2,7 +2,9 @@
 use mathlib.Core.Path.{_≡_, refl}
 use mathlib.Core.List.{[], _∷_}
 use mathlib.Core.Bool.{Bool, true, false, _&&_}
-use Prim.Native.Nat.{ℕ, _+_, _<_}
+use Prim.Native.Nat.{ℕ, _+_, _<_, _≤_}
+use native.Mathlib.Omega.{arith}
+use borrow.Author.Tests.{eqb-true}
 use lib.Dec.{eqb, leb}
 use Rattle.verdict.specs.Lists.{valuesFrom}
 use Rattle.formula.specs.Kind
@@ -39,6 +41,22 @@ mapOf k = bit (hasA k) 1 + bit (hasB k) 2
 -- bit 0: principal, bit 1: first child, bit 2: second child, bit 3: back link
 abbrev pub lowMap : ℕ → ℕ
 lowMap r = bit (hasPrincipal r) 1 + bit (hasFirst r) 2 + bit (hasSecond r) 4 + bit (hasBack r) 8
+
+-- the bytes of a rule's fields, two for each that stands
+abbrev pub linkWidth : ℕ → ℕ
+linkWidth r = bit (hasPrincipal r) 2 + bit (hasFirst r) 2 + bit (hasSecond r) 2 + bit (hasBack r) 2
+
+-- a back link stands alone, so no rule has more than three fields
+pub linkWidth-le : (r : ℕ) → linkWidth r ≤ 6
+linkWidth-le r = go (hasBack r) refl
+  where
+    at-most : (b : Bool) → bit b 2 ≤ 2
+    at-most true = omega arith
+    at-most false = omega arith
+
+    go : (b : Bool) → hasBack r ≡ b → bit (hasPrincipal r) 2 + bit (hasFirst r) 2 + bit (hasSecond r) 2 + bit b 2 ≤ 6
+    go true e = let i : r ≡ Rule.BACK = eqb-true r Rule.BACK e in rw i (omega arith)
+    go false e = omega (arith, at-most (hasPrincipal r), at-most (hasFirst r), at-most (hasSecond r))
 
 -- a field is two bytes, or 0 in its record where the kind or rule lacks it
 abbrev pub FitField : Bool → ℕ → Type 0

@@ -26,6 +26,17 @@ pub mod JudgeExact
 pub mod Plain
 pub mod Columns
 pub mod PlainNodes
+pub mod NodeColumns
+-- what the program computes, by kind numbers and by sets of names in words
+pub mod FieldLaws
+pub mod KindShapes
+pub mod Bits
+pub mod NameSets
+pub mod OperandBounds
+pub mod RowMarks
+pub mod MarksBelow
+pub mod Faults
+pub mod JudgeSteps
 -- Kripke meaning
 pub mod Truth
 pub mod Chain

@@ -1,6 +1,19 @@
-// The entry kinds and the rules: one named constant for each number, and the fields that each has.
+// The entry kinds and the rules, each with one named constant for each number and the fields that it has; the target of an operand; and
+// the judge of refusals 20 to 23 over an entry table in plain numbers.
 ghost use mathlib.Core.Path.{_≡_};
-ghost use Rattle.formula.specs.Fields.{hasA, hasB};
+ghost use mathlib.Core.List.{List};
+ghost use Prim.Native.Nat.{ℕ, _<_, _≤_};
+ghost use Rattle.verdict.specs.Shown.{shown};
+ghost use Rattle.formula.specs.Fields.{hasA, hasB, hasPrincipal, hasFirst, hasSecond, hasBack, bit, mapOf, lowMap, linkWidth};
+ghost use Rattle.formula.specs.KindShapes.{isFixpoint};
+ghost use Rattle.formula.specs.Plain.{tableOf};
+ghost use Rattle.formula.specs.Target as targets;
+ghost use Rattle.formula.specs.Judge.{judgeTable};
+use verdict::Verdict;
+
+mod bounds;
+mod names;
+mod scopes;
 
 pub struct Kind;
 
@@ -40,4 +53,136 @@ impl Kind {
     {
         Kind::OR <= kind && kind <= Kind::AND
     }
+
+    // The bit map of its fields; 0 for a number that is no kind.
+    pub fn map(kind: u8) -> u8
+        ensures { λ r. ⌜ r ≡ mapOf kind ⌝ }
+    {
+        if Kind::has_b(kind) {
+            return 0b11;
+        }
+        if Kind::has_a(kind) {
+            return 0b01;
+        }
+        0
+    }
+
+    // Whether it is a least or a greatest fixpoint.
+    pub fn is_fixpoint(kind: u8) -> bool
+        ensures { λ r. ⌜ r ≡ isFixpoint kind ⌝ }
+    {
+        Kind::MU <= kind && kind <= Kind::NU
+    }
+}
+
+// What a field adds to a sum over the fields that stand.
+fn bit(stands: bool, value: u8) -> u8
+    ensures { λ r. ⌜ (r ≡ bit stands value) × (r ≤ value) ⌝ }
+{
+    if stands { value } else { 0 }
+}
+
+pub struct Rule;
+
+impl Rule {
+    pub const AX1: u8 = 0;
+
+    pub const AX2: u8 = 1;
+
+    pub const OR: u8 = 2;
+
+    pub const AND: u8 = 3;
+
+    pub const BOX: u8 = 4;
+
+    pub const MU: u8 = 5;
+
+    pub const NU: u8 = 6;
+
+    pub const W: u8 = 7;
+
+    pub const F: u8 = 8;
+
+    pub const U: u8 = 9;
+
+    pub const D: u8 = 10;
+
+    pub const BACK: u8 = 11;
+
+    // Whether a node of the rule has a principal.
+    pub fn has_principal(rule: u8) -> bool
+        ensures { λ r. ⌜ r ≡ hasPrincipal rule ⌝ }
+    {
+        Rule::OR <= rule && rule <= Rule::U
+    }
+
+    // Whether it has a first child.
+    pub fn has_first(rule: u8) -> bool
+        ensures { λ r. ⌜ r ≡ hasFirst rule ⌝ }
+    {
+        Rule::OR <= rule && rule <= Rule::D
+    }
+
+    // Whether it has a second child.
+    pub fn has_second(rule: u8) -> bool
+        ensures { λ r. ⌜ r ≡ hasSecond rule ⌝ }
+    {
+        rule == Rule::AND
+    }
+
+    // Whether it has a back link.
+    pub fn has_back(rule: u8) -> bool
+        ensures { λ r. ⌜ r ≡ hasBack rule ⌝ }
+    {
+        rule == Rule::BACK
+    }
+
+    // The low four bits of its map.
+    pub fn low_map(rule: u8) -> u8
+        ensures { λ r. ⌜ (r ≡ lowMap rule) × (r ≤ 15) ⌝ }
+    {
+        let principal = bit(Rule::has_principal(rule), 1);
+        let first = bit(Rule::has_first(rule), 2);
+        let second = bit(Rule::has_second(rule), 4);
+        let back = bit(Rule::has_back(rule), 8);
+        principal + first + second + back
+    }
+
+    // The bytes of its fields.
+    pub fn link_width(rule: u8) -> u8
+        ensures { λ r. ⌜ (r ≡ linkWidth rule) × (r ≤ 6) ⌝ }
+    {
+        let principal = bit(Rule::has_principal(rule), 2);
+        let first = bit(Rule::has_first(rule), 2);
+        let second = bit(Rule::has_second(rule), 2);
+        let back = bit(Rule::has_back(rule), 2);
+        principal + first + second + back
+    }
+}
+
+// The target of an operand: the operand, or its fixpoint if it is a name. It is the same whatever the B fields and the table's length.
+pub fn target(kinds: &[u8; 256], a: &[u16; 256], operand: u16) -> u16
+    requires { ⌜ operand < 256 ⌝ }
+    ensures { λ r. ⌜ ((ys : List ℕ) (n : ℕ) → operand < n → r ≡ targets.target (tableOf (now (kinds .entry)) (now (a .entry)) ys n) operand) ⌝ }
+{
+    let e = operand as usize;
+    if kinds[e] == Kind::NAME {
+        return a[e];
+    }
+    operand
+}
+
+// Refusals 20 to 23 over the first count entries: 20 over all of them, then 21, 22 and 23 entry by entry.
+pub fn judge(kinds: &[u8; 256], a: &[u16; 256], b: &[u16; 256], count: usize) -> Verdict
+    requires { ⌜ count ≤ 256 ⌝ }
+    ensures { λ r. ⌜ shown r ≡ judgeTable (tableOf (now (kinds .entry)) (now (a .entry)) (now (b .entry)) count) ⌝ }
+{
+    let out = bounds::first_out(kinds, a, b, count);
+    if out < count {
+        return Verdict::Refused {
+            number: 20,
+            place: out as u16,
+        };
+    }
+    scopes::judge_names(kinds, a, b, count)
 }

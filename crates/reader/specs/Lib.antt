@@ -17,3 +17,22 @@ pub mod ProofFaults
 pub mod ProofBytes
 -- for callers
 pub mod RecordLaws
+-- the code that reads files
+pub mod Walk
+pub mod Written
+pub mod Numbers
+pub mod ClaimEntry
+pub mod ClaimEntries
+pub mod ClaimMembers
+pub mod ClaimWalk
+pub mod Stored
+pub mod ProofParts
+pub mod ProofHead
+pub mod ProofLaws
+pub mod ProofSteps
+pub mod ProofWhole
+pub mod ProofDecode
+pub mod ProofStored
+pub mod ProofGood
+pub mod ProofKinds
+pub mod ProofAnswer

@@ -49,7 +49,7 @@ sequent-refuses t =
     rising-refuses (count-exact 24 32 (byte-exact early)) (count-refuses 24 32 (byte-takes early) (byte-exact early)) (two-exact early) (two-takes early)
     (λ c. formula-tells t (entryOf c)) 34
 
-fields-take : (r : ℕ) → Takes early (fields r) (bit (hasPrincipal r) 2 + (bit (hasFirst r) 2 + (bit (hasSecond r) 2 + bit (hasBack r) 2)))
+pub fields-take : (r : ℕ) → Takes early (fields r) (bit (hasPrincipal r) 2 + (bit (hasFirst r) 2 + (bit (hasSecond r) 2 + bit (hasBack r) 2)))
 fields-take r =
     seq-takes (field-takes early (hasPrincipal r))
     (λ _. seq-takes (field-takes early (hasFirst r)) (λ _. seq-takes (field-takes early (hasSecond r)) (λ _. field-takes early (hasBack r))))

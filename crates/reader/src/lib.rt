@@ -1,9 +1,13 @@
-// The opening letters of claim and proof files. What the files are, and how they are read, is in specs/.
+// Claim and proof files, read by bytes into plain tables. What the files are is in specs/.
 ghost use mathlib.Core.Path.{_≡_};
 ghost use mathlib.Core.List.{[], _∷_};
 ghost use Rattle.reader.specs.Opening.{opens};
 ghost use Rattle.reader.specs.ClaimFile.{claimOpening};
 ghost use Rattle.reader.specs.ProofFile.{proofOpening};
+
+pub mod claim;
+mod number;
+pub mod proof;
 
 // The first four bytes of a claim file.
 pub const CLAIM_OPENING: [u8; 4] = *b"CLM1";

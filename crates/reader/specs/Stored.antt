@@ -1,0 +1,23 @@
+-- a run of stores, one more; and a run of stores after what is written already
+use mathlib.Core.Path.{_≡_, refl, sym, ap, _∙_}
+use mathlib.Core.List.{List, [], _∷_, _++_}
+use Prim.Native.Nat.{ℕ, suc, _+_, _≤_}
+use native.Mathlib.Omega.{arith}
+use lib.ListN.{length, drop, set, length-append}
+use lib.Seq.{sets, sets-eq, take-append-seam, drop-append-add, drop-drop}
+use Rattle.verdict.specs.Lists.{written}
+use Rattle.reader.specs.Written.{written-length}
+
+module _ {A : Type 0} where
+  pub sets-more : (vs l : List A) (i : ℕ) (x : A) → sets l i (vs ++ (x ∷ [])) ≡ set (sets l i vs) (i + length vs) x
+  sets-more [] l i x = let e : i ≡ i + 0 = omega arith in ap (λ (k : ℕ). set l k x) e
+  sets-more (v ∷ vs) l i x =
+      let e : suc i + length vs ≡ i + suc (length vs) = omega arith in
+      sets-more vs (set l i v) (suc i) x ∙ ap (λ (k : ℕ). set (sets (set l i v) (suc i) vs) k x) e
+
+  pub written-on : (new vs old : List A) → length new + length vs ≤ length old → sets (written new old) (length new) vs ≡ written (new ++ vs) old
+  written-on new vs old h =
+      let long = written-length new old (omega arith) in
+      let e : length new + length vs ≡ length (new ++ vs) = sym (length-append new vs) in
+      sets-eq vs (written new old) (length new) (omega arith)
+      ∙ rw (take-append-seam new (drop (length new) old), drop-append-add new (drop (length new) old) (length vs), drop-drop (length vs) (length new) old, e) refl
