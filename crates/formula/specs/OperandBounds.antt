@@ -1,5 +1,5 @@
 -- refusal 20 in plain numbers: by an entry's kind and fields, and for a name by the kind of the entry that it names
-use mathlib.Core.Path.{_≡_, refl, ap, _∙_}
+use mathlib.Core.Path.{_≡_, refl, sym, ap, _∙_}
 use mathlib.Core.Logic.{_⊎_, inl, inr}
 use mathlib.Core.List.{List}
 use mathlib.Core.Bool.{Bool, true, false, not, _||_, true≢false}
@@ -101,3 +101,11 @@ module _ (ks xs ys : List ℕ) (n e : ℕ) (inside : e < n) where
   out-other q =
       ap (bad (tableOf ks xs ys n) e) (plain-shape ks xs ys n e inside)
       ∙ other-bad (tableOf ks xs ys n) e _ (name-test (getD xs e 0) (getD ys e 0) (getD ks e 0) ∙ ne-eqb (getD ks e 0) Kind.NAME q)
+
+  -- as the code has them, the fields in numbers of their own
+  module _ {r : Bool} {x : ℕ} (first : x ≡ getD xs e 0) where
+    pub name-answer : getD ks e 0 ≡ Kind.NAME → r ≡ nameOut ks n e x → r ≡ outOf (tableOf ks xs ys n) e
+    name-answer q z = z ∙ ap (nameOut ks n e) first ∙ sym (out-name q)
+
+    pub other-answer : {y : ℕ} → y ≡ getD ys e 0 → (getD ks e 0 ≡ Kind.NAME → ⊥) → r ≡ operandsOut e (plainShape (getD ks e 0) x y) → r ≡ outOf (tableOf ks xs ys n) e
+    other-answer second q z = z ∙ rw (first, second) (sym (out-other q))

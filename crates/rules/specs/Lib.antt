@@ -20,6 +20,25 @@ pub mod RuleLaws
 pub mod LoopLaws
 pub mod JudgeExact
 pub mod FaultLaws
+-- what the code computes: tables of owners and flags, sequents as words
+pub mod ScanLaws
+pub mod Owners
+pub mod OwnerLaws
+pub mod AdoptLaws
+pub mod TreeStages
+pub mod Flags
+pub mod FlagLaws
+pub mod WalkLaws
+pub mod LoopStages
+pub mod WordLaws
+pub mod Part
+pub mod CodeSet
+pub mod Placed
+pub mod KeptLaws
+pub mod BoxLaws
+pub mod AxiomParts
+pub mod Judged
+pub mod JudgeStages
 -- soundness
 pub mod Falsity
 pub mod Refutes

@@ -1,7 +1,6 @@
-use mathlib.Core.Path.{sym, _∙_, ap}
 use native.Mathlib.Omega.{arith}
+use Rattle.formula.specs.OperandBounds.{name-answer, other-answer}
 use borrow.Author.Needs.{needs}
-use Rattle.formula.specs.OperandBounds.{nameOut, out-name, out-other}
 use Rattle.formula.proofs.bounds.out.Statement.{statement}
 use Rattle.formula.proofs.bounds.out.Tie as tie
 
@@ -23,9 +22,7 @@ name-out-requires c κs = search needs
 returns : tie.Need-returns
 returns c =
     let given = c .before .before .before .before .before .args in
-    c .name-out .ensures
-    ∙ ap (nameOut (given .kinds .now) (given .count) (given .e)) (c .before .before .wide .ensures)
-    ∙ sym (out-name (given .kinds .now) (given .a .now) (given .b .now) (given .count) (given .e) (omega arith) (c .before .if1 .taken))
+    name-answer (given .kinds .now) (given .a .now) (given .b .now) (given .count) (given .e) (omega arith) (c .before .before .wide .ensures) (c .before .if1 .taken) (c .name-out .ensures)
 
 mul-wide-2 : tie.Need-mul-wide-2
 mul-wide-2 c = search needs
@@ -42,7 +39,7 @@ operands-out-requires c κs = search needs
 returns-2 : tie.Need-returns-2
 returns-2 c =
     let given = c .before .before .before .before .before .before .before .args in
-    cc (out-other (given .kinds .now) (given .a .now) (given .b .now) (given .count) (given .e) (omega arith) (c .before .before .before .if1 .left))
+    other-answer (given .kinds .now) (given .a .now) (given .b .now) (given .count) (given .e) (omega arith) (c .before .before .before .before .wide .ensures) (c .before .wide2 .ensures) (c .before .before .before .if1 .left) (c .operands-out .ensures)
 
 pub out-spec : {M : Type 1} → statement M
 out-spec =

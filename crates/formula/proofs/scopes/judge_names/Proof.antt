@@ -1,6 +1,7 @@
 -- The invariant: the rows of all entries passed, and that what is left of the pass decides.
 use mathlib.Core.Path.{_≡_, sym, _∙_}
 use Prim.Native.Nat.{_-_}
+use native.Mathlib.Omega.{arith}
 use borrow.Author.Needs.{needs}
 use Rattle.formula.specs.Table.{Table}
 use Rattle.formula.specs.Plain.{tableOf}
@@ -50,31 +51,31 @@ loop-holds c =
     _ _ _ (c .before .before .no-rows .ensures) (c .before .no-rows2 .ensures) (c .none .ensures)
 
 element-copy-out-kind : tie.Need-element-copy-out-kind Inv-loop μ-loop
-element-copy-out-kind c = search needs
+element-copy-out-kind c = omega arith
 
 places-of-requires : tie.Need-places-of-requires Inv-loop μ-loop
-places-of-requires c κs = search needs
+places-of-requires c κs = omega arith
 
 mul-free-names : tie.Need-mul-free-names Inv-loop μ-loop
-mul-free-names c = search needs
+mul-free-names c = omega arith
 
 array-copy-out-free-names : tie.Need-array-copy-out-free-names Inv-loop μ-loop
-array-copy-out-free-names c = search needs
+array-copy-out-free-names c = omega arith
 
 mul-free-names-2 : tie.Need-mul-free-names-2 Inv-loop μ-loop
-mul-free-names-2 c = search needs
+mul-free-names-2 c = omega arith
 
 array-copy-out-free-names-2 : tie.Need-array-copy-out-free-names-2 Inv-loop μ-loop
-array-copy-out-free-names-2 c = search needs
+array-copy-out-free-names-2 c = omega arith
 
 free-names-requires : tie.Need-free-names-requires Inv-loop μ-loop
 free-names-requires c κs = search needs
 
 mul-body : tie.Need-mul-body Inv-loop μ-loop
-mul-body c = search needs
+mul-body c = omega arith
 
 array-copy-out-body : tie.Need-array-copy-out-body Inv-loop μ-loop
-array-copy-out-body c = search needs
+array-copy-out-body c = omega arith
 
 with-requires : tie.Need-with-requires Inv-loop μ-loop
 with-requires c κs = search needs
@@ -83,37 +84,37 @@ fault-requires : tie.Need-fault-requires Inv-loop μ-loop
 fault-requires c κs = search needs
 
 cast-t34 : tie.Need-cast-t34 Inv-loop μ-loop
-cast-t34 c = search needs
+cast-t34 c = omega arith
 
 returns : tie.Need-returns Inv-loop μ-loop
 returns c = refuses (head (c .before) .loop .inv) (c .before .before .before .before .before .before .before .before .before .loop-test .taken) (number-is (c .before)) (c .if1 .taken)
 
 mul-free-rows : tie.Need-mul-free-rows Inv-loop μ-loop
-mul-free-rows c = search needs
+mul-free-rows c = omega arith
 
 array-set-from-free-rows : tie.Need-array-set-from-free-rows Inv-loop μ-loop
-array-set-from-free-rows c = search needs
+array-set-from-free-rows c = omega arith
 
 mul-open-names : tie.Need-mul-open-names Inv-loop μ-loop
-mul-open-names c = search needs
+mul-open-names c = omega arith
 
 array-copy-out-open-names : tie.Need-array-copy-out-open-names Inv-loop μ-loop
-array-copy-out-open-names c = search needs
+array-copy-out-open-names c = omega arith
 
 open-names-requires : tie.Need-open-names-requires Inv-loop μ-loop
 open-names-requires c κs = search needs
 
 mul-open-rows : tie.Need-mul-open-rows Inv-loop μ-loop
-mul-open-rows c = search needs
+mul-open-rows c = omega arith
 
 array-set-from-open-rows : tie.Need-array-set-from-open-rows Inv-loop μ-loop
-array-set-from-open-rows c = search needs
+array-set-from-open-rows c = omega arith
 
 add-e : tie.Need-add-e Inv-loop μ-loop
-add-e c = search needs
+add-e c = omega arith
 
 loop-less : tie.Need-loop-less Inv-loop μ-loop
-loop-less c = search needs
+loop-less c = omega arith
 
 loop-again : tie.Need-loop-again Inv-loop μ-loop
 loop-again c =

@@ -1,0 +1,155 @@
+-- the judge stage by stage, as the program runs it: 35, 36, 37 and 38, 39
+use mathlib.Core.Path.{_≡_, refl, sym, ap, _∙_}
+use mathlib.Core.Bool.{Bool, true, false, _&&_}
+use mathlib.Core.List.{List}
+use Prim.Native.Nat.{ℕ, _+_, _*_, _<_, _≤_}
+use native.Mathlib.Decide.{ℕ-discrete}
+use native.Mathlib.Omega.{arith}
+use lib.Dec.{eqb}
+use lib.ListN.{length, getD, take}
+use borrow.Author.Tests.{eq-eqb, ne-eqb}
+use Rattle.verdict.specs.Verdict.{Verdict, accepted, refused, pick, scan}
+use Rattle.verdict.specs.declared.Verdict.the-variants.{Accepted}
+use Rattle.verdict.specs.Tests.{same, choose}
+use Rattle.formula.specs.Rule
+use Rattle.formula.specs.Table.{Table}
+use Rattle.formula.specs.Plain.{tableOf}
+use Rattle.formula.specs.Nodes.{Node, Proof, node}
+use Rattle.formula.specs.PlainNodes.{codesAt, proofOf, proofOf-length, proofOf-node}
+use Rattle.formula.specs.WellFormed.{WellFormed}
+use Rattle.rules.specs.Tree.{Tree}
+use Rattle.rules.specs.Given.{Given}
+use Rattle.rules.specs.View.{plain}
+use Rattle.rules.specs.Judge.{codes, keeps, rule-number, back-kept, root, judge}
+use Rattle.rules.specs.Steps.{keeps-leaf}
+use Rattle.rules.specs.JudgeExact.{judge-is, claim-stage, loops-stage}
+use Rattle.rules.specs.ScanLaws.{Passed, scan-passes, scan-fails, after, scan-then}
+use Rattle.rules.specs.Owners.{Parented, Filled, tree-judged}
+use Rattle.rules.specs.TreeStages.{tree-then, accepted-tree}
+use Rattle.rules.specs.Flags.{Noted, Companion, companion-fits, loops-judged}
+use Rattle.rules.specs.LoopStages.{linked-of, back-kept-is}
+use Rattle.rules.specs.Placed.{Placed, Members}
+use Rattle.rules.specs.Judged.{Judged, placed, codes-is}
+
+-- 37 or 38 by rising node
+abbrev pub rules-judged : Table → Proof → Verdict
+rules-judged t p = scan (keeps t (plain p)) (rule-number (plain p)) (length p) 0 accepted
+
+-- 36, then those, then 39
+abbrev pub tree-rules-judged : Table → List ℕ → Proof → Verdict
+tree-rules-judged t ms p = pick (root ms (plain p)) (after (rules-judged t p) (loops-judged p)) (refused 36 0)
+
+pub judge-stages : (t : Table) (ms : List ℕ) (p : Proof) → judge t ms p ≡ after (tree-judged p) (tree-rules-judged t ms p)
+judge-stages t ms p =
+    judge-is t ms p
+    ∙ tree-then p (claim-stage t ms p)
+    ∙ ap (λ (x : Verdict). after (tree-judged p) (pick (root ms (plain p)) x (refused 36 0)))
+    (scan-then (keeps t (plain p)) (rule-number (plain p)) (length p) 0 (loops-stage t ms p))
+
+-- tables that have passed 20 to 35, with what the walks up read
+pub record Ready (ks xs ys : List ℕ) (n : ℕ) (rs ls ss cs : List ℕ) (m : ℕ) (owners : List ℕ) (flags : List Bool) : Type 0 where
+  pub judged : Judged ks xs ys n rs ls ss cs m
+  pub parented : Parented owners m
+  pub noted : Noted (proofOf rs ls ss cs m) rs owners flags
+
+module _ {ks xs ys : List ℕ} {n : ℕ} {rs ls ss cs : List ℕ} {m : ℕ} (J : Judged ks xs ys n rs ls ss cs m) (t : Table) (v : ℕ) (real : v < m) where
+  abbrev p : Proof
+  p = proofOf rs ls ss cs m
+
+  rule-is : node p v .rule ≡ getD rs v 0
+  rule-is = ap (λ (x : Node). x .rule) (proofOf-node rs ls ss cs m v real)
+
+  back-is : node p v .back ≡ getD ls (4 * v + 3) 0
+  back-is = ap (λ (x : Node). x .back) (proofOf-node rs ls ss cs m v real)
+
+  -- a back leaf keeps its rule when its companion fits and has its sequent
+  pub leaf-keeps : getD rs v 0 ≡ Rule.BACK → keeps t (plain p) v ≡ (companion-fits p v && same (codes (plain p) v) (codes (plain p) (node p v .back)))
+  leaf-keeps e = keeps-leaf t (plain p) v (rule-is ∙ e) ∙ back-kept-is t p v
+
+  pub leaf-without : getD rs v 0 ≡ Rule.BACK → companion-fits p v ≡ false → keeps t (plain p) v ≡ false
+  leaf-without e h = leaf-keeps e ∙ rw h refl
+
+  pub leaf-with : getD rs v 0 ≡ Rule.BACK → companion-fits p v ≡ true → getD ls (4 * v + 3) 0 < m
+      → keeps t (plain p) v ≡ same (codesAt ss cs v) (codesAt ss cs (getD ls (4 * v + 3) 0))
+  leaf-with e h l =
+      leaf-keeps e
+      ∙ rw (h, codes-is J v real) (ap (λ (w : ℕ). same (codesAt ss cs v) (codes (plain p) w)) back-is ∙ ap (same (codesAt ss cs v)) (codes-is J (getD ls (4 * v + 3) 0) l))
+
+  -- the number that a node earns
+  pub number-leaf : getD rs v 0 ≡ Rule.BACK → rule-number (plain p) v ≡ 38
+  unfolding rule-number
+  number-leaf e = rw (rule-is, eq-eqb (getD rs v 0) Rule.BACK e) refl
+
+  pub number-other : (getD rs v 0 ≡ Rule.BACK → ⊥) → rule-number (plain p) v ≡ 37
+  unfolding rule-number
+  number-other e = rw (rule-is, ne-eqb (getD rs v 0) Rule.BACK e) refl
+
+-- what the reader and the table's judge have ensured before 35
+pub record Laid (ks xs ys : List ℕ) (n : ℕ) (rs ls ss cs : List ℕ) (m : ℕ) : Type 0 where
+  pub entries : n ≤ 256
+  pub nodes : (1 ≤ m) × (m ≤ 1024)
+  pub codes : 24576 ≤ length cs
+  pub rising : (v : ℕ) → v < m → (getD ss v 0 ≤ getD ss (v + 1) 0) × (getD ss (v + 1) 0 ≤ 24576)
+  pub well : WellFormed (tableOf ks xs ys n)
+  pub given : Given (tableOf ks xs ys n) (proofOf rs ls ss cs m)
+
+pub laid-judged : {ks xs ys : List ℕ} {n : ℕ} {rs ls ss cs : List ℕ} {m : ℕ} → Laid ks xs ys n rs ls ss cs m → Tree (proofOf rs ls ss cs m) → Judged ks xs ys n rs ls ss cs m
+laid-judged L T = record { entries = L .entries; nodes = L .nodes .1; codes = L .codes; rising = L .rising; well = L .well; given = L .given; tree = T }
+
+module _ {ks xs ys : List ℕ} {n : ℕ} {rs ls ss cs : List ℕ} {m : ℕ} {owners : List ℕ} {flags : List Bool} (R : Ready ks xs ys n rs ls ss cs m owners flags) (t : Table) (v : ℕ) (real : v < m)
+    (leaf : getD rs v 0 ≡ Rule.BACK) {answer : Bool} (companion : Companion rs ls owners flags v answer) where
+  fits-is : answer ≡ companion-fits (proofOf rs ls ss cs m) v
+  fits-is = companion .fits (proofOf rs ls ss cs m) (R .noted) (linked-of rs ls ss cs m) (rw proofOf-length real)
+
+  pub leaf-refused : answer ≡ false → keeps t (plain (proofOf rs ls ss cs m)) v ≡ false
+  leaf-refused h = leaf-without (R .judged) t v real leaf (sym fits-is ∙ h)
+
+  -- the companion lies above the leaf, so it is a node
+  pub companion-inside : answer ≡ true → getD ls (4 * v + 3) 0 < m
+  companion-inside h = omega (arith, companion .above h)
+
+  pub leaf-compared : answer ≡ true → keeps t (plain (proofOf rs ls ss cs m)) v ≡ same (codesAt ss cs v) (codesAt ss cs (getD ls (4 * v + 3) 0))
+  leaf-compared h = leaf-with (R .judged) t v real leaf (sym fits-is ∙ h) (companion-inside h)
+
+-- the scan of 37 and 38 as a loop walks it
+module _ {ks xs ys : List ℕ} {n : ℕ} {rs ls ss cs : List ℕ} {m : ℕ} (J : Judged ks xs ys n rs ls ss cs m) (t : Table) (v : ℕ) where
+  pub rules-pass : m ≤ v → Passed (keeps t (plain (proofOf rs ls ss cs m))) v → rules-judged t (proofOf rs ls ss cs m) ≡ accepted
+  rules-pass h f = scan-passes _ (rule-number (plain (proofOf rs ls ss cs m))) _ accepted (λ w l. f w (omega (arith, proofOf-length rs ls ss cs m)))
+
+  -- the number by the rule
+  pub rules-fail : (number : ℕ) → (getD rs v 0 ≡ Rule.BACK → number ≡ 38) → ((getD rs v 0 ≡ Rule.BACK → ⊥) → number ≡ 37)
+      → v < m → Passed (keeps t (plain (proofOf rs ls ss cs m))) v → keeps t (plain (proofOf rs ls ss cs m)) v ≡ false
+      → rules-judged t (proofOf rs ls ss cs m) ≡ refused number v
+  rules-fail number leaf other real f bad =
+      scan-fails _ (rule-number (plain (proofOf rs ls ss cs m))) _ accepted v (omega (arith, proofOf-length rs ls ss cs m)) f bad
+      ∙ ap (λ (k : ℕ). refused k v) (number-is (ℕ-discrete (getD rs v 0) Rule.BACK))
+    where
+      number-is : Dec (getD rs v 0 ≡ Rule.BACK) → rule-number (plain (proofOf rs ls ss cs m)) v ≡ number
+      number-is (yes e) = number-leaf J t v real e ∙ sym (leaf e)
+      number-is (no e) = number-other J t v real e ∙ sym (other e)
+
+-- 36 to 39 by what each stage found
+module _ (t : Table) (ms : List ℕ) (p : Proof) where
+  pub other-root : root ms (plain p) ≡ false → tree-rules-judged t ms p ≡ refused 36 0
+  other-root h = rw h refl
+
+  pub rules-refused : {k q : ℕ} → root ms (plain p) ≡ true → rules-judged t p ≡ refused k q → tree-rules-judged t ms p ≡ refused k q
+  rules-refused h r = rw (h, r) refl
+
+  pub rules-accepted : root ms (plain p) ≡ true → rules-judged t p ≡ accepted → tree-rules-judged t ms p ≡ loops-judged p
+  rules-accepted h r = rw (h, r) refl
+
+  -- 35 first
+  pub tree-bad : {k q : ℕ} → tree-judged p ≡ refused k q → judge t ms p ≡ refused k q
+  tree-bad r = judge-stages t ms p ∙ rw r refl
+
+  pub tree-good : tree-judged p ≡ accepted → judge t ms p ≡ tree-rules-judged t ms p
+  tree-good r = judge-stages t ms p ∙ rw r refl
+
+-- what an accepted tree gives to the stages after it
+module _ {rs ls : List ℕ} {m : ℕ} {owners : List ℕ} (filled : Filled tree-judged rs ls m Accepted owners) where
+  pub filled-tree : (ss cs : List ℕ) → tree-judged (proofOf rs ls ss cs m) ≡ accepted
+  filled-tree ss cs = sym (filled .answers ss cs)
+
+  pub filled-judged : {ks xs ys : List ℕ} {n : ℕ} {ss cs : List ℕ} → Laid ks xs ys n rs ls ss cs m → Judged ks xs ys n rs ls ss cs m
+  filled-judged {ss = ss} {cs = cs} L = laid-judged L (accepted-tree (proofOf rs ls ss cs m) (filled-tree ss cs))

@@ -1,0 +1,58 @@
+-- the table of owners that the code keeps: one more than the number of each node's parent, 0 while it has none
+use mathlib.Core.Path.{_≡_}
+use mathlib.Core.Bool.{Bool, true, _&&_}
+use mathlib.Core.List.{List}
+use Prim.Native.Nat.{ℕ, _+_, _<_, _≤_}
+use lib.Dec.{eqb, ltb}
+use lib.ListN.{length, getD, set}
+use Rattle.verdict.specs.Verdict.{accepted, scan}
+use Rattle.verdict.specs.Verdict as verdicts
+use Rattle.verdict.specs.Shown.{shown}
+use Rattle.verdict.specs.declared.Verdict.{Verdict}
+use Rattle.verdict.specs.declared.Verdict.the-variants.{Accepted}
+use Rattle.formula.specs.Nodes.{Proof}
+use Rattle.formula.specs.PlainNodes.{proofOf}
+use Rattle.rules.specs.View.{owner, plain}
+use Rattle.rules.specs.Judge.{children-fit, adopted}
+
+-- w is a node above v, and has no owner
+abbrev pub unowned : List ℕ → ℕ → ℕ → ℕ → Bool
+unowned owners n v w = ltb v w && (ltb w n && eqb (getD owners w 0) 0)
+
+-- the table holds the owners among the nodes below v
+pub record Owned (p : Proof) (v : ℕ) (owners : List ℕ) : Type 0 where
+  pub room : length p ≤ length owners
+  pub each : (w : ℕ) → w < length p → getD owners w 0 ≡ owner p w v
+
+-- rules and links alone say who owns whom: the sequents are any
+abbrev pub OwnedBy : List ℕ → List ℕ → ℕ → ℕ → List ℕ → Type 0
+OwnedBy rs ls n v owners = (ss cs : List ℕ) → Owned (proofOf rs ls ss cs n) v owners
+
+-- whether child w of v fits, and the table with it
+pub record OneChild (before : List ℕ) (n v w : ℕ) (answer : Bool) (after : List ℕ) : Type 0 where
+  pub answers : answer ≡ unowned before n v w
+  pub marked : answer ≡ true → after ≡ set before w (v + 1)
+
+-- what one parent's step answers, and the table that it leaves
+pub record OneParent (rs ls : List ℕ) (n v : ℕ) (answer : Bool) (owners : List ℕ) : Type 0 where
+  pub answers : (ss cs : List ℕ) → answer ≡ children-fit (plain (proofOf rs ls ss cs n)) v
+  pub owned : answer ≡ true → OwnedBy rs ls n (v + 1) owners
+
+-- refusal 35: by rising parent, then by rising orphan
+abbrev pub children-judged : Proof → verdicts.Verdict
+children-judged p = scan (children-fit (plain p)) (λ _. 35) (length p) 0 accepted
+
+abbrev pub orphans-judged : Proof → verdicts.Verdict
+orphans-judged p = scan (adopted (plain p)) (λ _. 35) (length p) 0 accepted
+
+abbrev pub tree-judged : Proof → verdicts.Verdict
+tree-judged p = scan (children-fit (plain p)) (λ _. 35) (length p) 0 (orphans-judged p)
+
+-- what a stage answers, and the table that it leaves
+pub record Filled (stage : Proof → verdicts.Verdict) (rs ls : List ℕ) (n : ℕ) (answer : Verdict) (owners : List ℕ) : Type 0 where
+  pub answers : (ss cs : List ℕ) → shown answer ≡ stage (proofOf rs ls ss cs n)
+  pub owned : answer ≡ Accepted → OwnedBy rs ls n n owners
+
+-- every node below n but 0 has a parent, with a smaller number
+abbrev pub Parented : List ℕ → ℕ → Type 0
+Parented owners n = (w : ℕ) → 0 < w → w < n → (0 < getD owners w 0) × (getD owners w 0 ≤ w)

@@ -1,0 +1,187 @@
+// Refusals 35 to 39 over tables in plain numbers, in document 01's order: 35; 36; 37 or 38 by rising node; 39 by rising leaf.
+ghost use mathlib.Core.Path.{_≡_};
+ghost use Prim.Native.Nat.{ℕ, _<_, _≤_};
+ghost use lib.ListN.{getD, take};
+ghost use Rattle.verdict.specs.Shown.{shown};
+ghost use Rattle.formula.specs.Plain.{tableOf};
+ghost use Rattle.formula.specs.PlainNodes.{proofOf};
+ghost use Rattle.rules.specs.View.{plain};
+ghost use Rattle.rules.specs.Judge.{keeps, judge as judged};
+ghost use Rattle.rules.specs.Placed.{Members};
+ghost use Rattle.rules.specs.Judged.{Judged};
+ghost use Rattle.rules.specs.JudgeStages.{Ready, Laid, rules-judged, tree-rules-judged};
+ghost use Rattle.rules.specs.Owners.{OwnedBy, Parented};
+use super::kept::kept;
+use super::loops::companion_fits;
+use super::loops::fill_flags;
+use super::loops::judge_loops;
+use super::sequents::root_is_claim;
+use super::sequents::same_sequent;
+use super::tree::fill_owners;
+use super::tree::wide;
+use formula::Rule;
+use verdict::Verdict;
+
+// Whether node v keeps its rule, back leaves included.
+fn node_kept(
+    kinds: &[u8; 256],
+    a: &[u16; 256],
+    b: &[u16; 256],
+    count: usize,
+    rules: &[u8; 1024],
+    links: &[u16; 4096],
+    starts: &[u16; 1025],
+    codes: &[u16; 24576],
+    nodes: usize,
+    owners: &[u16; 1024],
+    flags: &[bool; 1024],
+    v: usize,
+) -> bool
+    requires { ⌜ Ready (now kinds) (now a) (now b) count (now rules) (now links) (now starts) (now codes) nodes (now owners) (now flags) × (v < nodes) ⌝ }
+    ensures { λ r. ⌜ r ≡ keeps (tableOf (now (kinds .entry)) (now (a .entry)) (now (b .entry)) count) (plain (proofOf (now (rules .entry)) (now (links .entry)) (now (starts .entry)) (now (codes .entry)) nodes)) v ⌝ }
+{
+    if rules[v] != Rule::BACK {
+        return kept(kinds, a, b, count, rules, links, starts, codes, nodes, v);
+    }
+    if !companion_fits(rules, links, owners, flags, v) {
+        return false;
+    }
+    same_sequent(starts, codes, v, wide(links[4 * v + 3]))
+}
+
+// The number that a node earns which does not keep its rule.
+fn refusal_of(rule: u8) -> u16
+    ensures { λ r. ⌜ (rule ≡ 11 → r ≡ 38) × ((rule ≡ 11 → ⊥) → r ≡ 37) ⌝ }
+{
+    if rule == Rule::BACK {
+        return 38;
+    }
+    37
+}
+
+// 37 or 38, by rising node.
+fn judge_rules(
+    kinds: &[u8; 256],
+    a: &[u16; 256],
+    b: &[u16; 256],
+    count: usize,
+    rules: &[u8; 1024],
+    links: &[u16; 4096],
+    starts: &[u16; 1025],
+    codes: &[u16; 24576],
+    nodes: usize,
+    owners: &[u16; 1024],
+    flags: &[bool; 1024],
+) -> Verdict
+    requires { ⌜ Ready (now kinds) (now a) (now b) count (now rules) (now links) (now starts) (now codes) nodes (now owners) (now flags) ⌝ }
+    ensures { λ r. ⌜ shown r ≡ rules-judged (tableOf (now (kinds .entry)) (now (a .entry)) (now (b .entry)) count) (proofOf (now (rules .entry)) (now (links .entry)) (now (starts .entry)) (now (codes .entry)) nodes) ⌝ }
+{
+    let mut v: usize = 0;
+    while v < nodes {
+        if !node_kept(
+            kinds,
+            a,
+            b,
+            count,
+            rules,
+            links,
+            starts,
+            codes,
+            nodes,
+            owners,
+            flags,
+            v,
+        ) {
+            return Verdict::Refused {
+                number: refusal_of(rules[v]),
+                place: v as u16,
+            };
+        }
+        v += 1;
+    }
+    Verdict::Accepted
+}
+
+// 36 to 39 over a tree whose owners are known.
+fn judge_tree(
+    kinds: &[u8; 256],
+    a: &[u16; 256],
+    b: &[u16; 256],
+    count: usize,
+    members: &[u16; 24],
+    listed: usize,
+    rules: &[u8; 1024],
+    links: &[u16; 4096],
+    starts: &[u16; 1025],
+    codes: &[u16; 24576],
+    nodes: usize,
+    owners: &[u16; 1024],
+) -> Verdict
+    requires { ⌜ Judged (now kinds) (now a) (now b) count (now rules) (now links) (now starts) (now codes) nodes ⌝ }
+    requires { ⌜ Members (now members) listed × (1 ≤ nodes) ⌝ }
+    requires { ⌜ Parented (now owners) nodes × OwnedBy (now rules) (now links) nodes nodes (now owners) ⌝ }
+    ensures { λ r. ⌜ shown r ≡ tree-rules-judged (tableOf (now (kinds .entry)) (now (a .entry)) (now (b .entry)) count) (take listed (now (members .entry))) (proofOf (now (rules .entry)) (now (links .entry)) (now (starts .entry)) (now (codes .entry)) nodes) ⌝ }
+{
+    if !root_is_claim(members, listed, starts, codes) {
+        return Verdict::Refused {
+            number: 36,
+            place: 0,
+        };
+    }
+    let mut flags = [false; 1024];
+    fill_flags(rules, starts, codes, nodes, &mut flags);
+    match judge_rules(
+        kinds,
+        a,
+        b,
+        count,
+        rules,
+        links,
+        starts,
+        codes,
+        nodes,
+        owners,
+        &flags,
+    ) {
+        Verdict::Accepted => judge_loops(rules, links, nodes, owners, &flags),
+        Verdict::Refused { number, place } => Verdict::Refused { number, place },
+    }
+}
+
+// 35 to 39: the first fault of a decoded proof, or acceptance.
+pub fn judge(
+    kinds: &[u8; 256],
+    a: &[u16; 256],
+    b: &[u16; 256],
+    count: usize,
+    members: &[u16; 24],
+    listed: usize,
+    rules: &[u8; 1024],
+    links: &[u16; 4096],
+    starts: &[u16; 1025],
+    codes: &[u16; 24576],
+    nodes: usize,
+) -> Verdict
+    requires { ⌜ Laid (now kinds) (now a) (now b) count (now rules) (now links) (now starts) (now codes) nodes ⌝ }
+    requires { ⌜ Members (now members) listed ⌝ }
+    ensures { λ r. ⌜ shown r ≡ judged (tableOf (now (kinds .entry)) (now (a .entry)) (now (b .entry)) count) (take listed (now (members .entry))) (proofOf (now (rules .entry)) (now (links .entry)) (now (starts .entry)) (now (codes .entry)) nodes) ⌝ }
+{
+    let mut owners = [0u16; 1024];
+    match fill_owners(rules, links, nodes, &mut owners) {
+        Verdict::Accepted => judge_tree(
+            kinds,
+            a,
+            b,
+            count,
+            members,
+            listed,
+            rules,
+            links,
+            starts,
+            codes,
+            nodes,
+            &owners,
+        ),
+        Verdict::Refused { number, place } => Verdict::Refused { number, place },
+    }
+}
