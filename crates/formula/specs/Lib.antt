@@ -27,6 +27,7 @@ pub mod Plain
 pub mod Columns
 pub mod PlainNodes
 pub mod NodeColumns
+pub mod CodeCounts
 -- what the program computes, by kind numbers and by sets of names in words
 pub mod FieldLaws
 pub mod KindShapes

@@ -117,7 +117,7 @@ module _ (p : Proof) (v : ℕ) (h : v < length p) where
   principal-stands : (ls : List ℕ) → getD (written (linksOf p) ls) (4 * v) 0 ≡ node p v .principal
   principal-stands ls = let e : 4 * v ≡ 4 * v + 0 = omega arith in ap (λ (i : ℕ). getD (written (linksOf p) ls) i 0) e ∙ link-stands ls 0 (omega arith)
 
-start-stands : (p : Proof) (ss : List ℕ) (v : ℕ) → v ≤ length p → getD (written (startsOf p) ss) v 0 ≡ length (allCodes (take v p))
+pub start-stands : (p : Proof) (ss : List ℕ) (v : ℕ) → v ≤ length p → getD (written (startsOf p) ss) v 0 ≡ length (allCodes (take v p))
 unfolding startsOf
 start-stands p ss v h =
     let left = drop (length (startsOf p)) ss in

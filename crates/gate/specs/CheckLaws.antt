@@ -19,7 +19,7 @@ module _ (claim proof : List ℕ) where
   check-claim h = ap (λ (r : Reading (Table × List ℕ)). afterClaim r proof) h
 
   module _ (es : Table) (ms : List ℕ) (read : readClaim claim ≡ good (es, ms)) where
-    past-claim : check claim proof ≡ afterTable (judgeTable es) (afterProof es ms (readProof es proof))
+    pub past-claim : check claim proof ≡ afterTable (judgeTable es) (afterProof es ms (readProof es proof))
     unfolding check
     past-claim = ap (λ (r : Reading (Table × List ℕ)). afterClaim r proof) read
 

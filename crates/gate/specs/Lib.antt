@@ -17,3 +17,4 @@ pub mod PresentLaws
 pub mod Demands
 pub mod Numbered
 pub mod Single
+pub mod Compose

@@ -1,4 +1,4 @@
--- The fields follow each other by the bits of the rule, so each stands where the definition reads it. 
+-- The fields follow each other by the bits of the rule, so each stands where the definition reads it.
 use native.Mathlib.Omega.{arith}
 use mathlib.Core.Path.{_≡_, ap}
 use mathlib.Core.Bool.{Bool}

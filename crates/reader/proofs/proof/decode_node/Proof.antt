@@ -1,4 +1,4 @@
--- The place after the fields is the one where the definition looks for the count and the codes. 
+-- The place after the fields is the one where the definition looks for the count and the codes.
 use native.Mathlib.Omega.{arith}
 use mathlib.Core.Path.{_≡_, refl, ap, _∙_}
 use mathlib.Core.List.{List}

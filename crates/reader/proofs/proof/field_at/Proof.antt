@@ -1,4 +1,4 @@
--- A field that stands is the number at its place. 
+-- A field that stands is the number at its place.
 use native.Mathlib.Omega.{arith}
 use borrow.Author.Needs.{needs}
 use Rattle.reader.proofs.proof.field_at.Statement.{statement}

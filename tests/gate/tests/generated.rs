@@ -1,0 +1,110 @@
+//! Random and damaged files: the gate and the reference agree on each.
+//! `GATE_FILES` sets how many, `GATE_SEED` the seed.
+
+use reference::{describe, generate};
+
+fn setting(name: &str, default: u64) -> u64 {
+    match std::env::var(name) {
+        Ok(value) => value.parse().expect("a number"),
+        Err(_) => default,
+    }
+}
+
+#[test]
+fn random_and_damaged_files_agree() {
+    let files = setting("GATE_FILES", 50_000);
+    let mut accepted = 0u64;
+    for (index, record) in generate::checks(setting("GATE_SEED", 1))
+        .take(files as usize)
+        .enumerate()
+    {
+        let got = gate_tests::check(&record.claim, &record.proof);
+        assert_eq!(
+            describe(got),
+            describe(record.answer),
+            "generated pair {index}"
+        );
+        accepted += u64::from(got == 0);
+    }
+    assert!(
+        accepted * 10 > files,
+        "too few accepted proofs: {accepted} of {files}"
+    );
+    println!("gate: {files} generated pairs agree, {accepted} accepted");
+}
+
+#[test]
+fn proofs_that_keep_every_rule_are_accepted() {
+    for (claim, proof) in generate::accepted(setting("GATE_SEED", 1)).take(2_000) {
+        assert_eq!(gate_tests::check(&claim, &proof), 0);
+    }
+}
+
+#[test]
+fn every_cut_of_a_good_pair_agrees() {
+    for (claim, proof) in generate::accepted(7).take(20) {
+        for length in 0..claim.len() {
+            let cut = &claim[..length];
+            assert_eq!(
+                gate_tests::check(cut, &proof),
+                reference::check(cut, &proof)
+            );
+        }
+        for length in 0..proof.len() {
+            let cut = &proof[..length];
+            assert_eq!(
+                gate_tests::check(&claim, cut),
+                reference::check(&claim, cut)
+            );
+        }
+    }
+}
+
+#[test]
+fn every_map_with_every_kind_and_rule_agrees() {
+    let (claim, proof) = generate::accepted(11).next().expect("a pair");
+    for pair in 0..=u16::MAX {
+        let [map, second] = pair.to_le_bytes();
+        let mut other = claim.clone();
+        other[6] = map;
+        other[7] = second;
+        assert_eq!(
+            gate_tests::check(&other, &proof),
+            reference::check(&other, &proof)
+        );
+        let mut other = proof.clone();
+        other[6] = map;
+        other[7] = second;
+        assert_eq!(
+            gate_tests::check(&claim, &other),
+            reference::check(&claim, &other)
+        );
+    }
+}
+
+#[test]
+fn long_files_and_large_fields_agree() {
+    for (claim, proof) in generate::accepted(13).take(50) {
+        let mut long = claim.clone();
+        long.resize(70_000, 0xFF);
+        assert_eq!(
+            gate_tests::check(&long, &proof),
+            reference::check(&long, &proof)
+        );
+        let mut long = proof.clone();
+        long.resize(200_000, 1);
+        assert_eq!(
+            gate_tests::check(&claim, &long),
+            reference::check(&claim, &long)
+        );
+        for at in 0..proof.len() - 1 {
+            let mut other = proof.clone();
+            other[at] = 0xFF;
+            other[at + 1] = 0xFF;
+            assert_eq!(
+                gate_tests::check(&claim, &other),
+                reference::check(&claim, &other)
+            );
+        }
+    }
+}
