@@ -8,6 +8,8 @@ use native.Mathlib.Numerals.{add-one}
 use native.Mathlib.Omega.{arith}
 use lib.ListN.{length, getD, take, drop, length-append, length-drop}
 use lib.Seq.{take-append-seam}
+use mir.Syntax.{w8}
+use mir.Val.{Fits}
 use Rattle.verdict.specs.Verdict as verdicts
 use Rattle.verdict.specs.Verdict.{Verdict, accepted}
 use Rattle.verdict.specs.VerdictLaws.{accepted-not-refused}
@@ -15,6 +17,7 @@ use Rattle.verdict.specs.Lists.{written}
 use Rattle.verdict.specs.Sets.{elements}
 use Rattle.verdict.specs.Shown.{shown}
 use Rattle.encoding.specs.Encode.{Bytes}
+use Rattle.encoding.specs.ByteLaws.{bytes-of}
 use Rattle.encoding.specs.File.{Reading, refused, good}
 use Rattle.encoding.specs.Outcome.{verdictOf}
 use Rattle.formula.specs.Table.{Table}
@@ -46,6 +49,10 @@ use Rattle.rules.specs.JudgeStages.{Laid}
 use Rattle.gate.specs.Check.{Checked, afterProof, afterTable, answer, verdict}
 use Rattle.gate.specs.CheckLaws.{past-claim, check-claim, verdict-unread}
 use Rattle.gate.specs.CheckExact.{given}
+
+-- a lent slice of bytes is a byte string
+pub lent-bytes : (s : List ℕ) → ((i : ℕ) → Fits w8 (getD s i 0)) → Bytes s
+lent-bytes s h = bytes-of s (λ i l. h i .fits)
 
 -- what a claim that was read leaves in plain numbers
 pub record ClaimHeld (n : ℕ) (mem : List ℕ) (k : ℕ) : Type 0 where
@@ -115,6 +122,13 @@ module _ (ks xs ys : List ℕ) (n : ℕ) (ms s : List ℕ) {r : ProofRead} {rs�
 
     pub read-judged : answer (afterProof t ms (readProof t s)) ≡ judge t ms (proofOf rs ls ss cs (r .nodes))
     read-judged = ap (λ (g : Reading Proof). answer (afterProof t ms g)) was ∙ ap (judge t ms) (sym proof-is)
+
+-- the table's refusal stands, and past the table the proof is read
+pub table-refused : {v : Verdict} (next : Checked) {n q : ℕ} → v ≡ verdicts.refused n q → answer (afterTable v next) ≡ verdicts.refused n q
+table-refused next h = rw h refl
+
+pub table-accepted : {v : Verdict} (next : Checked) → v ≡ accepted → answer (afterTable v next) ≡ answer next
+table-accepted next h = rw h refl
 
 -- the claim by bytes
 module _ (claim proof : List ℕ) {w : ClaimRead} {ks₀ ks xs₀ xs ys₀ ys ms₀ ms : List ℕ} (read : Answered (readClaim claim) w ks₀ ks xs₀ xs ys₀ ys ms₀ ms) where

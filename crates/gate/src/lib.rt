@@ -4,6 +4,8 @@ ghost use Rattle.gate.specs.GateState.{opening, closing, taking};
 ghost use Rattle.gate.specs.Plain.{stateOf, Stepped, TookStep, refusedWith, movedTo, deniedWith};
 use verdict::Verdict;
 
+pub mod check;
+
 pub struct State {
     pub phase: u8,
     pub tag: u32,
