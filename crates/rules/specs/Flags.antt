@@ -47,9 +47,11 @@ pub record WalkedUp (rs owners : List ℕ) (flags : List Bool) (leaf link : ℕ)
 abbrev pub companion-fits : Proof → ℕ → Bool
 companion-fits p v = ancestor (plain p) (node p v .back) v && eqb (node p (node p v .back) .rule) Rule.D
 
-pub record Companion (rs ls owners : List ℕ) (flags : List Bool) (v : ℕ) (answer : Bool) : Type 0 where
+-- what one walk says of a back leaf: its link, and its loop path
+pub record Companion (rs ls owners : List ℕ) (flags : List Bool) (v : ℕ) (answer good : Bool) : Type 0 where
   pub above : answer ≡ true → getD ls (4 * v + 3) 0 < v
   pub fits : (p : Proof) → Noted p rs owners flags → Linked p ls → v < length p → answer ≡ companion-fits p v
+  pub loops : (p : Proof) → Noted p rs owners flags → Linked p ls → v < length p → getD rs v 0 ≡ Rule.BACK → good ≡ loop (plain p) v
 
 -- refusal 39: by rising leaf
 abbrev pub loops-judged : Proof → Verdict

@@ -20,14 +20,14 @@ use Rattle.formula.specs.WellFormed.{WellFormed}
 use Rattle.rules.specs.Tree.{Tree}
 use Rattle.rules.specs.Given.{Given}
 use Rattle.rules.specs.View.{plain}
-use Rattle.rules.specs.Judge.{codes, keeps, rule-number, back-kept, root, judge}
+use Rattle.rules.specs.Judge.{codes, keeps, rule-number, back-kept, loop, root, judge}
 use Rattle.rules.specs.Steps.{keeps-leaf}
 use Rattle.rules.specs.JudgeExact.{judge-is, claim-stage, loops-stage}
 use Rattle.rules.specs.ScanLaws.{Passed, scan-passes, scan-fails, after, scan-then}
 use Rattle.rules.specs.Owners.{Parented, Filled, tree-judged}
 use Rattle.rules.specs.TreeStages.{tree-then, accepted-tree}
 use Rattle.rules.specs.Flags.{Noted, Companion, companion-fits, loops-judged}
-use Rattle.rules.specs.LoopStages.{linked-of, back-kept-is}
+use Rattle.rules.specs.LoopStages.{linked-of, back-kept-is, no-leaf}
 use Rattle.rules.specs.Placed.{Placed, Members}
 use Rattle.rules.specs.Judged.{Judged, placed, codes-is}
 
@@ -35,9 +35,13 @@ use Rattle.rules.specs.Judged.{Judged, placed, codes-is}
 abbrev pub rules-judged : Table → Proof → Verdict
 rules-judged t p = scan (keeps t (plain p)) (rule-number (plain p)) (length p) 0 accepted
 
--- 36, then those, then 39
+-- those, and then 39 by rising leaf
+abbrev pub nodes-judged : Table → Proof → Verdict
+nodes-judged t p = after (rules-judged t p) (loops-judged p)
+
+-- 36, then those
 abbrev pub tree-rules-judged : Table → List ℕ → Proof → Verdict
-tree-rules-judged t ms p = pick (root ms (plain p)) (after (rules-judged t p) (loops-judged p)) (refused 36 0)
+tree-rules-judged t ms p = pick (root ms (plain p)) (nodes-judged t p) (refused 36 0)
 
 pub judge-stages : (t : Table) (ms : List ℕ) (p : Proof) → judge t ms p ≡ after (tree-judged p) (tree-rules-judged t ms p)
 judge-stages t ms p =
@@ -97,9 +101,12 @@ pub laid-judged : {ks xs ys : List ℕ} {n : ℕ} {rs ls ss cs : List ℕ} {m : 
 laid-judged L T = record { entries = L .entries; nodes = L .nodes .1; codes = L .codes; rising = L .rising; well = L .well; given = L .given; tree = T }
 
 module _ {ks xs ys : List ℕ} {n : ℕ} {rs ls ss cs : List ℕ} {m : ℕ} {owners : List ℕ} {flags : List Bool} (R : Ready ks xs ys n rs ls ss cs m owners flags) (t : Table) (v : ℕ) (real : v < m)
-    (leaf : getD rs v 0 ≡ Rule.BACK) {answer : Bool} (companion : Companion rs ls owners flags v answer) where
+    (leaf : getD rs v 0 ≡ Rule.BACK) {answer good : Bool} (companion : Companion rs ls owners flags v answer good) where
   fits-is : answer ≡ companion-fits (proofOf rs ls ss cs m) v
   fits-is = companion .fits (proofOf rs ls ss cs m) (R .noted) (linked-of rs ls ss cs m) (rw proofOf-length real)
+
+  pub leaf-path : good ≡ loop (plain (proofOf rs ls ss cs m)) v
+  leaf-path = companion .loops (proofOf rs ls ss cs m) (R .noted) (linked-of rs ls ss cs m) (rw proofOf-length real) leaf
 
   pub leaf-refused : answer ≡ false → keeps t (plain (proofOf rs ls ss cs m)) v ≡ false
   leaf-refused h = leaf-without (R .judged) t v real leaf (sym fits-is ∙ h)
@@ -110,6 +117,11 @@ module _ {ks xs ys : List ℕ} {n : ℕ} {rs ls ss cs : List ℕ} {m : ℕ} {own
 
   pub leaf-compared : answer ≡ true → keeps t (plain (proofOf rs ls ss cs m)) v ≡ same (codesAt ss cs v) (codesAt ss cs (getD ls (4 * v + 3) 0))
   leaf-compared h = leaf-with (R .judged) t v real leaf (sym fits-is ∙ h) (companion-inside h)
+
+-- only a back leaf has a loop path
+pub other-path : {ks xs ys : List ℕ} {n : ℕ} {rs ls ss cs : List ℕ} {m : ℕ} {owners : List ℕ} {flags : List Bool} → Ready ks xs ys n rs ls ss cs m owners flags → (v : ℕ) → v < m
+    → (getD rs v 0 ≡ Rule.BACK → ⊥) → true ≡ loop (plain (proofOf rs ls ss cs m)) v
+other-path {rs = rs} {ls = ls} {ss = ss} {cs = cs} {m = m} {owners = owners} {flags = flags} R v real e = sym (no-leaf (proofOf rs ls ss cs m) rs ls owners flags v (R .noted) (linked-of rs ls ss cs m) (rw proofOf-length real) e)
 
 -- the scan of 37 and 38 as a loop walks it
 module _ {ks xs ys : List ℕ} {n : ℕ} {rs ls ss cs : List ℕ} {m : ℕ} (J : Judged ks xs ys n rs ls ss cs m) (t : Table) (v : ℕ) where
@@ -128,16 +140,23 @@ module _ {ks xs ys : List ℕ} {n : ℕ} {rs ls ss cs : List ℕ} {m : ℕ} (J :
       number-is (yes e) = number-leaf J t v real e ∙ sym (leaf e)
       number-is (no e) = number-other J t v real e ∙ sym (other e)
 
+-- and then 39
+module _ (rs ls ss cs : List ℕ) (m : ℕ) (t : Table) where
+  pub nodes-fail : {k q : ℕ} → rules-judged t (proofOf rs ls ss cs m) ≡ refused k q → nodes-judged t (proofOf rs ls ss cs m) ≡ refused k q
+  nodes-fail h = ap (λ (x : Verdict). after x (loops-judged (proofOf rs ls ss cs m))) h
+
+  pub nodes-pass : rules-judged t (proofOf rs ls ss cs m) ≡ accepted → nodes-judged t (proofOf rs ls ss cs m) ≡ scan (loop (plain (proofOf rs ls ss cs m))) (λ _. 39) m 0 accepted
+  nodes-pass h =
+      ap (λ (x : Verdict). after x (loops-judged (proofOf rs ls ss cs m))) h
+      ∙ ap (λ (x : ℕ). scan (loop (plain (proofOf rs ls ss cs m))) (λ _. 39) x 0 accepted) (proofOf-length rs ls ss cs m)
+
 -- 36 to 39 by what each stage found
 module _ (t : Table) (ms : List ℕ) (p : Proof) where
   pub other-root : root ms (plain p) ≡ false → tree-rules-judged t ms p ≡ refused 36 0
   other-root h = rw h refl
 
-  pub rules-refused : {k q : ℕ} → root ms (plain p) ≡ true → rules-judged t p ≡ refused k q → tree-rules-judged t ms p ≡ refused k q
-  rules-refused h r = rw (h, r) refl
-
-  pub rules-accepted : root ms (plain p) ≡ true → rules-judged t p ≡ accepted → tree-rules-judged t ms p ≡ loops-judged p
-  rules-accepted h r = rw (h, r) refl
+  pub claim-root : root ms (plain p) ≡ true → tree-rules-judged t ms p ≡ nodes-judged t p
+  claim-root h = rw h refl
 
   -- 35 first
   pub tree-bad : {k q : ℕ} → tree-judged p ≡ refused k q → judge t ms p ≡ refused k q

@@ -1,20 +1,22 @@
 // Refusals 35 to 39 over tables in plain numbers, in document 01's order: 35; 36; 37 or 38 by rising node; 39 by rising leaf.
 ghost use mathlib.Core.Path.{_≡_};
-ghost use Prim.Native.Nat.{ℕ, _<_, _≤_};
+ghost use mathlib.Core.Bool.{Bool};
+ghost use Prim.Native.Nat.{ℕ, _+_, _<_, _≤_};
 ghost use lib.ListN.{getD, take};
+ghost use Rattle.verdict.specs.Verdict.{accepted, scan};
 ghost use Rattle.verdict.specs.Shown.{shown};
 ghost use Rattle.formula.specs.Plain.{tableOf};
 ghost use Rattle.formula.specs.PlainNodes.{proofOf};
 ghost use Rattle.rules.specs.View.{plain};
-ghost use Rattle.rules.specs.Judge.{keeps, judge as judged};
+ghost use Rattle.rules.specs.Judge.{keeps, loop, judge as judged};
+ghost use Rattle.rules.specs.ScanLaws.{FirstBad};
 ghost use Rattle.rules.specs.Placed.{Members};
 ghost use Rattle.rules.specs.Judged.{Judged};
-ghost use Rattle.rules.specs.JudgeStages.{Ready, Laid, rules-judged, tree-rules-judged};
+ghost use Rattle.rules.specs.JudgeStages.{Ready, Laid, nodes-judged, tree-rules-judged};
 ghost use Rattle.rules.specs.Owners.{OwnedBy, Parented};
 use super::kept::kept;
-use super::loops::companion_fits;
+use super::loops::companion;
 use super::loops::fill_flags;
-use super::loops::judge_loops;
 use super::sequents::root_is_claim;
 use super::sequents::same_sequent;
 use super::tree::fill_owners;
@@ -22,8 +24,14 @@ use super::tree::wide;
 use formula::Rule;
 use verdict::Verdict;
 
-// Whether node v keeps its rule, back leaves included.
-fn node_kept(
+// What is said of a node: it keeps its rule; it is no back leaf, or its loop path is good.
+pub struct Stands {
+    pub kept: bool,
+    pub good: bool,
+}
+
+// Whether node v keeps its rule, back leaves included, and whether its loop path is good.
+fn node_stands(
     kinds: &[u8; 256],
     a: &[u16; 256],
     b: &[u16; 256],
@@ -36,17 +44,27 @@ fn node_kept(
     owners: &[u16; 1024],
     flags: &[bool; 1024],
     v: usize,
-) -> bool
+) -> Stands
     requires { ⌜ Ready (now kinds) (now a) (now b) count (now rules) (now links) (now starts) (now codes) nodes (now owners) (now flags) × (v < nodes) ⌝ }
-    ensures { λ r. ⌜ r ≡ keeps (tableOf (now (kinds .entry)) (now (a .entry)) (now (b .entry)) count) (plain (proofOf (now (rules .entry)) (now (links .entry)) (now (starts .entry)) (now (codes .entry)) nodes)) v ⌝ }
+    ensures { λ r. ⌜ r .kept ≡ keeps (tableOf (now (kinds .entry)) (now (a .entry)) (now (b .entry)) count) (plain (proofOf (now (rules .entry)) (now (links .entry)) (now (starts .entry)) (now (codes .entry)) nodes)) v ⌝ }
+    ensures { λ r. ⌜ r .good ≡ loop (plain (proofOf (now (rules .entry)) (now (links .entry)) (now (starts .entry)) (now (codes .entry)) nodes)) v ⌝ }
 {
     if rules[v] != Rule::BACK {
-        return kept(kinds, a, b, count, rules, links, starts, codes, nodes, v);
+        let kept = kept(kinds, a, b, count, rules, links, starts, codes, nodes, v);
+        return Stands { kept, good: true };
     }
-    if !companion_fits(rules, links, owners, flags, v) {
-        return false;
+    let walked = companion(rules, links, owners, flags, v);
+    if !walked.found {
+        return Stands {
+            kept: false,
+            good: walked.good,
+        };
     }
-    same_sequent(starts, codes, v, wide(links[4 * v + 3]))
+    let kept = same_sequent(starts, codes, v, wide(links[4 * v + 3]));
+    Stands {
+        kept,
+        good: walked.good,
+    }
 }
 
 // The number that a node earns which does not keep its rule.
@@ -59,8 +77,36 @@ fn refusal_of(rule: u8) -> u16
     37
 }
 
-// 37 or 38, by rising node.
-fn judge_rules(
+// The first leaf so far whose loop path is not good, or no node.
+fn first_bad(nodes: usize, v: usize, good: bool, bad: usize) -> usize
+    requires { ⌜ v < nodes ⌝ }
+    ensures { λ r. ⌜ ((ok : ℕ → Bool) → good ≡ ok v → FirstBad ok nodes v bad → FirstBad ok nodes (v + 1) r) ⌝ }
+{
+    if bad < nodes {
+        return bad;
+    }
+    if good {
+        return bad;
+    }
+    v
+}
+
+// 39 at the first leaf whose loop path is not good.
+fn judge_loops(nodes: usize, bad: usize) -> Verdict
+    requires { ⌜ nodes ≤ 1024 ⌝ }
+    ensures { λ r. ⌜ ((ok : ℕ → Bool) → FirstBad ok nodes nodes bad → shown r ≡ scan ok (λ _. 39) nodes 0 accepted) ⌝ }
+{
+    if bad < nodes {
+        return Verdict::Refused {
+            number: 39,
+            place: bad as u16,
+        };
+    }
+    Verdict::Accepted
+}
+
+// 37 or 38, by rising node; then 39, by rising leaf. Each leaf is walked up once, and 39 waits until no node has earned 37 or 38.
+fn judge_nodes(
     kinds: &[u8; 256],
     a: &[u16; 256],
     b: &[u16; 256],
@@ -74,11 +120,12 @@ fn judge_rules(
     flags: &[bool; 1024],
 ) -> Verdict
     requires { ⌜ Ready (now kinds) (now a) (now b) count (now rules) (now links) (now starts) (now codes) nodes (now owners) (now flags) ⌝ }
-    ensures { λ r. ⌜ shown r ≡ rules-judged (tableOf (now (kinds .entry)) (now (a .entry)) (now (b .entry)) count) (proofOf (now (rules .entry)) (now (links .entry)) (now (starts .entry)) (now (codes .entry)) nodes) ⌝ }
+    ensures { λ r. ⌜ shown r ≡ nodes-judged (tableOf (now (kinds .entry)) (now (a .entry)) (now (b .entry)) count) (proofOf (now (rules .entry)) (now (links .entry)) (now (starts .entry)) (now (codes .entry)) nodes) ⌝ }
 {
+    let mut bad = nodes;
     let mut v: usize = 0;
     while v < nodes {
-        if !node_kept(
+        let stands = node_stands(
             kinds,
             a,
             b,
@@ -91,15 +138,17 @@ fn judge_rules(
             owners,
             flags,
             v,
-        ) {
+        );
+        if !stands.kept {
             return Verdict::Refused {
                 number: refusal_of(rules[v]),
                 place: v as u16,
             };
         }
+        bad = first_bad(nodes, v, stands.good, bad);
         v += 1;
     }
-    Verdict::Accepted
+    judge_loops(nodes, bad)
 }
 
 // 36 to 39 over a tree whose owners are known.
@@ -130,7 +179,7 @@ fn judge_tree(
     }
     let mut flags = [false; 1024];
     fill_flags(rules, starts, codes, nodes, &mut flags);
-    match judge_rules(
+    judge_nodes(
         kinds,
         a,
         b,
@@ -142,10 +191,7 @@ fn judge_tree(
         nodes,
         owners,
         &flags,
-    ) {
-        Verdict::Accepted => judge_loops(rules, links, nodes, owners, &flags),
-        Verdict::Refused { number, place } => Verdict::Refused { number, place },
-    }
+    )
 }
 
 // 35 to 39: the first fault of a decoded proof, or acceptance.

@@ -104,63 +104,28 @@ pub fn walk(
     }
 }
 
-// Whether the back link of v is a proper ancestor of rule 10. The two sequents are not compared here.
-pub fn companion_fits(
+// Whether the back link of v is a proper ancestor of rule 10, and whether the loop path of v is good: one walk says both. The two
+// sequents are not compared here.
+pub fn companion(
     rules: &[u8; 1024],
     links: &[u16; 4096],
     owners: &[u16; 1024],
     flags: &[bool; 1024],
     v: usize,
-) -> bool
+) -> Walked
     requires { ⌜ (v < 1024) × Parented (now owners) (v + 1) ⌝ }
-    ensures { λ r. ⌜ Companion (now (rules .entry)) (now (links .entry)) (now (owners .entry)) (now (flags .entry)) v r ⌝ }
+    ensures { λ r. ⌜ Companion (now (rules .entry)) (now (links .entry)) (now (owners .entry)) (now (flags .entry)) v (r .found) (r .good) ⌝ }
 {
     let link = wide(links[4 * v + 3]);
     let walked = walk(rules, owners, flags, v, link);
     if !walked.found {
-        return false;
+        return Walked {
+            found: false,
+            good: walked.good,
+        };
     }
-    rules[link] == Rule::D
-}
-
-// Whether the loop path of v is good, if v is a back leaf.
-fn loop_good(
-    rules: &[u8; 1024],
-    links: &[u16; 4096],
-    owners: &[u16; 1024],
-    flags: &[bool; 1024],
-    v: usize,
-) -> bool
-    requires { ⌜ (v < 1024) × Parented (now owners) (v + 1) ⌝ }
-    ensures { λ r. ⌜ ((p : Proof) → Noted p (now (rules .entry)) (now (owners .entry)) (now (flags .entry)) → Linked p (now (links .entry)) → v < length p → r ≡ loop (plain p) v) ⌝ }
-{
-    if rules[v] != Rule::BACK {
-        return true;
+    Walked {
+        found: rules[link] == Rule::D,
+        good: walked.good,
     }
-    let walked = walk(rules, owners, flags, v, wide(links[4 * v + 3]));
-    walked.good
-}
-
-// Refusal 39, by rising leaf.
-pub fn judge_loops(
-    rules: &[u8; 1024],
-    links: &[u16; 4096],
-    nodes: usize,
-    owners: &[u16; 1024],
-    flags: &[bool; 1024],
-) -> Verdict
-    requires { ⌜ (nodes ≤ 1024) × Parented (now owners) nodes ⌝ }
-    ensures { λ r. ⌜ ((p : Proof) → Noted p (now (rules .entry)) (now (owners .entry)) (now (flags .entry)) → Linked p (now (links .entry)) → length p ≡ nodes → shown r ≡ loops-judged p) ⌝ }
-{
-    let mut leaf: usize = 0;
-    while leaf < nodes {
-        if !loop_good(rules, links, owners, flags, leaf) {
-            return Verdict::Refused {
-                number: 39,
-                place: leaf as u16,
-            };
-        }
-        leaf += 1;
-    }
-    Verdict::Accepted
 }

@@ -1,22 +1,19 @@
--- 36, then each node's rule, then each loop path
-use mathlib.Core.Path.{_≡_, sym, ap, _∙_}
+-- 36, then each node
+use mathlib.Core.Path.{_≡_, sym, _∙_}
 use mathlib.Core.Bool.{true}
 use mathlib.Core.List.{List}
 use Prim.Native.Nat.{ℕ}
-use native.Mathlib.Omega.{arith}
 use lib.ListN.{take}
-use borrow.Author.Needs.{needs}
 use borrow.Author.Tests.{not-true, not-false}
-use Rattle.verdict.specs.Shown.{shown}
 use Rattle.formula.specs.Table.{Table}
 use Rattle.formula.specs.Plain.{tableOf}
 use Rattle.formula.specs.Nodes.{Proof}
-use Rattle.formula.specs.PlainNodes.{proofOf, proofOf-length}
+use Rattle.formula.specs.PlainNodes.{proofOf}
 use Rattle.rules.specs.View.{plain}
 use Rattle.rules.specs.Judge.{root}
 use Rattle.rules.specs.Judged.{placed}
-use Rattle.rules.specs.LoopStages.{noted-of, linked-of}
-use Rattle.rules.specs.JudgeStages.{other-root, rules-refused, rules-accepted}
+use Rattle.rules.specs.LoopStages.{noted-of}
+use Rattle.rules.specs.JudgeStages.{other-root, claim-root}
 use Rattle.rules.proofs.judge.judge_tree.Statement.{statement}
 use Rattle.rules.proofs.judge.judge_tree.Tie as tie
 
@@ -46,44 +43,19 @@ returns c =
 fill-flags-requires : tie.Need-fill-flags-requires
 fill-flags-requires c κs = (c .before .before .before .pre .0 .nodes, λ v h. c .before .before .before .pre .0 .rising v h .1)
 
-judge-rules-requires : tie.Need-judge-rules-requires
-judge-rules-requires c κs = record {
+judge-nodes-requires : tie.Need-judge-nodes-requires
+judge-nodes-requires c κs = record {
   judged = c .before .before .before .before .before .pre .0;
   parented = c .before .before .before .before .before .pre .1 .1 .0;
   noted = noted-of _ _ _ _ _ _ _ (c .before .before .before .before .before .pre .1 .1 .1 _ _) (c .before .fill-flags .ensures _);
 }
 
-enum-told : tie.Need-enum-told
-enum-told c = search needs
-
-judge-loops-requires : tie.Need-judge-loops-requires
-judge-loops-requires c κs = search needs
-
-enum-known-number : tie.Need-enum-known-number
-enum-known-number c = search needs
-
 returns-2 : tie.Need-returns-2
 returns-2 c =
-    let s = c .before .before .before .before .before .before .before .before .before .before in
-    let noted = noted-of _ _ _ _ _ _ _ (s .pre .1 .1 .1 _ _) (c .before .before .before .before .before .before .fill-flags .ensures _) in
-    c .judge-loops .ensures (proof s) noted (linked-of _ _ _ _ _) (proofOf-length _ _ _ _ _)
-    ∙ sym (rules-accepted (table s) (claim s) (proof s) (rooted (c .before .before .before .before .before .before .before .before)) (sym (c .before .before .before .before .judge-rules .ensures) ∙ ap shown (c .before .before .enum-told .given .1)))
-
-returns-3 : tie.Need-returns-3
-returns-3 c =
-    let s = c .before .before .before .before .before .before .before .before .before in
-    sym (rules-refused (table s) (claim s) (proof s) (rooted (c .before .before .before .before .before .before .before)) (sym (c .before .before .before .judge-rules .ensures) ∙ ap shown (c .before .number .given .1)))
+    let s = c .before .before .before .before .before .before in
+    c .judge-nodes .ensures ∙ sym (claim-root (table s) (claim s) (proof s) (rooted (c .before .before .before .before)))
 
 pub judge-tree-spec : {M : Type 1} → statement M
 judge-tree-spec =
     tie.close
-    (tie.spec
-    root-is-claim-requires
-    returns
-    fill-flags-requires
-    judge-rules-requires
-    enum-told
-    judge-loops-requires
-    enum-known-number
-    returns-2
-    returns-3)
+    (tie.spec root-is-claim-requires returns fill-flags-requires judge-nodes-requires returns-2)

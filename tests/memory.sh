@@ -1,0 +1,31 @@
+#!/usr/bin/env bash
+# The C call over the check vectors, with claim and proof in blocks of exactly
+# their lengths: right answers, and no read or write past the end of either.
+set -euo pipefail
+cd "$(dirname "$0")/.."
+
+archive=target/staticlib/libgate.a
+corpus=tests/vectors/base/check.bin
+if [ ! -f "$archive" ]; then
+    echo "memory: $archive is not there: build it first" >&2
+    exit 1
+fi
+
+scratch=$(mktemp -d)
+trap 'rm -rf "$scratch"' EXIT
+flags=(-std=c11 -Wall -Wextra -Werror -O1 -g)
+
+# The sanitizers instrument the driver alone: they vouch for its copies, for
+# what it frees, and for the memcpy and memset that the archive calls.
+cc "${flags[@]}" -fsanitize=address,undefined -fno-sanitize-recover=undefined \
+    tests/memory/driver.c "$archive" -o "$scratch/sanitized"
+echo "memory: sanitized driver"
+"$scratch/sanitized" "$corpus"
+
+# The archive's own reads and writes are compiled without checks, so it is
+# valgrind that watches them; it cannot run over a sanitized build. It sees the
+# ends of the claim and proof blocks, not of arrays inside the archive's frame:
+# nothing here watches those.
+cc "${flags[@]}" tests/memory/driver.c "$archive" -o "$scratch/plain"
+echo "memory: plain driver under valgrind"
+valgrind --error-exitcode=1 --quiet "$scratch/plain" "$corpus"

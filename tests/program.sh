@@ -1,0 +1,112 @@
+#!/usr/bin/env bash
+# The program as its user meets it: two files in the working folder, one line out.
+# The expected lines are the reference checker's.
+set -euo pipefail
+cd "$(dirname "$0")/.."
+
+program="$PWD/target/bin/focus"
+samples="$PWD/examples"
+if [ ! -x "$program" ]; then
+    echo "program: target/bin/focus is not there: build it first" >&2
+    exit 1
+fi
+
+scratch=$(mktemp -d)
+trap 'rm -rf "$scratch"' EXIT
+work="$scratch/work"
+passed=0
+failed=0
+
+# A fresh folder with the files of a sample, nu-of-box if none is named.
+fresh() {
+    rm -rf "$work"
+    mkdir "$work"
+    cp "$samples/${1:-nu-of-box}/claim.bin" "$samples/${1:-nu-of-box}/proof.bin" "$work"
+}
+
+# A hang or a crash must not pass on what was printed before it.
+run() {
+    status=0
+    (cd "$work" && timeout 10 "$program") >"$scratch/out" 2>"$scratch/err" </dev/null || status=$?
+    [ "$status" -lt 124 ]
+}
+
+# report NAME EXPECTED GOOD, where GOOD is yes or no
+report() {
+    if [ "$3" = yes ]; then
+        passed=$((passed + 1))
+        return
+    fi
+    failed=$((failed + 1))
+    echo "$1"
+    echo "  expected: $2"
+    echo "  got: stdout '$(head -c 300 "$scratch/out" | tr -d '\0')'," \
+        "stderr '$(head -c 300 "$scratch/err" | tr -d '\0')', status $status"
+}
+
+# Compared as bytes: the line and its newline, nothing else on either stream.
+verdict() {
+    local good=no
+    if run && printf '%s\n' "$2" | cmp -s - "$scratch/out" && [ ! -s "$scratch/err" ]; then
+        good=yes
+    fi
+    report "$1" "stdout '$2', stderr ''" "$good"
+}
+
+# A file that cannot be read earns no verdict: a loader must not take one for it.
+no_verdict() {
+    local good=no
+    if run && [ ! -s "$scratch/out" ] && [ "$(wc -l <"$scratch/err")" -eq 1 ] &&
+        [[ $(cat "$scratch/err") == "$2"* ]]; then
+        good=yes
+    fi
+    report "$1" "stdout '', stderr one line that begins with '$2'" "$good"
+}
+
+# A sample without a line here would go untested, so it fails.
+for folder in "$samples"/*/; do
+    sample=$(basename "$folder")
+    case "$sample" in
+        nu-of-box) line='accept' ;;
+        mu-of-box) line='refuse 38 at 3' ;;
+        mu-of-box-refocused) line='refuse 39 at 4' ;;
+        loop-without-box) line='refuse 39 at 1' ;;
+        *) line='(no line is written down for this sample)' ;;
+    esac
+    fresh "$sample"
+    verdict "sample $sample" "$line"
+done
+
+fresh
+: >"$work/claim.bin"
+verdict 'empty claim' 'refuse 10 at 0'
+
+fresh
+: >"$work/proof.bin"
+verdict 'empty proof' 'refuse 30 at 0'
+
+# Zeros after a good file, up to and past the sizes at which a buffer or a
+# two-byte length could cut them off. The place is the good file's length.
+for size in 65536 65537 100000; do
+    fresh
+    truncate -s "$size" "$work/claim.bin"
+    verdict "claim of $size bytes" 'refuse 11 at 22'
+
+    fresh
+    truncate -s "$size" "$work/proof.bin"
+    verdict "proof of $size bytes" 'refuse 31 at 38'
+done
+
+for file in claim.bin proof.bin; do
+    fresh
+    rm "$work/$file"
+    no_verdict "missing $file" "$file"
+
+    fresh
+    rm "$work/$file"
+    mkdir "$work/$file"
+    no_verdict "folder in place of $file" "$file"
+done
+
+echo "program: $passed passed, $failed failed"
+[ "$failed" -eq 0 ]
