@@ -17,3 +17,8 @@ pub mod FileLaws
 pub mod ByteLaws
 pub mod Places
 pub mod Known
+-- a program's walk over a file that it indexes
+pub mod FourPlaces
+pub mod Sequence
+pub mod Opening
+pub mod Walk

@@ -1,5 +1,9 @@
 pub mod Words
 pub mod WordLaws
+-- words by their bits, and models in plain numbers
+pub mod BitLaws
+pub mod StateWords
+pub mod PlainModel
 -- evaluation in few passes, and that it is each entry's own meaning
 pub mod TowardLaws
 pub mod Settled
@@ -11,3 +15,14 @@ pub mod TopLaws
 pub mod Reach
 pub mod Strategy
 pub mod StrategyLaws
+-- the code: a claim in plain numbers, and what each function makes of its words
+pub mod Fill
+pub mod Claim
+pub mod Ready
+pub mod Pass
+pub mod PassLaws
+pub mod Solve
+pub mod Tops
+pub mod Marks
+pub mod Evaluated
+pub mod EvaluatedLaws

@@ -6,12 +6,14 @@ use Prim.Native.Nat.{ℕ, zero, suc, _+_, _<_, _≤_}
 use native.Mathlib.Omega.{arith}
 use native.Mathlib.Decide.{ℕ-discrete}
 use lib.Dec.{eqb}
+use lib.ListN.{length}
 use borrow.Author.Tests.{eqb-true, eq-eqb, ne-eqb, not-true}
 use Rattle.formula.specs.Truth.{or-true, true-or}
 use Rattle.formula.specs.Table.{Table}
-use Rattle.formula.specs.Shape.{Shape, leaf, two, step, fix, name, shape, Operand}
+use Rattle.formula.specs.Shape.{Shape, leaf, two, step, fix, name, shape, Operand, Fixpoint}
 use Rattle.formula.specs.Free.{Free, named, inside}
 use Rattle.formula.specs.WellFormed.{WellFormed}
+use Rattle.formula.specs.TableLaws.{in-table}
 use Rattle.evaluator.specs.Top.{alone}
 use Rattle.evaluator.specs.TopLaws.{alone-none, not-alone}
 use Rattle.evaluator.specs.Strategy.{isOperand, grow, spread, reach}
@@ -170,3 +172,35 @@ module _ (t : Table) (wf : WellFormed t) (done : ℕ → Bool) (x : ℕ) where
                 (λ d. inr d) (reached .operands e c (omega arith) i o);
             names = λ e y i q. reached .free e y i (named q);
           }
+
+module _ (t : Table) (wf : WellFormed t) where
+  -- an operand of an entry without free names has none, if the entry is no fixpoint
+  pub operand-alone : (e c : ℕ) (v : Shape) → shape t e ≡ v → (Fixpoint v → ⊥) → Operand v c → alone t e ≡ true → alone t c ≡ true
+  operand-alone e c v q n o a = go (alone t c) refl
+    where
+      go : (i : Bool) → alone t c ≡ i → alone t c ≡ true
+      go true i = i
+      go false i = let (y, f) = not-alone t wf c i in absurd (alone-none t wf e a y (inside v q o (λ x _. n x) f))
+
+  -- what is not settled is a block, once the entries without free names are
+  pub rest-block : (done : ℕ → Bool) → ((c : ℕ) → c < length t → alone t c ≡ true → done c ≡ true) → Block t done (λ c. not (done c))
+  rest-block done D =
+      record {
+        apart = λ e h. not-so (done e) h;
+        operands = λ e c i o. at e c o (done c) refl;
+        names = λ e x i q. either x (done x) refl;
+      }
+    where
+      at : (e c : ℕ) → Operand (shape t e) c → (d : Bool) → done c ≡ d → ((not (done c) ≡ true) × (y : ℕ) × Free t c y) ⊎ (done c ≡ true)
+      at e c o true d = inr d
+      at e c o false d = let (y, f) = lone (alone t c) refl in inl (so-not (done c) d, y, f)
+        where
+          lone : (a : Bool) → alone t c ≡ a → (y : ℕ) × Free t c y
+          lone true a =
+              let l = in-table t e (λ q. subst (λ (v : Shape). Operand v c) q o) in
+              absurd (true≢false (sym (D c (omega (arith, l, wf .operands-below e c o)) a) ∙ d))
+          lone false a = not-alone t wf c a
+
+      either : (x : ℕ) (d : Bool) → done x ≡ d → (not (done x) ≡ true) ⊎ (done x ≡ true)
+      either x true d = inr d
+      either x false d = inl (so-not (done x) d)

@@ -10,10 +10,10 @@ use lib.ListN.{length}
 use borrow.Author.Tests.{eqb-true, eq-eqb, ne-eqb}
 use Rattle.formula.specs.Truth.{or-true, true-or}
 use Rattle.formula.specs.Table.{Table}
-use Rattle.formula.specs.Shape.{Shape, leaf, two, step, fix, name, never, Fix, mu, shape, Operand, Fixpoint}
-use Rattle.formula.specs.Free.{Free, named, inside}
+use Rattle.formula.specs.Shape.{Shape, leaf, two, step, fix, name, Fix, shape}
+use Rattle.formula.specs.Free.{named}
 use Rattle.formula.specs.WellFormed.{WellFormed}
-use Rattle.formula.specs.TableLaws.{past-end, in-table, fix-in, operand-below}
+use Rattle.formula.specs.TableLaws.{fix-in, operand-below}
 use Rattle.formula.specs.States.{Model, Set, Same, leafSet, twoSet, stepSet, start}
 use Rattle.formula.specs.StateLaws.{same-sym, same-trans, two-same, step-same}
 use Rattle.formula.specs.Bounds.{sum, sum-mono, sum-back, sum-two}
@@ -23,9 +23,9 @@ use Rattle.evaluator.specs.Settled.{formed}
 use Rattle.evaluator.specs.Block.{changesOf, begin, passes, changes, solve, room}
 use Rattle.evaluator.specs.BlockLaws.{formed-own, Block, solve-right, solve-passes, changes-room}
 use Rattle.evaluator.specs.Top.{alone}
-use Rattle.evaluator.specs.TopLaws.{alone-none, not-alone}
+use Rattle.evaluator.specs.TopLaws.{alone-none}
 use Rattle.evaluator.specs.Strategy.{State, settle, sweep, reach, solved, iterate, evalAt, eval, blank, evaluate}
-use Rattle.evaluator.specs.Reach.{not-so, so-not, reach-self, reach-small, reach-block}
+use Rattle.evaluator.specs.Reach.{reach-self, reach-small, reach-block, operand-alone, rest-block}
 
 -- the passes that an entry can cost: for a fixpoint as many as there are states, and one
 unfoldable pub costOf : ℕ → Shape → ℕ
@@ -163,14 +163,6 @@ module _ (M : Model) (t : Table) (wf : WellFormed t) (k : ℕ) (enough : room M 
       go B D D' c h a (yes q) = subst⁻¹ (λ (z : ℕ). f (sweep f j S) j .done z ≡ true) q (D' (ap (alone t) (sym q) ∙ a))
       go B D D' c h a (no ne) = B .more c (D c (omega arith) a)
 
-  -- an operand of an entry without free names has none, if the entry is no fixpoint
-  operand-alone : (e c : ℕ) (v : Shape) → shape t e ≡ v → (Fixpoint v → ⊥) → Operand v c → alone t e ≡ true → alone t c ≡ true
-  operand-alone e c v q n o a = go (alone t c) refl
-    where
-      go : (i : Bool) → alone t c ≡ i → alone t c ≡ true
-      go true i = i
-      go false i = let (y, f) = not-alone t wf c i in absurd (alone-none t wf e a y (inside v q o (λ x _. n x) f))
-
   module _ (f : State → ℕ → State) (e : ℕ) (E : Evals f e) (S : State) (G : Good S) (fresh : S .done e ≡ false) (a : alone t e ≡ true) where
     iterate-right : (x : ℕ) (σ : Fix) → shape t e ≡ fix σ x → Goes e S (iterate M t k f e S) × (iterate M t k f e S .done e ≡ true)
     unfolding iterate solved
@@ -211,13 +203,13 @@ module _ (M : Model) (t : Table) (wf : WellFormed t) (k : ℕ) (enough : room M 
         let ly = operand-below t wf e y q (inr refl) in
         let (A, D) = E S x lx G in
         let (B, D') = E (f S x) y ly (A .good) in
-        let p = same-trans (two-same o (B .good x (B .more x (D (operand-alone e x _ q absurd (inl refl) a)))) (B .good y (D' (operand-alone e y _ q absurd (inr refl) a))))
+        let p = same-trans (two-same o (B .good x (B .more x (D (operand-alone t wf e x _ q absurd (inl refl) a)))) (B .good y (D' (operand-alone t wf e y _ q absurd (inr refl) a))))
         (same-sym (formed-own M t wf e (two o x y) q)) in
         (goes-on x e S _ _ (omega (arith, lx)) A (goes-on y e _ _ _ (omega (arith, ly)) B (settle-goes _ (B .good) e _ p)), settle-done _ (B .good) e _ p)
     eval-at (step m x) q =
         let lx = operand-below t wf e x q refl in
         let (A, D) = E S x lx G in
-        let p = same-trans (step-same M m (A .good x (D (operand-alone e x _ q absurd refl a)))) (same-sym (formed-own M t wf e (step m x) q)) in
+        let p = same-trans (step-same M m (A .good x (D (operand-alone t wf e x _ q absurd refl a)))) (same-sym (formed-own M t wf e (step m x) q)) in
         (goes-on x e S _ _ (omega (arith, lx)) A (settle-goes _ (A .good) e _ p), settle-done _ (A .good) e _ p)
     eval-at (fix σ x) q = iterate-right x σ q
     eval-at (name x) q = absurd (alone-none t wf e a x (named q))
@@ -235,29 +227,6 @@ module _ (M : Model) (t : Table) (wf : WellFormed t) (k : ℕ) (enough : room M 
       go E false d true p =
           let (A, D) = eval-at (eval M t k j) e E S G d p (shape t e) refl in (A, (λ _. D))
 
-  -- what is not settled is a block, once the entries without free names are
-  rest-block : (done : ℕ → Bool) → ((c : ℕ) → c < length t → alone t c ≡ true → done c ≡ true) → Block t done (λ c. not (done c))
-  rest-block done D =
-      record {
-        apart = λ e h. not-so (done e) h;
-        operands = λ e c i o. at e c o (done c) refl;
-        names = λ e x i q. either x (done x) refl;
-      }
-    where
-      at : (e c : ℕ) → Operand (shape t e) c → (d : Bool) → done c ≡ d → ((not (done c) ≡ true) × (y : ℕ) × Free t c y) ⊎ (done c ≡ true)
-      at e c o true d = inr d
-      at e c o false d = let (y, f) = lone (alone t c) refl in inl (so-not (done c) d, y, f)
-        where
-          lone : (a : Bool) → alone t c ≡ a → (y : ℕ) × Free t c y
-          lone true a =
-              let l = in-table t e (λ q. subst (λ (v : Shape). Operand v c) q o) in
-              absurd (true≢false (sym (D c (omega (arith, l, wf .operands-below e c o)) a) ∙ d))
-          lone false a = not-alone t wf c a
-
-      either : (x : ℕ) (d : Bool) → done x ≡ d → (not (done x) ≡ true) ⊎ (done x ≡ true)
-      either x true d = inr d
-      either x false d = inl (so-not (done x) d)
-
   first : Good blank
   first e d = absurd (false≢true d)
 
@@ -267,7 +236,7 @@ module _ (M : Model) (t : Table) (wf : WellFormed t) (k : ℕ) (enough : room M 
   evaluate-own e =
       let (A, N, F, P, D) = sweeps (eval M t k (length t)) (length t) (eval-right (length t)) (length t) (omega arith) blank first in
       let R = sweep (eval M t k (length t)) (length t) blank in
-      solved-good R A _ (rest-block (R .done) D) e (any (R .done e))
+      solved-good R A _ (rest-block t wf (R .done) D) e (any (R .done e))
     where
       any : (d : Bool) → (not d || d) ≡ true
       any true = refl
@@ -279,5 +248,5 @@ module _ (M : Model) (t : Table) (wf : WellFormed t) (k : ℕ) (enough : room M 
   evaluate-passes =
       let (A, N, F, P, D) = sweeps (eval M t k (length t)) (length t) (eval-right (length t)) (length t) (omega arith) blank first in
       let R = sweep (eval M t k (length t)) (length t) blank in
-      let K = rest-block (R .done) D in
+      let K = rest-block t wf (R .done) D in
       omega (arith, P, left-spent R A _ K, changes-spent R A _ K, solve-passes M t wf _ (R .done) K k (R .word))

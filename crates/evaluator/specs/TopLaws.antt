@@ -15,7 +15,7 @@ use Rattle.formula.specs.TableLaws.{operand-below}
 use Rattle.formula.specs.Below.{recur-eq, by-smaller}
 use Rattle.evaluator.specs.Top.{topClause, top, alone}
 
-topClause-local : (f g : ℕ → ℕ) (e : ℕ) (v : Shape) → ((c : ℕ) → Operand v c → f c ≡ g c) → topClause f e v ≡ topClause g e v
+pub topClause-local : (f g : ℕ → ℕ) (e : ℕ) (v : Shape) → ((c : ℕ) → Operand v c → f c ≡ g c) → topClause f e v ≡ topClause g e v
 unfolding topClause
 topClause-local f g e (leaf l) h = refl
 topClause-local f g e (two o a b) h = rw (h a (inl refl), h b (inr refl)) refl

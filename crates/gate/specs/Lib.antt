@@ -18,3 +18,8 @@ pub mod Demands
 pub mod Numbered
 pub mod Single
 pub mod Compose
+-- what lent states and lent records hold
+pub mod LentState
+pub mod LentRecords
+pub mod LentLaws
+pub mod LentShown

@@ -5,7 +5,10 @@ ghost use Rattle.gate.specs.Plain.{stateOf, Stepped, TookStep, refusedWi
 use verdict::Verdict;
 
 pub mod check;
+pub mod lent;
+pub mod records;
 
+#[repr(C)]
 pub struct State {
     pub phase: u8,
     pub tag: u32,

@@ -14,3 +14,13 @@ pub mod ModelSamples
 pub mod Bits
 pub mod Described
 pub mod DescribedLaws
+-- the program's steps over a file
+pub mod HeaderSteps
+pub mod StateSteps
+-- what a good file decodes to
+pub mod Values
+pub mod Decoded
+pub mod SuccessorRun
+pub mod Decoding
+pub mod Tables
+pub mod ReadTells

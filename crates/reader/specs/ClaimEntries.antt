@@ -9,7 +9,7 @@ use Rattle.formula.specs.Table.{Entry, Table}
 use Rattle.formula.specs.Columns.{column, kindColumn, aColumn, bColumn}
 use Rattle.encoding.specs.Parse.{Got, fault, got, times, count, two}
 use Rattle.reader.specs.ReadClaim.{early, made, entry, entries}
-use Rattle.reader.specs.Walk.{Reached, Walking, walk-begins, walk-steps, walk-stops, walk-ends, counted-starts, counted-cut}
+use Rattle.encoding.specs.Walk.{Reached, Walking, walk-begins, walk-steps, walk-stops, walk-ends, counted-starts, counted-cut}
 use Rattle.reader.specs.Written.{column-stored}
 use Rattle.reader.specs.Numbers.{Placed, countAt, count-inside}
 use Rattle.reader.specs.ClaimEntry.{entryAt}

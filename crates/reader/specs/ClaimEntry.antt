@@ -13,7 +13,7 @@ use Rattle.formula.specs.Fields.{hasA, hasB, bit, mapOf}
 use Rattle.encoding.specs.Parse.{Got, fault, got, bind, bytes, field}
 use Rattle.encoding.specs.Places.{bytes-at, bytes-end}
 use Rattle.reader.specs.ReadClaim.{early, kind-fits, kindByte, fields, made, entry}
-use Rattle.reader.specs.Walk.{Reached, guard-passes, guard-fails, guard-cut}
+use Rattle.encoding.specs.Walk.{Reached, guard-passes, guard-fails, guard-cut}
 use Rattle.reader.specs.Numbers.{Placed, fieldAt}
 use Rattle.reader.specs.declared.claim.EntryRead.{EntryRead}
 use Rattle.reader.specs.declared.claim.EntryRead.the-variants.{Read, Refused}

@@ -16,7 +16,7 @@ use Rattle.formula.specs.Columns.{kindColumn, written-at}
 use Rattle.encoding.specs.Parse.{Got, fault, got, guard, times, count, two, fits-from, rising}
 use Rattle.reader.specs.Members.{isFormula, formula-tells}
 use Rattle.reader.specs.ReadClaim.{early, members}
-use Rattle.reader.specs.Walk.{Reached, guard-passes, guard-fails, guard-cut, Walking, walk-begins, walk-steps, walk-stops, walk-ends, counted-starts, counted-cut}
+use Rattle.encoding.specs.Walk.{Reached, guard-passes, guard-fails, guard-cut, Walking, walk-begins, walk-steps, walk-stops, walk-ends, counted-starts, counted-cut}
 use Rattle.reader.specs.Written.{written-more}
 use Rattle.reader.specs.Numbers.{Placed, twoAt, countAt, count-inside}
 use Rattle.reader.specs.ClaimEntries.{ListRead, PartTells, part-as}

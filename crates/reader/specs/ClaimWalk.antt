@@ -16,10 +16,10 @@ use Rattle.formula.specs.Columns.{kindColumn, aColumn, bColumn}
 use Rattle.encoding.specs.Parse.{Got, fault, got, bind}
 use Rattle.encoding.specs.File.{Reading, refused, good, ending}
 use Rattle.encoding.specs.Outcome.{verdictOf}
-use Rattle.reader.specs.Opening.{opens, begins-tells}
+use Rattle.encoding.specs.Opening.{opens, begins-tells}
 use Rattle.reader.specs.ClaimFile.{claimOpening}
 use Rattle.reader.specs.ReadClaim.{early, entries, members, body, readClaim}
-use Rattle.reader.specs.Walk.{file-opens, file-closed, bytes-follow, none-follow}
+use Rattle.encoding.specs.Walk.{file-opens, file-closed, bytes-follow, none-follow}
 use Rattle.reader.specs.Numbers.{Placed}
 use Rattle.reader.specs.ClaimEntries.{ListRead, EntryArrays, EntriesStored, entriesAt}
 use Rattle.reader.specs.ClaimMembers.{MembersStored, membersAt, members-same}

@@ -1,4 +1,3 @@
-pub mod Opening
 pub mod Members
 pub mod FieldLaws
 -- claim files
@@ -18,7 +17,6 @@ pub mod ProofBytes
 -- for callers
 pub mod RecordLaws
 -- the code that reads files
-pub mod Walk
 pub mod Written
 pub mod Numbers
 pub mod ClaimEntry

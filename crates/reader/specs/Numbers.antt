@@ -9,7 +9,7 @@ use Rattle.verdict.specs.Tells.{fails-holds}
 use Rattle.encoding.specs.Parse.{Got, fault, got, Parser, two, field, in-range, count}
 use Rattle.encoding.specs.ListLaws.{range-tells}
 use Rattle.encoding.specs.Places.{wordAt, two-at, two-end}
-use Rattle.reader.specs.Walk.{Reached, guard-passes, guard-fails, guard-cut, guard-holds}
+use Rattle.encoding.specs.Walk.{Reached, guard-passes, guard-fails, guard-cut, guard-holds}
 use Rattle.reader.specs.declared.number.Number.{Number}
 use Rattle.reader.specs.declared.number.Number.the-variants.{Read, Refused}
 

@@ -20,7 +20,7 @@ use Rattle.encoding.specs.FaultLaws.{Refuses, Stands, renames-each, refuses-as,
 use Rattle.encoding.specs.ListFaults.{count-refuses, listed-refuses, rising-refuses}
 use Rattle.encoding.specs.File.{refused, no-opening}
 use Rattle.encoding.specs.FileLaws as File
-use Rattle.reader.specs.Opening.{opens, opens-tells}
+use Rattle.encoding.specs.Opening.{opens, opens-tells}
 use Rattle.reader.specs.Members.{formula-tells}
 use Rattle.reader.specs.FieldLaws.{field-takes}
 use Rattle.reader.specs.ProofFile.{proofOpening, encodeRule, encodeLinks, encodeNode, FitRule, FitLinks, FitNode, ProofFile}

@@ -17,8 +17,8 @@ use Rattle.encoding.specs.FileLaws.{refused-not-good, good-same}
 use Rattle.encoding.specs.GotLaws.{fault-not-got, same-value, bind-got}
 use Rattle.encoding.specs.ListLaws.{range-tells}
 use Rattle.encoding.specs.Places.{wordAt}
-use Rattle.reader.specs.Opening.{opens}
-use Rattle.reader.specs.Walk.{Reached}
+use Rattle.encoding.specs.Opening.{opens}
+use Rattle.encoding.specs.Walk.{Reached}
 use Rattle.reader.specs.ProofFile.{proofOpening}
 use Rattle.reader.specs.ReadProof.{early, rule-fits, isCode, sequent, made, node, readProof}
 use Rattle.reader.specs.ProofParts.{heading, oneCode, afterCode, codesOf, nodesOf}

@@ -9,7 +9,7 @@ use lib.ListN.{length, getD, drop, length-drop}
 use Rattle.formula.specs.Fields.{hasPrincipal, hasFirst, hasSecond, hasBack, bit, linkWidth}
 use Rattle.encoding.specs.Parse.{Got, fault, got, bind, bytes, field}
 use Rattle.encoding.specs.Places.{bytes-at, bytes-end, two-at}
-use Rattle.reader.specs.Walk.{guard-passes, guard-fails, guard-cut}
+use Rattle.encoding.specs.Walk.{guard-passes, guard-fails, guard-cut}
 use Rattle.reader.specs.ProofFile.{Links}
 use Rattle.reader.specs.ReadProof.{early, rule-fits, ruleOf, fields}
 use Rattle.reader.specs.ProofFaults.{fields-take}

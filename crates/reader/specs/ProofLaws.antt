@@ -16,7 +16,7 @@ use Rattle.formula.specs.Plain.{tableOf-length, tableOf-kind}
 use Rattle.encoding.specs.Parse.{Parser, Got, fault, got, bind, seq, via, guard, part, byte, two, times, in-range, fits-from}
 use Rattle.encoding.specs.Places.{wordAt, byte-at, byte-end, two-at, two-end}
 use Rattle.reader.specs.Members.{isFormula, formula-tells}
-use Rattle.reader.specs.Walk.{guard-passes, guard-fails, guard-cut, counted-starts, counted-cut}
+use Rattle.encoding.specs.Walk.{guard-passes, guard-fails, guard-cut, counted-starts, counted-cut}
 use Rattle.reader.specs.ProofFile.{Links}
 use Rattle.reader.specs.ReadProof.{early, ruleByte, fields, isCode, sequent, made, node, nodes}
 use Rattle.reader.specs.ProofParts.{kindTable, heading, oneCode, afterCode, codesOf}

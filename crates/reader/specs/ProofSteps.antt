@@ -10,7 +10,7 @@ use Rattle.formula.specs.Table.{Table}
 use Rattle.formula.specs.Nodes.{Node}
 use Rattle.encoding.specs.Parse.{Got, fault}
 use Rattle.reader.specs.ProofFile.{Links}
-use Rattle.reader.specs.Walk.{Reached}
+use Rattle.encoding.specs.Walk.{Reached}
 use Rattle.reader.specs.ReadProof.{sequent, node}
 use Rattle.reader.specs.ProofParts.{heading}
 use Rattle.reader.specs.ProofLaws.{node-empty, node-codes, node-codes-stop}

@@ -13,8 +13,8 @@ use Rattle.encoding.specs.Parse.{fault}
 use Rattle.encoding.specs.File.{refused, good, ending}
 use Rattle.encoding.specs.ListLaws.{range-tells}
 use Rattle.encoding.specs.Places.{wordAt}
-use Rattle.reader.specs.Opening.{opens, begins-tells}
-use Rattle.reader.specs.Walk.{Reached, file-opens, file-closed, bytes-follow, none-follow}
+use Rattle.encoding.specs.Opening.{opens, begins-tells}
+use Rattle.encoding.specs.Walk.{Reached, file-opens, file-closed, bytes-follow, none-follow}
 use Rattle.reader.specs.ProofFile.{proofOpening}
 use Rattle.reader.specs.ReadProof.{early, nodes, readProof}
 use Rattle.reader.specs.ProofParts.{nodesOf}

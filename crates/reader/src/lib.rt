@@ -1,9 +1,9 @@
 // Claim and proof files, read by bytes into plain tables. What the files are is in specs/.
 ghost use mathlib.Core.Path.{_≡_};
-ghost use mathlib.Core.List.{[], _∷_};
-ghost use Rattle.reader.specs.Opening.{opens};
+ghost use Rattle.encoding.specs.Opening.{opens};
 ghost use Rattle.reader.specs.ClaimFile.{claimOpening};
 ghost use Rattle.reader.specs.ProofFile.{proofOpening};
+use encoding::opens;
 
 pub mod claim;
 mod number;
@@ -14,28 +14,6 @@ pub const CLAIM_OPENING: [u8; 4] = *b"CLM1";
 
 // The first four bytes of a proof file.
 pub const PROOF_OPENING: [u8; 4] = *b"PRF1";
-
-// Whether the four letters stand in front of the bytes.
-fn opens(bytes: &[u8], a: u8, b: u8, c: u8, d: u8) -> bool
-    ensures { λ r. ⌜ r ≡ opens (a ∷ b ∷ c ∷ d ∷ []) (now (bytes .entry)) ⌝ }
-{
-    if bytes.len() < 4 {
-        return false;
-    }
-    if bytes[0] != a {
-        return false;
-    }
-    if bytes[1] != b {
-        return false;
-    }
-    if bytes[2] != c {
-        return false;
-    }
-    if bytes[3] != d {
-        return false;
-    }
-    true
-}
 
 // Whether the bytes open as a claim file does.
 pub fn opens_claim(bytes: &[u8]) -> bool

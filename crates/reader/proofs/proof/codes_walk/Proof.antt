@@ -9,7 +9,7 @@ use borrow.Author.Tests.{le-leb, lt-leb, not-true, not-false}
 use Rattle.formula.specs.Table.{Table}
 use Rattle.encoding.specs.Parse.{fault, fits-from}
 use Rattle.encoding.specs.Places.{wordAt}
-use Rattle.reader.specs.Walk.{Walking, walk-begins, walk-steps, walk-stops, walk-ends}
+use Rattle.encoding.specs.Walk.{Walking, walk-begins, walk-steps, walk-stops, walk-ends}
 use Rattle.reader.specs.ReadProof.{isCode}
 use Rattle.reader.specs.ProofParts.{kindTable, oneCode, afterCode, codesOf}
 use Rattle.reader.specs.ProofLaws.{code-cut, code-unfit, code-fits}

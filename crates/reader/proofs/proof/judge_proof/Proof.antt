@@ -13,7 +13,7 @@ use Rattle.encoding.specs.Encode.{Counts}
 use Rattle.encoding.specs.File.{Reading}
 use Rattle.encoding.specs.Outcome.{verdictOf}
 use Rattle.encoding.specs.Places.{wordAt}
-use Rattle.reader.specs.Opening.{opens}
+use Rattle.encoding.specs.Opening.{opens}
 use Rattle.reader.specs.ProofFile.{proofOpening}
 use Rattle.reader.specs.ReadProof.{readProof}
 use Rattle.reader.specs.ProofParts.{kindTable, nodesOf}

@@ -8,7 +8,7 @@ use lib.ListN.{length, drop}
 use Rattle.formula.specs.Table.{Table}
 use Rattle.formula.specs.Nodes.{Proof}
 use Rattle.reader.specs.ReadProof.{node}
-use Rattle.reader.specs.Walk.{Walking, walk-begins, walk-steps, walk-stops, walk-ends}
+use Rattle.encoding.specs.Walk.{Walking, walk-begins, walk-steps, walk-stops, walk-ends}
 use Rattle.reader.specs.ProofParts.{kindTable, nodesOf}
 use Rattle.reader.specs.ProofSteps.{Finds}
 use Rattle.reader.specs.declared.proof.Step.{Step}

@@ -1,16 +1,16 @@
 -- a program's walk over a file that it indexes: what it has found at a place, the list that it has read so far, the file's beginning and end
 use mathlib.Core.Path.{_≡_, refl, sym, ap, _∙_}
 use mathlib.Core.List.{List, [], _∷_, _++_, append-nil, append-assoc}
-use mathlib.Core.Bool.{Bool, true, false, _&&_, false≢true}
-use Prim.Native.Nat.{ℕ, zero, suc, _+_, _-_, _<_, _≤_}
+use mathlib.Core.Bool.{Bool, true, false, _&&_}
+use Prim.Native.Nat.{ℕ, suc, _+_, _-_, _<_, _≤_}
 use native.Mathlib.Omega.{arith}
 use lib.Dec.{eqb}
-use lib.ListN.{length, getD, drop, length-append}
+use lib.ListN.{length, drop, length-append}
 use Rattle.encoding.specs.Parse.{Got, fault, got, Parser, pick, bind, guard, letters, times, counted}
-use Rattle.encoding.specs.File.{Reading, refused, good, ending, readFile}
+use Rattle.encoding.specs.File.{refused, good, ending, readFile}
 use Rattle.encoding.specs.GotLaws.{bind-got, pick-got}
 use Rattle.encoding.specs.Places.{drop-all, drop-some}
-use Rattle.reader.specs.Opening.{opens}
+use Rattle.encoding.specs.Opening.{opens}
 
 -- a value was read, up to a place of the file that is not past a limit
 pub record Reached {A : Type 0} (s : List ℕ) (limit : ℕ) (g : Got A) (x : A) (o : ℕ) : Type 0 where
@@ -28,13 +28,6 @@ module _ {A : Type 0} (ok : A → Bool) (n : ℕ) (p : Parser A) (s : List ℕ) 
 
 pub guard-cut : {A : Type 0} (ok : A → Bool) (n : ℕ) (p : Parser A) (s : List ℕ) (at : ℕ) {m q : ℕ} → p s at ≡ fault m q → guard ok n p s at ≡ fault m q
 guard-cut ok n p s at h = rw h refl
-
--- what was read passes the test
-pub guard-holds : {A : Type 0} (ok : A → Bool) (n : ℕ) (p : Parser A) (s : List ℕ) (at : ℕ) {x : A} {r : List ℕ} {o : ℕ} → guard ok n p s at ≡ got x r o → ok x ≡ true
-guard-holds ok n p s at h =
-    let b = bind-got (p s at) (λ x r o. pick (ok x) (got x r o) (fault n at)) h in
-    let (t, e, _) = pick-got (ok (b .first)) (b .first) (b .rest) (b .place) n at (b .then) in
-    rw e at t
 
 -- a list that was read before stands in front of what is read next
 unfoldable pub onto : {A : Type 0} → List A → Got (List A) → Got (List A)
@@ -125,3 +118,10 @@ module _ {A : Type 0} (early : ℕ) (s : List ℕ) (x : A) (o : ℕ) where
 
   pub none-follow : length s ≤ o → ending early (got x (drop o s) o) ≡ good x
   none-follow h = rw (drop-all s o h) refl
+
+-- what was read passes the test
+pub guard-holds : {A : Type 0} (ok : A → Bool) (n : ℕ) (p : Parser A) (s : List ℕ) (at : ℕ) {x : A} {r : List ℕ} {o : ℕ} → guard ok n p s at ≡ got x r o → ok x ≡ true
+guard-holds ok n p s at h =
+    let b = bind-got (p s at) (λ x r o. pick (ok x) (got x r o) (fault n at)) h in
+    let (t, e, _) = pick-got (ok (b .first)) (b .first) (b .rest) (b .place) n at (b .then) in
+    rw e at t

@@ -1,48 +1,37 @@
+-- each return compares one byte more
 use native.Mathlib.Omega.{arith}
 use borrow.Author.Needs.{needs}
-use Rattle.reader.specs.Opening.{differs, agrees}
-use Rattle.reader.proofs.opens.Statement.{statement}
-use Rattle.reader.proofs.opens.Tie as tie
-use Rattle.reader.proofs.opens.Reads as reads
-use Rattle.reader.proofs.opens.Lts as lts
+use Rattle.encoding.specs.Opening.{differs, agrees}
+use Rattle.encoding.proofs.opens.Statement.{statement}
+use Rattle.encoding.proofs.opens.Tie as tie
 
--- src/lib.rt:19:9
 returns : tie.Need-returns
 returns c = differs _ _ (λ b. omega (arith, b .long, c .if1 .taken))
 
--- src/lib.rt:21:8
 shared-slice-read-if2 : tie.Need-shared-slice-read-if2
 shared-slice-read-if2 c = search needs
 
--- src/lib.rt:22:9
 returns-2 : tie.Need-returns-2
 returns-2 c = differs _ _ (λ b. c .if2 .taken (b .same 0 (omega arith)))
 
--- src/lib.rt:24:8
 shared-slice-read-if3 : tie.Need-shared-slice-read-if3
 shared-slice-read-if3 c = search needs
 
--- src/lib.rt:25:9
 returns-3 : tie.Need-returns-3
 returns-3 c = differs _ _ (λ b. c .if3 .taken (b .same 1 (omega arith)))
 
--- src/lib.rt:27:8
 shared-slice-read-if4 : tie.Need-shared-slice-read-if4
 shared-slice-read-if4 c = search needs
 
--- src/lib.rt:28:9
 returns-4 : tie.Need-returns-4
 returns-4 c = differs _ _ (λ b. c .if4 .taken (b .same 2 (omega arith)))
 
--- src/lib.rt:30:8
 shared-slice-read-if5 : tie.Need-shared-slice-read-if5
 shared-slice-read-if5 c = search needs
 
--- src/lib.rt:31:9
 returns-5 : tie.Need-returns-5
 returns-5 c = differs _ _ (λ b. c .if5 .taken (b .same 3 (omega arith)))
 
--- src/lib.rt:15:1
 returns-6 : tie.Need-returns-6
 returns-6 c =
     agrees _ _ _ _ _ (c .before .before .before .before .before .before .before .before .if1 .left)

@@ -1,0 +1,57 @@
+-- the words below e are zero
+use mathlib.Core.Path.{_≡_, refl}
+use Prim.Native.Nat.{_-_, _≤_}
+use native.Mathlib.Omega.{arith}
+use borrow.Author.Needs.{needs}
+use lib.ListN.{length}
+use Rattle.evaluator.specs.Fill.{Filled, filled-none, filled-set}
+use Rattle.evaluator.proofs.clear_words.Statement.{statement}
+use Rattle.evaluator.proofs.clear_words.Tie as tie
+
+abbrev Inv-loop : tie.InvT-loop
+Inv-loop words₀ e₀ words e = (e ≤ length words₀) × Filled (λ _. 0) words₀ e words
+
+abbrev μ-loop : tie.MeasureT-loop
+μ-loop words₀ e₀ words e = length words₀ - e
+
+loop-holds : tie.Need-loop-holds Inv-loop μ-loop
+loop-holds c = (omega arith, filled-none _ _)
+
+mul-words : tie.Need-mul-words Inv-loop μ-loop
+mul-words c = omega (arith, c .before .loop .inv .1 .long)
+
+slice-write-words : tie.Need-slice-write-words Inv-loop μ-loop
+slice-write-words c = search needs
+
+add-e : tie.Need-add-e Inv-loop μ-loop
+add-e c = omega (arith, c .before .loop .inv .1 .long)
+
+loop-less : tie.Need-loop-less Inv-loop μ-loop
+loop-less c = omega (arith, c .before .loop .inv .1 .long)
+
+loop-again : tie.Need-loop-again Inv-loop μ-loop
+loop-again c =
+    (omega (arith, c .before .loop .inv .1 .long), filled-set (c .before .loop .inv .1) 0 (omega (arith, c .before .loop .inv .1 .long)) refl)
+
+same-length : tie.Need-same-length Inv-loop μ-loop
+same-length c = c .before .loop .inv .1 .long
+
+returns : tie.Need-returns Inv-loop μ-loop
+returns c =
+    let q : c .before .loop .e ≡ length (c .before .before .args .words .now) = omega (arith, c .before .loop .inv .1 .long) in
+    rw q at (c .before .loop .inv .1)
+
+pub clear-words-spec : {M : Type 1} → statement M
+clear-words-spec =
+    tie.close
+    (tie.spec
+    Inv-loop
+    μ-loop
+    loop-holds
+    mul-words
+    slice-write-words
+    add-e
+    loop-less
+    loop-again
+    same-length
+    returns)

@@ -1,0 +1,125 @@
+// What stands in a state before its successors: the map, the letter mask, the successor count. A fault of these is placed at the
+// map, once the bytes are there.
+ghost use Prim.Native.Nat.{_+_, _<_};
+ghost use mathlib.Core.Path.{_≡_};
+ghost use lib.ListN.{length};
+ghost use Rattle.encoding.specs.FourPlaces.{doubleAt};
+ghost use Rattle.model.specs.HeaderSteps.{Placed, MaskFollows, MaskedTells, HeaderTells};
+use super::ModelFault;
+
+pub enum Masked {
+    Read { map: u8, mask: u32, next: usize },
+    Refused { number: u16, place: u16 },
+}
+
+pub enum Header {
+    Read {
+        mask: u32,
+        count: usize,
+        next: usize,
+    },
+    Refused {
+        number: u16,
+        place: u16,
+    },
+}
+
+// The number of the four bytes at a place.
+fn four_at(bytes: &[u8], at: usize) -> u32
+    requires { ⌜ at + 3 < length (now bytes) ⌝ }
+    ensures { λ r. ⌜ r ≡ doubleAt (now (bytes .entry)) at ⌝ }
+{
+    let low = encoding::join(bytes[at], bytes[at + 1]);
+    let high = encoding::join(bytes[at + 2], bytes[at + 3]);
+    encoding::join_words(low, high)
+}
+
+// The mask after a map with bit 0.
+fn mask_after(bytes: &[u8], at: usize) -> Masked
+    requires { ⌜ (Placed (now bytes) at) × (MaskFollows (now bytes) at) ⌝ }
+    ensures { λ r. ⌜ MaskedTells (now (bytes .entry)) at r ⌝ }
+{
+    if bytes.len() < at + 5 {
+        return Masked::Refused {
+            number: ModelFault::LENGTH,
+            place: bytes.len() as u16,
+        };
+    }
+    let mask = four_at(bytes, at + 1);
+    if mask == 0 {
+        return Masked::Refused {
+            number: ModelFault::MAP,
+            place: at as u16,
+        };
+    }
+    Masked::Read {
+        map: bytes[at],
+        mask,
+        next: at + 5,
+    }
+}
+
+// The map, and the mask where bit 0 stands.
+fn masked_at(bytes: &[u8], at: usize) -> Masked
+    requires { ⌜ Placed (now bytes) at ⌝ }
+    ensures { λ r. ⌜ MaskedTells (now (bytes .entry)) at r ⌝ }
+{
+    if bytes.len() <= at {
+        return Masked::Refused {
+            number: ModelFault::LENGTH,
+            place: bytes.len() as u16,
+        };
+    }
+    let map = bytes[at];
+    if !super::map_fits(map) {
+        return Masked::Refused {
+            number: ModelFault::MAP,
+            place: at as u16,
+        };
+    }
+    if map % 2 == 0 {
+        return Masked::Read {
+            map,
+            mask: 0,
+            next: at + 1,
+        };
+    }
+    mask_after(bytes, at)
+}
+
+// Then the successor count where bit 1 stands.
+pub fn header_at(bytes: &[u8], at: usize) -> Header
+    requires { ⌜ Placed (now bytes) at ⌝ }
+    ensures { λ r. ⌜ HeaderTells (now (bytes .entry)) at r ⌝ }
+{
+    match masked_at(bytes, at) {
+        Masked::Refused { number, place } => Header::Refused { number, place },
+        Masked::Read { map, mask, next } => {
+            if map < 2 {
+                return Header::Read {
+                    mask,
+                    count: 0,
+                    next,
+                };
+            }
+            if bytes.len() <= next {
+                return Header::Refused {
+                    number: ModelFault::LENGTH,
+                    place: bytes.len() as u16,
+                };
+            }
+            let count = bytes[next] as usize;
+            if count == 0 {
+                return Header::Refused {
+                    number: ModelFault::MAP,
+                    place: at as u16,
+                };
+            }
+            Header::Read {
+                mask,
+                count,
+                next: next + 1,
+            }
+        }
+    }
+}
