@@ -6,7 +6,7 @@ use verdict::Verdict;
 
 pub mod check;
 pub mod lent;
-pub mod records;
+mod records;
 
 #[repr(C)]
 pub struct State {
