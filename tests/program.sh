@@ -63,9 +63,10 @@ no_verdict() {
     report "$1" "stdout '', stderr one line that begins with '$2'" "$good"
 }
 
-# A sample without a line here would go untested, so it fails.
-for folder in "$samples"/*/; do
-    sample=$(basename "$folder")
+# A sample without a line here would go untested, so it fails. A folder without
+# a claim is no sample.
+for claim in "$samples"/*/claim.bin; do
+    sample=$(basename "$(dirname "$claim")")
     case "$sample" in
         nu-of-box) line='accept' ;;
         mu-of-box) line='refuse 38 at 3' ;;

@@ -18,14 +18,24 @@ impl fmt::Display for Row {
     }
 }
 
+impl Row {
+    /// How many times the row before, for both.
+    pub fn growth(&self, before: &Row) -> String {
+        let times = |now: Duration, before: Duration| now.as_secs_f64() / before.as_secs_f64();
+        let gate = times(self.gate, before.gate);
+        let reference = times(self.reference, before.reference);
+        format!("   gate ×{gate:.2}, reference ×{reference:.2}")
+    }
+}
+
 /// Both must give the same answer; each sample is as many calls as fill about
-/// a millisecond.
+/// a millisecond of the slower one's time.
 pub fn side_by_side<T: PartialEq + fmt::Debug>(
     gate: impl Fn() -> T,
     reference: impl Fn() -> T,
 ) -> Row {
     assert_eq!(gate(), reference());
-    let calls = calls_per_sample(&reference);
+    let calls = calls_per_sample(&gate).min(calls_per_sample(&reference));
     let mut samples = (Vec::new(), Vec::new());
     for _ in 0..101 {
         samples.0.push(sample(&gate, calls));

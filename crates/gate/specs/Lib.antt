@@ -20,6 +20,10 @@ pub mod Single
 pub mod Compose
 -- what lent states and lent records hold
 pub mod LentState
-pub mod LentRecords
-pub mod LentLaws
-pub mod LentShown
+pub mod LentSlices
+-- evaluating and presenting, stage by stage in plain numbers
+pub mod EvaluateFiles
+pub mod EvaluateStages
+pub mod PresentStages
+pub mod PresentStep
+pub mod PresentCall

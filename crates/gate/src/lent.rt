@@ -12,9 +12,9 @@ use super::take_step;
 use verdict::pack;
 
 // The state that a step leaves, and the number that it answers.
-struct Numbered {
-    state: State,
-    answer: u32,
+pub struct Numbered {
+    pub state: State,
+    pub answer: u32,
 }
 
 struct NumberedPermit {

@@ -5,8 +5,9 @@ ghost use Rattle.gate.specs.Plain.{stateOf, Stepped, TookStep, refusedWi
 use verdict::Verdict;
 
 pub mod check;
+pub mod evaluate;
 pub mod lent;
-mod records;
+pub mod present;
 
 #[repr(C)]
 pub struct State {

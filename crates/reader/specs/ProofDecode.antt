@@ -97,6 +97,11 @@ unfolding nodeAt
 nodesAt s at zero = []
 nodesAt s at (suc n) = nodeAt s at ∷ nodesAt s (nodeEnd s at) n
 
+pub nodesAt-length : (s : List ℕ) (at n : ℕ) → length (nodesAt s at n) ≡ n
+unfolding nodesAt
+nodesAt-length s at zero = refl
+nodesAt-length s at (suc n) = ap suc (nodesAt-length s (nodeEnd s at) n)
+
 pub data NodesFit (s : List ℕ) : ℕ → ℕ → Type 0 where
   no-node : {at : ℕ} → NodesFit s at 0
   one-more : {at n : ℕ} → NodeFits s at → NodesFit s (nodeEnd s at) n → NodesFit s at (suc n)

@@ -16,13 +16,15 @@ use Rattle.formula.specs.NodeColumns.{spread, ruleOf, fourLinks, rulesOf, links
 use Rattle.encoding.specs.Parse.{pick}
 use Rattle.encoding.specs.Places.{wordAt}
 use Rattle.reader.specs.Stored.{written-on}
+use Rattle.reader.specs.Written.{written-length}
 use Rattle.reader.specs.ProofDecode.{wordsAt-length, codesPlace, codeCount, nodeEnd, nodeLinks, nodeAt, NodeFits, nodesAt, NodesFit, one-more, proofIn, Decodes, setLinks}
 
+-- the slice of codes may be longer than 24 codes for each of 1,024 nodes
 pub record NodeArrays (rs ls ss cs : List ℕ) : Type 0 where
   pub rules : length rs ≡ 1024
   pub links : length ls ≡ 4096
   pub starts : length ss ≡ 1025
-  pub codes : length cs ≡ 24576
+  pub codes : 24576 ≤ length cs
 
 -- the columns of a proof are written into the arrays, which are unchanged beyond them
 pub record NodesStored (p : Proof) (rs₀ ls₀ ss₀ cs₀ rs ls ss cs : List ℕ) : Type 0 where
@@ -109,6 +111,10 @@ module _ {s rs₀ ls₀ ss₀ cs₀ : List ℕ} where
     starts-long : length (startsFrom 0 (w .done)) ≡ i
     starts-long = starts-length 0 (w .done) ∙ w .many
 
+    -- the stores leave the codes' slice as long as it was
+    pub stored-long : i ≤ wordAt s 4 → length cs ≡ length cs₀
+    stored-long h = ap length (w .codes) ∙ written-length (allCodes (w .done)) cs₀ (omega (arith, w .counted, w .few, small, lent .codes))
+
     module _ (more : i < wordAt s 4) where
       ahead : wordAt s 4 - i ≡ suc (wordAt s 4 - (i + 1))
       ahead = omega arith
@@ -169,9 +175,6 @@ module _ {s rs₀ ls₀ ss₀ cs₀ : List ℕ} where
       complete =
           let e : wordAt s 4 - i ≡ 0 = omega arith in
           sym (w .whole ∙ ap (λ (n : ℕ). w .done ++ nodesAt s at n) e ∙ append-nil (w .done))
-
-      pub stored-many : i ≡ length (proofIn s)
-      stored-many = sym (w .many) ∙ ap length complete
 
       pub stored-nodes : NodesStored (proofIn s) rs₀ ls₀ ss₀ cs₀ rs ls (set ss i start) cs
       unfolding startsOf

@@ -279,8 +279,8 @@ fn decode_links(bytes: &[u8], at: usize, rule: u8, v: usize, links: &mut [u16; 4
 }
 
 // So many two-byte numbers from a place on, written from a start on.
-fn copy_codes(bytes: &[u8], at: usize, n: usize, codes: &mut [u16; 24576], start: usize)
-    requires { ⌜ (at + 2 * n ≤ length (now bytes)) × (at ≤ 58383) × (n ≤ 24) × (start + n ≤ 24576) ⌝ }
+fn copy_codes(bytes: &[u8], at: usize, n: usize, codes: &mut [u16], start: usize)
+    requires { ⌜ (at + 2 * n ≤ length (now bytes)) × (at ≤ 58383) × (n ≤ 24) × (start + n ≤ length (now codes)) ⌝ }
     ensures { λ r. ⌜ now (codes .exit) ≡ sets (now (codes .entry)) start (wordsAt (now (bytes .entry)) at n) ⌝ }
 {
     let mut i: usize = 0;
@@ -303,9 +303,9 @@ fn decode_node(
     v: usize,
     rules: &mut [u8; 1024],
     links: &mut [u16; 4096],
-    codes: &mut [u16; 24576],
+    codes: &mut [u16],
 ) -> Spot
-    requires { ⌜ NodeFits (now bytes) (spot .at) × (spot .at ≤ 58374) × (v < 1024) × (spot .start + 24 ≤ 24576) ⌝ }
+    requires { ⌜ NodeFits (now bytes) (spot .at) × (spot .at ≤ 58374) × (v < 1024) × (spot .start + 24 ≤ length (now codes)) ⌝ }
     ensures { λ r. ⌜ (r .at ≡ nodeEnd (now (bytes .entry)) (spot .at)) × (r .start ≡ spot .start + codeCount (now (bytes .entry)) (spot .at)) ⌝ }
     ensures { λ r. ⌜ now (rules .exit) ≡ set (now (rules .entry)) v (nodeAt (now (bytes .entry)) (spot .at) .rule) ⌝ }
     ensures { λ r. ⌜ now (links .exit) ≡ setLinks (now (links .entry)) v (nodeLinks (now (bytes .entry)) (spot .at)) ⌝ }
@@ -334,13 +334,13 @@ pub fn decode_proof(
     rules: &mut [u8; 1024],
     links: &mut [u16; 4096],
     starts: &mut [u16; 1025],
-    codes: &mut [u16; 24576],
+    codes: &mut [u16],
 ) -> usize
     requires { ⌜ Decodes (now bytes) × NodeArrays (now rules) (now links) (now starts) (now codes) ⌝ }
     ensures { λ r. ⌜ r ≡ length (proofIn (now (bytes .entry))) ⌝ }
     ensures { λ r. ⌜ NodesStored (proofIn (now (bytes .entry))) (now (rules .entry)) (now (links .entry)) (now (starts .entry)) (now (codes .entry)) (now (rules .exit)) (now (links .exit)) (now (starts .exit)) (now (codes .exit)) ⌝ }
 {
-    let n = word_at(bytes, 4) as usize;
+    let n = node_count(bytes);
     let mut spot = Spot { at: 6, start: 0 };
     let mut i: usize = 0;
     while i < n {
@@ -350,6 +350,14 @@ pub fn decode_proof(
     }
     starts[n] = spot.start as u16;
     n
+}
+
+// How many nodes a proof file has: the two bytes after its opening.
+pub fn node_count(bytes: &[u8]) -> usize
+    requires { ⌜ Decodes (now bytes) ⌝ }
+    ensures { λ r. ⌜ r ≡ length (proofIn (now (bytes .entry))) ⌝ }
+{
+    word_at(bytes, 4) as usize
 }
 
 // The verdict on a proof, and how many nodes it has.
@@ -366,7 +374,7 @@ pub fn read_proof(
     rules: &mut [u8; 1024],
     links: &mut [u16; 4096],
     starts: &mut [u16; 1025],
-    codes: &mut [u16; 24576],
+    codes: &mut [u16],
 ) -> ProofRead
     requires { ⌜ (count ≤ 256) × NodeArrays (now rules) (now links) (now starts) (now codes) ⌝ }
     ensures { λ r. ⌜ ProofDone (readProof (kindTable (now (kinds .entry)) count) (now (bytes .entry))) r (now (rules .entry)) (now (links .entry)) (now (starts .entry)) (now (codes .entry)) (now (rules .exit)) (now (links .exit)) (now (starts .exit)) (now (codes .exit)) ⌝ }

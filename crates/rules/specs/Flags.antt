@@ -21,8 +21,8 @@ abbrev pub may-loop : ℕ → List ℕ → Bool
 may-loop r codes = any in-focus codes && (not (eqb r Rule.F) && not (eqb r Rule.U))
 
 -- the codes of the n nodes end within their slice
-abbrev pub Inside : List ℕ → ℕ → Type 0
-Inside starts n = (v : ℕ) → v < n → getD starts (v + 1) 0 ≤ 24576
+abbrev pub Inside : List ℕ → List ℕ → ℕ → Type 0
+Inside starts codes n = (v : ℕ) → v < n → getD starts (v + 1) 0 ≤ length codes
 
 -- for each node, whether it may stand on a loop path
 abbrev pub Flagged : Proof → List Bool → Type 0

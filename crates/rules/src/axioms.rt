@@ -29,7 +29,7 @@ fn opposite(kinds: &[u8; 256], a: &[u16; 256], plain: u16, negated: u16) -> bool
 }
 
 // Whether codes are exactly a letter and its negation, either focus.
-fn clash(kinds: &[u8; 256], a: &[u16; 256], codes: &[u16; 24576], from: usize, to: usize) -> bool
+fn clash(kinds: &[u8; 256], a: &[u16; 256], codes: &[u16], from: usize, to: usize) -> bool
     requires { ⌜ Span (now codes) from to ⌝ }
     ensures { λ r. ⌜ ((ys : List ℕ) (n : ℕ) → ((c : ℕ) → elements (part (now (codes .entry)) from to) c → entryOf c < n) → r ≡ Clash (tableOf (now (kinds .entry)) (now (a .entry)) ys n) (part (now (codes .entry)) from to)) ⌝ }
 {
@@ -45,7 +45,7 @@ fn clash(kinds: &[u8; 256], a: &[u16; 256], codes: &[u16; 24576], from: usize, t
 }
 
 // Whether they are exactly one member, true.
-fn truth(kinds: &[u8; 256], codes: &[u16; 24576], from: usize, to: usize) -> bool
+fn truth(kinds: &[u8; 256], codes: &[u16], from: usize, to: usize) -> bool
     requires { ⌜ Span (now codes) from to ⌝ }
     ensures { λ r. ⌜ ((xs ys : List ℕ) (n : ℕ) → ((c : ℕ) → elements (part (now (codes .entry)) from to) c → entryOf c < n) → r ≡ Truth (tableOf (now (kinds .entry)) xs ys n) (part (now (codes .entry)) from to)) ⌝ }
 {
@@ -60,7 +60,7 @@ pub fn ax1_kept(
     kinds: &[u8; 256],
     a: &[u16; 256],
     starts: &[u16; 1025],
-    codes: &[u16; 24576],
+    codes: &[u16],
     v: usize,
 ) -> bool
     requires { ⌜ Placed (now starts) (now codes) v ⌝ }
@@ -70,7 +70,7 @@ pub fn ax1_kept(
 }
 
 // 1 Ax2: exactly one member, true.
-pub fn ax2_kept(kinds: &[u8; 256], starts: &[u16; 1025], codes: &[u16; 24576], v: usize) -> bool
+pub fn ax2_kept(kinds: &[u8; 256], starts: &[u16; 1025], codes: &[u16], v: usize) -> bool
     requires { ⌜ Placed (now starts) (now codes) v ⌝ }
     ensures { λ r. ⌜ ((xs ys ls : List ℕ) (n : ℕ) → Entries n (now (starts .entry)) (now (codes .entry)) v → r ≡ Ax2Kept (tableOf (now (kinds .entry)) xs ys n) (local ls (now (starts .entry)) (now (codes .entry))) v) ⌝ }
 {

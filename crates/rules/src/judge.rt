@@ -39,7 +39,7 @@ fn node_stands(
     rules: &[u8; 1024],
     links: &[u16; 4096],
     starts: &[u16; 1025],
-    codes: &[u16; 24576],
+    codes: &[u16],
     nodes: usize,
     owners: &[u16; 1024],
     flags: &[bool; 1024],
@@ -114,7 +114,7 @@ fn judge_nodes(
     rules: &[u8; 1024],
     links: &[u16; 4096],
     starts: &[u16; 1025],
-    codes: &[u16; 24576],
+    codes: &[u16],
     nodes: usize,
     owners: &[u16; 1024],
     flags: &[bool; 1024],
@@ -162,7 +162,7 @@ fn judge_tree(
     rules: &[u8; 1024],
     links: &[u16; 4096],
     starts: &[u16; 1025],
-    codes: &[u16; 24576],
+    codes: &[u16],
     nodes: usize,
     owners: &[u16; 1024],
 ) -> Verdict
@@ -205,7 +205,7 @@ pub fn judge(
     rules: &[u8; 1024],
     links: &[u16; 4096],
     starts: &[u16; 1025],
-    codes: &[u16; 24576],
+    codes: &[u16],
     nodes: usize,
 ) -> Verdict
     requires { ⌜ Laid (now kinds) (now a) (now b) count (now rules) (now links) (now starts) (now codes) nodes ⌝ }

@@ -32,7 +32,7 @@ fn or_kept(
     count: usize,
     links: &[u16; 4096],
     starts: &[u16; 1025],
-    codes: &[u16; 24576],
+    codes: &[u16],
     v: usize,
 ) -> bool
     requires { ⌜ Ready (now kinds) (now a) (now b) count (now links) (now starts) (now codes) v ⌝ }
@@ -56,7 +56,7 @@ fn and_kept(
     count: usize,
     links: &[u16; 4096],
     starts: &[u16; 1025],
-    codes: &[u16; 24576],
+    codes: &[u16],
     v: usize,
 ) -> bool
     requires { ⌜ Ready (now kinds) (now a) (now b) count (now links) (now starts) (now codes) v × Placed (now starts) (now codes) (getD (now links) (4 * v + 2) 0) ⌝ }
@@ -82,7 +82,7 @@ fn mu_kept(
     count: usize,
     links: &[u16; 4096],
     starts: &[u16; 1025],
-    codes: &[u16; 24576],
+    codes: &[u16],
     v: usize,
 ) -> bool
     requires { ⌜ Ready (now kinds) (now a) (now b) count (now links) (now starts) (now codes) v ⌝ }
@@ -104,7 +104,7 @@ fn nu_kept(
     count: usize,
     links: &[u16; 4096],
     starts: &[u16; 1025],
-    codes: &[u16; 24576],
+    codes: &[u16],
     v: usize,
 ) -> bool
     requires { ⌜ Ready (now kinds) (now a) (now b) count (now links) (now starts) (now codes) v ⌝ }
@@ -119,7 +119,7 @@ fn nu_kept(
 }
 
 // 7 W: side.
-fn weaken_kept(links: &[u16; 4096], starts: &[u16; 1025], codes: &[u16; 24576], v: usize) -> bool
+fn weaken_kept(links: &[u16; 4096], starts: &[u16; 1025], codes: &[u16], v: usize) -> bool
     requires { ⌜ Placed (now starts) (now codes) v × Placed (now starts) (now codes) (getD (now links) (4 * v + 1) 0) ⌝ }
     ensures { λ r. ⌜ ((t : Table) → r ≡ WeakenKept t (local (now (links .entry)) (now (starts .entry)) (now (codes .entry))) v) ⌝ }
 {
@@ -139,7 +139,7 @@ fn weaken_kept(links: &[u16; 4096], starts: &[u16; 1025], codes: &[u16; 24576], 
 fn focus_kept(
     links: &[u16; 4096],
     starts: &[u16; 1025],
-    codes: &[u16; 24576],
+    codes: &[u16],
     v: usize,
     from: u16,
     to: u16,
@@ -166,7 +166,7 @@ fn focus_kept(
 }
 
 // 10 D: same sequent.
-fn discharge_kept(links: &[u16; 4096], starts: &[u16; 1025], codes: &[u16; 24576], v: usize) -> bool
+fn discharge_kept(links: &[u16; 4096], starts: &[u16; 1025], codes: &[u16], v: usize) -> bool
     requires { ⌜ Placed (now starts) (now codes) v × Placed (now starts) (now codes) (getD (now links) (4 * v + 1) 0) ⌝ }
     ensures { λ r. ⌜ ((t : Table) → r ≡ DischargeKept t (local (now (links .entry)) (now (starts .entry)) (now (codes .entry))) v) ⌝ }
 {
@@ -182,7 +182,7 @@ pub fn kept(
     rules: &[u8; 1024],
     links: &[u16; 4096],
     starts: &[u16; 1025],
-    codes: &[u16; 24576],
+    codes: &[u16],
     nodes: usize,
     v: usize,
 ) -> bool

@@ -17,8 +17,8 @@ use formula::Rule;
 use verdict::Verdict;
 
 // Whether one of the codes from start up to end is in focus.
-fn has_focus(codes: &[u16; 24576], start: usize, end: usize) -> bool
-    requires { ⌜ end ≤ 24576 ⌝ }
+fn has_focus(codes: &[u16], start: usize, end: usize) -> bool
+    requires { ⌜ end ≤ length (now codes) ⌝ }
     ensures { λ r. ⌜ r ≡ any in-focus (take (end - start) (drop start (now (codes .entry)))) ⌝ }
 {
     let mut i = start;
@@ -32,8 +32,8 @@ fn has_focus(codes: &[u16; 24576], start: usize, end: usize) -> bool
 }
 
 // Whether node v may stand on a loop path: its sequent has a focused member, and its rule is not 8 or 9.
-fn may_loop(rules: &[u8; 1024], starts: &[u16; 1025], codes: &[u16; 24576], v: usize) -> bool
-    requires { ⌜ (v < 1024) × (getD (now starts) (v + 1) 0 ≤ 24576) ⌝ }
+fn may_loop(rules: &[u8; 1024], starts: &[u16; 1025], codes: &[u16], v: usize) -> bool
+    requires { ⌜ (v < 1024) × (getD (now starts) (v + 1) 0 ≤ length (now codes)) ⌝ }
     ensures { λ r. ⌜ r ≡ may-loop (getD (now (rules .entry)) v 0) (codesAt (now (starts .entry)) (now (codes .entry)) v) ⌝ }
 {
     let rule = rules[v];
@@ -57,11 +57,11 @@ fn clear_flags(flags: &mut [bool; 1024])
 pub fn fill_flags(
     rules: &[u8; 1024],
     starts: &[u16; 1025],
-    codes: &[u16; 24576],
+    codes: &[u16],
     nodes: usize,
     flags: &mut [bool; 1024],
 )
-    requires { ⌜ (nodes ≤ 1024) × Inside (now starts) nodes ⌝ }
+    requires { ⌜ (nodes ≤ 1024) × Inside (now starts) (now codes) nodes ⌝ }
     ensures { λ r. ⌜ ((ls : List ℕ) → Flagged (proofOf (now (rules .entry)) ls (now (starts .entry)) (now (codes .entry)) nodes) (now (flags .exit))) ⌝ }
 {
     clear_flags(flags);

@@ -33,13 +33,7 @@ fn boxed(kinds: &[u8; 256], principal: u16, code: u16) -> bool
 }
 
 // Whether all members are.
-fn all_boxed(
-    kinds: &[u8; 256],
-    principal: u16,
-    codes: &[u16; 24576],
-    from: usize,
-    to: usize,
-) -> bool
+fn all_boxed(kinds: &[u8; 256], principal: u16, codes: &[u16], from: usize, to: usize) -> bool
     requires { ⌜ Span (now codes) from to ⌝ }
     ensures { λ r. ⌜ r ≡ all (Boxed (now (kinds .entry)) principal) (part (now (codes .entry)) from to) ⌝ }
 {
@@ -54,13 +48,7 @@ fn all_boxed(
 }
 
 // The targets of modal members, each with its focus.
-fn stepped(
-    kinds: &[u8; 256],
-    a: &[u16; 256],
-    codes: &[u16; 24576],
-    from: usize,
-    to: usize,
-) -> [u64; 8]
+fn stepped(kinds: &[u8; 256], a: &[u16; 256], codes: &[u16], from: usize, to: usize) -> [u64; 8]
     requires { ⌜ Span (now codes) from to × ((c : ℕ) → elements (part (now codes) from to) c → Within (now kinds) (now a) (getD (now a) (entryOf c) 0)) ⌝ }
     ensures { λ r. ⌜ ((ys : List ℕ) (n : ℕ) → ((c : ℕ) → elements (part (now (codes .entry)) from to) c → Modal (now (kinds .entry)) (now (a .entry)) ys n c) → Holds r (each (Stepped (tableOf (now (kinds .entry)) (now (a .entry)) ys n)) (part (now (codes .entry)) from to))) ⌝ }
 {
@@ -83,7 +71,7 @@ pub fn box_kept(
     count: usize,
     links: &[u16; 4096],
     starts: &[u16; 1025],
-    codes: &[u16; 24576],
+    codes: &[u16],
     v: usize,
 ) -> bool
     requires { ⌜ Ready (now kinds) (now a) (now b) count (now links) (now starts) (now codes) v ⌝ }

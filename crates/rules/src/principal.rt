@@ -25,7 +25,7 @@ use formula::target;
 pub fn child_is(
     links: &[u16; 4096],
     starts: &[u16; 1025],
-    codes: &[u16; 24576],
+    codes: &[u16],
     link: usize,
     set: [u64; 8],
 ) -> bool
@@ -36,7 +36,7 @@ pub fn child_is(
 }
 
 // Whether the principal of node v belongs to its sequent.
-pub fn belongs(links: &[u16; 4096], starts: &[u16; 1025], codes: &[u16; 24576], v: usize) -> bool
+pub fn belongs(links: &[u16; 4096], starts: &[u16; 1025], codes: &[u16], v: usize) -> bool
     requires { ⌜ Placed (now starts) (now codes) v ⌝ }
     ensures { λ r. ⌜ r ≡ Belonging (local (now (links .entry)) (now (starts .entry)) (now (codes .entry))) v ⌝ }
 {
@@ -48,7 +48,7 @@ pub fn of_kind(
     kinds: &[u8; 256],
     links: &[u16; 4096],
     starts: &[u16; 1025],
-    codes: &[u16; 24576],
+    codes: &[u16],
     v: usize,
     kind: u8,
 ) -> bool
@@ -62,7 +62,7 @@ pub fn of_kind(
 }
 
 // The side (document 01's term): the sequent without the principal.
-pub fn side(links: &[u16; 4096], starts: &[u16; 1025], codes: &[u16; 24576], v: usize) -> [u64; 8]
+pub fn side(links: &[u16; 4096], starts: &[u16; 1025], codes: &[u16], v: usize) -> [u64; 8]
     requires { ⌜ Placed (now starts) (now codes) v × (getD (now links) (4 * v) 0 < 512) ⌝ }
     ensures { λ r. ⌜ Holds r (sides (local (now (links .entry)) (now (starts .entry)) (now (codes .entry))) v) ⌝ }
 {
@@ -73,7 +73,7 @@ pub fn side(links: &[u16; 4096], starts: &[u16; 1025], codes: &[u16; 24576], v: 
 pub fn is_side_plus(
     links: &[u16; 4096],
     starts: &[u16; 1025],
-    codes: &[u16; 24576],
+    codes: &[u16],
     v: usize,
     link: usize,
     code: u16,

@@ -1,14 +1,8 @@
 //! Random and damaged files: the gate and the reference agree on each.
 //! `GATE_FILES` sets how many, `GATE_SEED` the seed.
 
+use gate_tests::setting;
 use reference::{describe, generate};
-
-fn setting(name: &str, default: u64) -> u64 {
-    match std::env::var(name) {
-        Ok(value) => value.parse().expect("a number"),
-        Err(_) => default,
-    }
-}
 
 #[test]
 fn random_and_damaged_files_agree() {

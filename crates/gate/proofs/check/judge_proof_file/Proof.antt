@@ -8,6 +8,9 @@ use Rattle.gate.specs.Compose.{lent-bytes, read-refused, read-laid, read
 use Rattle.gate.proofs.check.judge_proof_file.Statement.{statement}
 use Rattle.gate.proofs.check.judge_proof_file.Tie as tie
 
+slice-aggregate-read-proof : tie.Need-slice-aggregate-read-proof
+slice-aggregate-read-proof c = search needs
+
 read-proof-requires : tie.Need-read-proof-requires
 read-proof-requires c κs = search needs
 
@@ -24,10 +27,13 @@ entry c = c .before .before .before .before .before
 bytes : (c : tie.After-read-proof) → Bytes (entry c .before .args .proof .now)
 bytes c = lent-bytes _ (entry c .shared-slice-known .given)
 
+slice-aggregate-judge : tie.Need-slice-aggregate-judge
+slice-aggregate-judge c = search needs
+
 judge-requires : tie.Need-judge-requires
 judge-requires c κs =
     let told = c .before .before .before .before in
-    let read = told .before .before in
+    let read = told .before .before .before in
     let s = entry read .before in (
       read-laid (s .args .kinds .now) (s .args .a .now) (s .args .b .now) (s .args .entries) (take (s .args .listed) (s .args .members .now)) (s .args .proof .now) (search needs) (read .read-proof .ensures) (bytes read) (ap shown (told .enum-told .given .1)) (s .pre .0 .entries) (s .pre .1),
       s .pre .0 .members,
@@ -35,18 +41,26 @@ judge-requires c κs =
 
 returns : tie.Need-returns
 returns c =
-    let read = c .before .before .before in
+    let read = c .before .before .before .before in
     let s = entry read .before in
     sym (read-refused (s .args .kinds .now) (s .args .a .now) (s .args .b .now) (s .args .entries) (take (s .args .listed) (s .args .members .now)) (s .args .proof .now) (search needs) (read .read-proof .ensures) (ap shown (c .before .verdict .given .1)))
 
 returns-2 : tie.Need-returns-2
 returns-2 c =
     let told = c .before .before .before .before .before in
-    let read = told .before .before in
+    let read = told .before .before .before in
     let s = entry read .before in
     c .judge .ensures ∙ sym (read-judged (s .args .kinds .now) (s .args .a .now) (s .args .b .now) (s .args .entries) (take (s .args .listed) (s .args .members .now)) (s .args .proof .now) (search needs) (read .read-proof .ensures) (bytes read) (ap shown (told .enum-told .given .1)))
 
 pub judge-proof-file-spec : {M : Type 1} → statement M
 judge-proof-file-spec =
     tie.close
-    (tie.spec read-proof-requires enum-known-verdict enum-told judge-requires returns returns-2)
+    (tie.spec
+    slice-aggregate-read-proof
+    read-proof-requires
+    enum-known-verdict
+    enum-told
+    slice-aggregate-judge
+    judge-requires
+    returns
+    returns-2)

@@ -17,7 +17,7 @@ use Rattle.reader.proofs.proof.read_proof.Tie as tie
 -- the verdict that was judged is the reading's
 module _ (c : tie.After-judge-proof) where
   abbrev entry : tie.Start
-  entry = c .before .before
+  entry = c .before .before .before
 
   abbrev reading : Reading Proof
   reading = readProof (kindTable (entry .args .kinds .now) (entry .args .count)) (entry .args .bytes .now)
@@ -51,11 +51,14 @@ returns c =
     let verdict = c .before .number .given in
     done-refused (reading (c .before .before .before)) _ refl refl (judged (c .before .before .before) (Refused (verdict .0 .0) (verdict .0 .1 .0)) (verdict .1))
 
+same-length : tie.Need-same-length
+same-length c = search needs
+
 returns-2 : tie.Need-returns-2
 returns-2 c =
-    let told = c .before .before .before .before .before in
+    let told = c .before .before .before .before .before .before .before in
     let whole = decoded (told .before .before) (accepted told) in
-    done-good (reading (told .before .before)) _ (accepted told .was ∙ ap good (whole .same)) refl (c .decode-proof .ensures .0) (c .decode-proof .ensures .1)
+    done-good (reading (told .before .before)) _ (accepted told .was ∙ ap good (whole .same)) refl (c .before .before .decode-proof .ensures .0) (c .before .before .decode-proof .ensures .1)
 
 pub read-proof-spec : {M : Type 1} → statement M
 read-proof-spec =
@@ -66,4 +69,5 @@ read-proof-spec =
     enum-told
     decode-proof-requires
     returns
+    same-length
     returns-2)

@@ -26,7 +26,7 @@ wide-requires-2 : tie.Need-wide-requires-2
 wide-requires-2 c κs = search needs
 
 clash-requires : tie.Need-clash-requires
-clash-requires c κs = rw (c .before .before .wide .ensures, c .wide2 .ensures) (c .before .before .before .before .pre .span)
+clash-requires c κs = rw (c .before .before .wide .ensures, c .wide2 .ensures) (c .before .before .before .before .before .pre .span)
 
 returns : tie.Need-returns
 unfolding Kept

@@ -30,17 +30,17 @@ node-stands-requires : tie.Need-node-stands-requires Inv-loop μ-loop
 node-stands-requires c κs = search needs
 
 element-copy-out-refusal-of : tie.Need-element-copy-out-refusal-of Inv-loop μ-loop
-element-copy-out-refusal-of c = omega (arith, c .before .before .before .before .before .pre .judged .nodes)
+element-copy-out-refusal-of c = omega (arith, c .before .before .before .before .before .before .pre .judged .nodes)
 
 refusal-of-requires : tie.Need-refusal-of-requires Inv-loop μ-loop
 refusal-of-requires c κs = search needs
 
 cast-t20 : tie.Need-cast-t20 Inv-loop μ-loop
-cast-t20 c = omega (arith, c .before .before .before .before .before .before .before .pre .judged .nodes)
+cast-t20 c = omega (arith, c .before .before .before .before .before .before .before .before .pre .judged .nodes)
 
 returns : tie.Need-returns Inv-loop μ-loop
 returns c =
-    let start = c .before .before .before .before .before .before .before in
+    let start = c .before .before .before .before .before .before .before .before in
     let stands = c .before .before .before .before in
     sym (nodes-fail _ _ _ _ _ _
     (rules-fail (start .pre .judged) _ _ _ (c .refusal-of .ensures .0) (c .refusal-of .ensures .1) (stands .before .loop-test .taken) (stands .before .before .loop .inv .1 .0)
@@ -66,7 +66,7 @@ judge-loops-requires c κs = search needs
 
 returns-2 : tie.Need-returns-2 Inv-loop μ-loop
 returns-2 c =
-    let start = c .before .before .before in
+    let start = c .before .before .before .before in
     let inv = c .before .before .loop .inv in
     let all : c .before .before .loop .v ≡ start .args .nodes = omega (arith, inv .0, c .before .loop-test .left) in
     c .judge-loops .ensures _ (subst (λ (x : ℕ). FirstBad (loop (plain (proofOf (start .args .rules .now) (start .args .links .now) (start .args .starts .now) (start .args .codes .now) (start .args .nodes)))) (start .args .nodes) x (c .before .before .loop .bad)) all (inv .1 .1))

@@ -20,7 +20,7 @@ child-is-requires c κs = search needs
 returns : tie.Need-returns
 unfolding DischargeKept
 returns c t =
-    let a = c .before .before .args in
+    let a = c .before .before .before .args in
     c .child-is .ensures (codesAt (a .starts .now) (a .codes .now) (a .v)) (c .before .sequent .ensures)
 
 pub discharge-kept-spec : {M : Type 1} → statement M

@@ -11,10 +11,10 @@ use Rattle.rules.proofs.kept.focus_kept.Statement.{statement}
 use Rattle.rules.proofs.kept.focus_kept.Tie as tie
 
 -- a principal that belongs is a code of a set
-small : (c : tie.Else1) → getD (c .before .before .args .links .now) (4 * c .before .before .args .v) 0 < 512
+small : (c : tie.Else1) → getD (c .before .before .before .args .links .now) (4 * c .before .before .before .args .v) 0 < 512
 small c =
-    let a = c .before .before .args in
-    belongs-small (a .links .now) (a .starts .now) (a .codes .now) (a .v) (c .before .before .pre .0) (was-true (c .before .belongs .ensures) (c .if1 .left))
+    let a = c .before .before .before .args in
+    belongs-small (a .links .now) (a .starts .now) (a .codes .now) (a .v) (c .before .before .before .pre .0) (was-true (c .before .belongs .ensures) (c .if1 .left))
 
 belongs-requires : tie.Need-belongs-requires
 belongs-requires c κs = search needs
@@ -44,11 +44,11 @@ add-is-side-plus : tie.Need-add-is-side-plus
 add-is-side-plus c = search needs
 
 code-of-requires : tie.Need-code-of-requires
-code-of-requires c κs = let s = small (c .before .before) in (omega arith, c .before .before .before .before .pre .2)
+code-of-requires c κs = let s = small (c .before .before) in (omega arith, c .before .before .before .before .before .pre .2)
 
 is-side-plus-requires : tie.Need-is-side-plus-requires
 is-side-plus-requires c κs =
-    let p = c .before .before .before .before .before .pre in
+    let p = c .before .before .before .before .before .before .pre in
     (p .0, small (c .before .before .before), search needs, p .1, c .code-of .ensures .0)
 
 returns-3 : tie.Need-returns-3

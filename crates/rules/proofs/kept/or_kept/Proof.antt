@@ -9,11 +9,11 @@ use Rattle.rules.proofs.kept.or_kept.Statement.{statement}
 use Rattle.rules.proofs.kept.or_kept.Tie as tie
 
 -- where the first test is passed, the principal is of the kind that the rule names
-told : (c : tie.Else1) → let a = c .before .before .args in
+told : (c : tie.Else1) → let a = c .before .before .before .args in
     ChosenAB (a .kinds .now) (a .a .now) (a .b .now) (a .count) (a .links .now) (a .starts .now) (a .codes .now) (a .v) Kind.OR
 told c =
-    let a = c .before .before .args in
-    let R = c .before .before .pre in
+    let a = c .before .before .before .args in
+    let R = c .before .before .before .pre in
     or-chosen R (chosen R Kind.OR (c .before .of-kind .ensures (a .a .now) (a .b .now) (a .count) (R .entries)) (c .if1 .left))
 
 of-kind-requires : tie.Need-of-kind-requires
@@ -22,8 +22,8 @@ of-kind-requires c κs = search needs
 returns : tie.Need-returns
 unfolding Kept
 returns c =
-    let a = c .before .before .args in
-    rw (was-false (c .before .of-kind .ensures (a .a .now) (a .b .now) (a .count) (c .before .before .pre .entries)) (c .if1 .taken)) refl
+    let a = c .before .before .before .args in
+    rw (was-false (c .before .of-kind .ensures (a .a .now) (a .b .now) (a .count) (c .before .before .before .pre .entries)) (c .if1 .taken)) refl
 
 mul-principal : tie.Need-mul-principal
 mul-principal c = search needs
@@ -41,7 +41,7 @@ operand-code-requires-2 : tie.Need-operand-code-requires-2
 operand-code-requires-2 c κs = let k = told (c .before .before) in (k .chosen .small, k .b .within, omega arith)
 
 side-requires : tie.Need-side-requires
-side-requires c κs = let e = c .before .before .before in (e .before .before .pre .here, told e .chosen .small)
+side-requires c κs = let e = c .before .before .before in (e .before .before .before .pre .here, told e .chosen .small)
 
 with-requires : tie.Need-with-requires
 with-requires c κs = search needs
@@ -62,7 +62,7 @@ returns-2 : tie.Need-returns-2
 unfolding Kept
 returns-2 c =
     let e = c .before .before .before .before .before .before .before in
-    let a = e .before .before .args in
+    let a = e .before .before .before .args in
     rw (
       told e .chosen .of-kind,
       told e .a .is,

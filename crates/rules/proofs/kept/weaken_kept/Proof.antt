@@ -9,10 +9,10 @@ use Rattle.rules.proofs.kept.weaken_kept.Statement.{statement}
 use Rattle.rules.proofs.kept.weaken_kept.Tie as tie
 
 -- a principal that belongs is a code of a set
-small : (c : tie.Else1) → getD (c .before .before .args .links .now) (4 * c .before .before .args .v) 0 < 512
+small : (c : tie.Else1) → getD (c .before .before .before .args .links .now) (4 * c .before .before .before .args .v) 0 < 512
 small c =
-    let a = c .before .before .args in
-    belongs-small (a .links .now) (a .starts .now) (a .codes .now) (a .v) (c .before .before .pre .0) (was-true (c .before .belongs .ensures) (c .if1 .left))
+    let a = c .before .before .before .args in
+    belongs-small (a .links .now) (a .starts .now) (a .codes .now) (a .v) (c .before .before .before .pre .0) (was-true (c .before .belongs .ensures) (c .if1 .left))
 
 belongs-requires : tie.Need-belongs-requires
 belongs-requires c κs = search needs
@@ -28,7 +28,7 @@ add-child-is : tie.Need-add-child-is
 add-child-is c = search needs
 
 side-requires : tie.Need-side-requires
-side-requires c κs = (c .before .before .pre .0, small c)
+side-requires c κs = (c .before .before .before .pre .0, small c)
 
 child-is-requires : tie.Need-child-is-requires
 child-is-requires c κs = search needs

@@ -22,7 +22,7 @@ loop-holds : tie.Need-loop-holds Inv-loop μ-loop
 loop-holds c = (omega arith, rw (c .clear-flags .ensures) (length-replicate {A = Bool} 1024 false), λ ls w h. absurd (omega arith))
 
 may-loop-requires : tie.Need-may-loop-requires Inv-loop μ-loop
-may-loop-requires c κs = (omega arith, c .before .before .before .before .pre .1 _ (c .loop-test .taken))
+may-loop-requires c κs = (omega arith, c .before .before .before .before .before .pre .1 _ (c .loop-test .taken))
 
 element-write-flags : tie.Need-element-write-flags Inv-loop μ-loop
 element-write-flags c = search needs

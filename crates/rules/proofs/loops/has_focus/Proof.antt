@@ -22,8 +22,8 @@ loop-holds c = refl
 mul-if1 : tie.Need-mul-if1 Inv-loop μ-loop
 mul-if1 c = search needs
 
-element-copy-out-if1 : tie.Need-element-copy-out-if1 Inv-loop μ-loop
-element-copy-out-if1 c = search needs
+shared-slice-read-if1 : tie.Need-shared-slice-read-if1 Inv-loop μ-loop
+shared-slice-read-if1 c = search needs
 
 returns : tie.Need-returns Inv-loop μ-loop
 returns c = sym (c .before .before .before .loop .inv ∙ focus-found _ _ _ (c .before .before .loop-test .taken) (eq-eqb _ _ (c .if1 .taken)))
@@ -48,7 +48,7 @@ has-focus-spec =
     μ-loop
     loop-holds
     mul-if1
-    element-copy-out-if1
+    shared-slice-read-if1
     returns
     add-i
     loop-less

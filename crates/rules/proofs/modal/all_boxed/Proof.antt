@@ -22,17 +22,17 @@ loop-holds c = (search needs, search needs, refl)
 mul-boxed : tie.Need-mul-boxed Inv-loop μ-loop
 mul-boxed c = search needs
 
-element-copy-out-boxed : tie.Need-element-copy-out-boxed Inv-loop μ-loop
-element-copy-out-boxed c = search needs
+shared-slice-read-boxed : tie.Need-shared-slice-read-boxed Inv-loop μ-loop
+shared-slice-read-boxed c = search needs
 
 boxed-requires : tie.Need-boxed-requires Inv-loop μ-loop
 boxed-requires c κs =
-    let s = c .before .before .before in
+    let s = c .before .before .before .before in
     s .pre .small _ (part-member (s .args .codes .now) (s .args .from) (s .args .to) (c .before .before .loop .i) (omega arith) (omega arith) (s .pre .long))
 
 returns : tie.Need-returns Inv-loop μ-loop
 returns c =
-    let s = c .before .before .before .before .before in
+    let s = c .before .before .before .before .before .before in
     let l = c .before .before .before .before .loop in
     sym (l .inv .2 ∙ all-stop _ (s .args .codes .now) (l .i) (s .args .to) (omega arith) (s .pre .long) (was-false (c .before .boxed .ensures) (c .if1 .taken)))
 
@@ -44,7 +44,7 @@ loop-less c = search needs
 
 loop-again : tie.Need-loop-again Inv-loop μ-loop
 loop-again c =
-    let s = c .before .before .before .before .before in
+    let s = c .before .before .before .before .before .before in
     let l = c .before .before .before .before .loop in (
       search needs,
       search needs,
@@ -53,7 +53,7 @@ loop-again c =
 
 returns-2 : tie.Need-returns-2 Inv-loop μ-loop
 returns-2 c =
-    let s = c .before .before in
+    let s = c .before .before .before in
     sym (c .before .loop .inv .2 ∙ all-end _ (s .args .codes .now) (c .before .loop .i) (s .args .to) (omega arith))
 
 pub all-boxed-spec : {M : Type 1} → statement M
@@ -64,7 +64,7 @@ all-boxed-spec =
     μ-loop
     loop-holds
     mul-boxed
-    element-copy-out-boxed
+    shared-slice-read-boxed
     boxed-requires
     returns
     add-i

@@ -19,27 +19,27 @@ use Rattle.rules.proofs.modal.box_kept.Statement.{statement}
 use Rattle.rules.proofs.modal.box_kept.Tie as tie
 
 -- where the first test is passed, the principal is a box
-told : (c : tie.Else1) → let a = c .before .before .args in
+told : (c : tie.Else1) → let a = c .before .before .before .args in
     Chosen (a .kinds .now) (a .a .now) (a .b .now) (a .count) (a .links .now) (a .starts .now) (a .codes .now) (a .v) Kind.BOX
 told c =
-    let a = c .before .before .args in
-    let R = c .before .before .pre in
+    let a = c .before .before .before .args in
+    let R = c .before .before .before .pre in
     chosen R Kind.BOX (c .before .of-kind .ensures (a .a .now) (a .b .now) (a .count) (R .entries)) (c .if1 .left)
 
 -- what the second test says: of the members, and of the side
-members : (c : tie.After-all-boxed) → let a = c .before .before .before .before .before .before .before .before .args in
+members : (c : tie.After-all-boxed) → let a = c .before .before .before .before .before .before .before .before .before .args in
     c .all-boxed .result ≡ all (Boxed (a .kinds .now) (getD (a .links .now) (4 * a .v) 0)) (codesAt (a .starts .now) (a .codes .now) (a .v))
 members c = rw (c .before .before .before .before .wide .ensures, c .before .before .wide2 .ensures) at (c .all-boxed .ensures)
 
-others : (c : tie.After-all-boxed) → let a = c .before .before .before .before .before .before .before .before .args in
+others : (c : tie.After-all-boxed) → let a = c .before .before .before .before .before .before .before .before .before .args in
     c .all-boxed .result
     ≡ all (λ d. eqb (kind (tableOf (a .kinds .now) (a .a .now) (a .b .now) (a .count)) (entryOf d)) Kind.DIAMOND) (sides (local (a .links .now) (a .starts .now) (a .codes .now)) (a .v))
-others c = members c ∙ others-boxed _ _ _ _ _ _ _ _ (c .before .before .before .before .before .before .before .before .pre)
+others c = members c ∙ others-boxed _ _ _ _ _ _ _ _ (c .before .before .before .before .before .before .before .before .before .pre)
 
 -- where it is passed, every member has an operand
-modals : (c : tie.Else2) → let a = c .before .before .before .before .before .before .before .before .before .args in
+modals : (c : tie.Else2) → let a = c .before .before .before .before .before .before .before .before .before .before .args in
     (d : ℕ) → elements (codesAt (a .starts .now) (a .codes .now) (a .v)) d → Modal (a .kinds .now) (a .a .now) (a .b .now) (a .count) d
-modals c = modal _ _ _ _ _ _ _ _ (c .before .before .before .before .before .before .before .before .before .pre) (told (c .before .before .before .before .before .before .before)) (was-true (members (c .before)) (c .if2 .left))
+modals c = modal _ _ _ _ _ _ _ _ (c .before .before .before .before .before .before .before .before .before .before .pre) (told (c .before .before .before .before .before .before .before)) (was-true (members (c .before)) (c .if2 .left))
 
 of-kind-requires : tie.Need-of-kind-requires
 of-kind-requires c κs = search needs
@@ -47,8 +47,8 @@ of-kind-requires c κs = search needs
 returns : tie.Need-returns
 unfolding Kept
 returns c =
-    let a = c .before .before .args in
-    rw (was-false (c .before .of-kind .ensures (a .a .now) (a .b .now) (a .count) (c .before .before .pre .entries)) (c .if1 .taken)) refl
+    let a = c .before .before .before .args in
+    rw (was-false (c .before .of-kind .ensures (a .a .now) (a .b .now) (a .count) (c .before .before .before .pre .entries)) (c .if1 .taken)) refl
 
 mul-wide : tie.Need-mul-wide
 mul-wide c = search needs
@@ -82,7 +82,7 @@ element-copy-out-all-boxed c = search needs
 
 all-boxed-requires : tie.Need-all-boxed-requires
 all-boxed-requires c κs =
-    let p = c .before .before .before .before .before .before .before .pre .here in
+    let p = c .before .before .before .before .before .before .before .before .pre .here in
     rw (c .before .before .before .wide .ensures, c .before .wide2 .ensures) (p .span)
 
 returns-2 : tie.Need-returns-2
@@ -97,7 +97,7 @@ add-child-is c = search needs
 
 stepped-requires : tie.Need-stepped-requires
 stepped-requires c κs =
-    let s = c .before .before .before .before .before .before .before .before .before in
+    let s = c .before .before .before .before .before .before .before .before .before .before in
     let p = s .pre .here in
     rw (c .before .before .before .before .before .wide .ensures, c .before .before .before .wide2 .ensures)
     (p .span, λ d m. modals c d m .within)
@@ -109,7 +109,7 @@ returns-3 : tie.Need-returns-3
 unfolding Kept
 returns-3 c =
     let e = c .before .before in
-    let a = c .before .before .before .before .before .before .before .before .before .before .before .args in
+    let a = c .before .before .before .before .before .before .before .before .before .before .before .before .args in
     rw (told (c .before .before .before .before .before .before .before .before .before) .of-kind, was-true (others (c .before .before .before)) (c .before .before .if2 .left))
     (c .child-is .ensures _ (rw (c .before .before .before .before .before .before .before .wide .ensures, c .before .before .before .before .before .wide2 .ensures) at (c .before .stepped .ensures) (a .b .now) (a .count) (modals e)))
 

@@ -24,14 +24,14 @@ abbrev μ-loop : tie.MeasureT-loop
 μ-loop kinds a codes from to set₀ i₀ set i = i - from
 
 -- the code at hand is one of the part
-here : (c : tie.After-code Inv-loop μ-loop) → let s = c .before .before .before in
+here : (c : tie.After-shared-slice-known2 Inv-loop μ-loop) → let s = c .before .before .before .before in
     elements (part (s .args .codes .now) (s .args .from) (s .args .to)) (getD (s .args .codes .now) (c .before .before .loop .i - 1) 0)
 here c =
-    let s = c .before .before .before in
+    let s = c .before .before .before .before in
     part-member (s .args .codes .now) (s .args .from) (s .args .to) (c .before .before .loop .i - 1) (omega arith) (omega arith) (s .pre .0 .long)
 
 loop-holds : tie.Need-loop-holds Inv-loop μ-loop
-loop-holds c = (search needs, search needs, λ ys n M. each-end _ (c .args .codes .now) (c .args .to) holds-none)
+loop-holds c = (search needs, search needs, λ ys n M. each-end _ (c .before .args .codes .now) (c .before .args .to) holds-none)
 
 sub-i : tie.Need-sub-i Inv-loop μ-loop
 sub-i c = search needs
@@ -39,12 +39,12 @@ sub-i c = search needs
 mul-code : tie.Need-mul-code Inv-loop μ-loop
 mul-code c = search needs
 
-element-copy-out-code : tie.Need-element-copy-out-code Inv-loop μ-loop
-element-copy-out-code c = search needs
+shared-slice-read-code : tie.Need-shared-slice-read-code Inv-loop μ-loop
+shared-slice-read-code c = search needs
 
 operand-code-requires : tie.Need-operand-code-requires Inv-loop μ-loop
 operand-code-requires c κs =
-    let p = c .before .before .before .pre in
+    let p = c .before .before .before .before .pre in
     (p .0 .small _ (here c), p .1 _ (here c), omega arith)
 
 with-requires : tie.Need-with-requires Inv-loop μ-loop
@@ -55,7 +55,7 @@ loop-less c = search needs
 
 loop-again : tie.Need-loop-again Inv-loop μ-loop
 loop-again c =
-    let s = c .before .before .before .before .before in
+    let s = c .before .before .before .before .before .before in
     let l = c .before .before .before .before .loop in (
       search needs,
       search needs,
@@ -68,7 +68,7 @@ loop-again c =
 
 returns : tie.Need-returns Inv-loop μ-loop
 returns c ys n M =
-    let whole : c .before .loop .i ≡ c .before .before .args .from = omega arith in
+    let whole : c .before .loop .i ≡ c .before .before .before .args .from = omega arith in
     rw whole at (c .before .loop .inv .2 ys n M)
 
 pub stepped-spec : {M : Type 1} → statement M
@@ -80,7 +80,7 @@ stepped-spec =
     loop-holds
     sub-i
     mul-code
-    element-copy-out-code
+    shared-slice-read-code
     operand-code-requires
     with-requires
     loop-less

@@ -23,7 +23,7 @@ has-requires c κs = search needs
 returns : tie.Need-returns
 unfolding Belonging
 returns c =
-    let a = c .before .before .before .args in
+    let a = c .before .before .before .before .args in
     c .has .ensures (codesAt (a .starts .now) (a .codes .now) (a .v)) (c .before .before .sequent .ensures)
 
 pub belongs-spec : {M : Type 1} → statement M

@@ -15,14 +15,14 @@ wide-requires : tie.Need-wide-requires
 wide-requires c κs = search needs
 
 sequent-requires : tie.Need-sequent-requires
-sequent-requires c κs = rw (c .wide .ensures) (c .before .before .pre .1)
+sequent-requires c κs = rw (c .wide .ensures) (c .before .before .before .pre .1)
 
 same-requires : tie.Need-same-requires
 same-requires c κs = search needs
 
 returns : tie.Need-returns
 returns c l H =
-    let a = c .before .before .before .before .args in
+    let a = c .before .before .before .before .before .args in
     c .same .ensures (codesAt (a .starts .now) (a .codes .now) (getD (a .links .now) (a .link) 0)) l
     (rw (c .before .before .wide .ensures) at (c .before .sequent .ensures)) H
 

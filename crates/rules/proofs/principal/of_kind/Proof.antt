@@ -13,7 +13,7 @@ belongs-requires c κs = search needs
 
 returns : tie.Need-returns
 returns c xs ys n E =
-    let a = c .before .before .args in
+    let a = c .before .before .before .args in
     kind-no (a .links .now) (a .starts .now) (a .codes .now) (a .v) (tableOf (a .kinds .now) xs ys n) (a .kind) (sym (c .before .belongs .ensures) ∙ not-true _ (c .if1 .taken))
 
 mul-entry-of : tie.Need-mul-entry-of
@@ -30,13 +30,13 @@ entry-of-requires c κs = search needs
 
 element-copy-out-result : tie.Need-element-copy-out-result
 element-copy-out-result c =
-    let a = c .before .before .before .before .args in
-    let s = belongs-small (a .links .now) (a .starts .now) (a .codes .now) (a .v) (c .before .before .before .before .pre) (sym (c .before .before .before .belongs .ensures) ∙ not-false _ (c .before .before .if1 .left)) in
+    let a = c .before .before .before .before .before .args in
+    let s = belongs-small (a .links .now) (a .starts .now) (a .codes .now) (a .v) (c .before .before .before .before .before .pre) (sym (c .before .before .before .belongs .ensures) ∙ not-false _ (c .before .before .if1 .left)) in
     omega (arith, c .entry-of .ensures)
 
 returns-2 : tie.Need-returns-2
 returns-2 c xs ys n E =
-    let a = c .before .before .before .before .before .args in
+    let a = c .before .before .before .before .before .before .args in
     rw (c .before .entry-of .ensures)
     (kind-yes (a .links .now) (a .starts .now) (a .codes .now) (a .v) (a .kinds .now) xs ys n (a .kind) E
     (sym (c .before .before .before .before .belongs .ensures) ∙ not-false _ (c .before .before .before .if1 .left)))

@@ -26,7 +26,7 @@ wide-requires-2 c κs = search needs
 
 set-of-requires : tie.Need-set-of-requires
 set-of-requires c κs =
-    let p = c .before .before .before .before .pre in
+    let p = c .before .before .before .before .before .pre in
     rw (c .before .before .wide .ensures, c .wide2 .ensures) (p .span)
 
 returns : tie.Need-returns

@@ -24,20 +24,20 @@ sub-i c = search needs
 mul-with : tie.Need-mul-with Inv-loop μ-loop
 mul-with c = search needs
 
-element-copy-out-with : tie.Need-element-copy-out-with Inv-loop μ-loop
-element-copy-out-with c = search needs
+shared-slice-read-with : tie.Need-shared-slice-read-with Inv-loop μ-loop
+shared-slice-read-with c = search needs
 
 with-requires : tie.Need-with-requires Inv-loop μ-loop
 with-requires c κs =
-    let a = c .before .before .before .args in
-    c .before .before .before .pre .small _ (part-member (a .codes .now) (a .from) (a .to) (c .before .before .loop .i - 1) (omega arith) (omega arith) (search needs))
+    let a = c .before .before .before .before .args in
+    c .before .before .before .before .pre .small _ (part-member (a .codes .now) (a .from) (a .to) (c .before .before .loop .i - 1) (omega arith) (omega arith) (search needs))
 
 loop-less : tie.Need-loop-less Inv-loop μ-loop
 loop-less c = search needs
 
 loop-again : tie.Need-loop-again Inv-loop μ-loop
 loop-again c =
-    let a = c .before .before .before .before .args in
+    let a = c .before .before .before .before .before .args in
     let l = c .before .before .before .loop in (
       search needs,
       search needs,
@@ -47,7 +47,7 @@ loop-again c =
 
 returns : tie.Need-returns Inv-loop μ-loop
 returns c =
-    let whole : c .before .loop .i ≡ c .before .before .args .from = omega arith in
+    let whole : c .before .loop .i ≡ c .before .before .before .args .from = omega arith in
     rw whole at (c .before .loop .inv .2)
 
 pub set-of-spec : {M : Type 1} → statement M
@@ -59,7 +59,7 @@ set-of-spec =
     loop-holds
     sub-i
     mul-with
-    element-copy-out-with
+    shared-slice-read-with
     with-requires
     loop-less
     loop-again

@@ -1,0 +1,134 @@
+//! The claims and models that are evaluated.
+
+use gate_tests::hard;
+use reference::generate::{extremes, Rng};
+use reference::{draft, Entry, Kind};
+
+const STATES: usize = 64;
+
+pub struct Evaluation {
+    pub name: String,
+    pub claim: Vec<u8>,
+    pub model: Vec<u8>,
+}
+
+impl Evaluation {
+    fn new(name: impl Into<String>, entries: &[Entry], model: &[u8]) -> Evaluation {
+        Evaluation {
+            name: name.into(),
+            claim: hard::claim(entries),
+            model: model.to_vec(),
+        }
+    }
+}
+
+pub fn all() -> Vec<Evaluation> {
+    let (random, complete, sparse) = (graph(3), graph(STATES), graph(1));
+    let (path, descent, turns) = (hard::path(STATES), descent(), hard::turns());
+    let tower = extremes::tower(Kind::Or, 250);
+    let nested = extremes::funnel(Kind::Mu, Kind::Box, Kind::And, 80);
+    let beside = extremes::side_by_side(120);
+    let (mixed_mu, mixed_nu) = (hard::mixed(Kind::Mu, 21), hard::mixed(Kind::Nu, 21));
+    let in_a_row = hard::relay(Kind::Mu, 50, 0);
+    let padded = hard::relay(Kind::Nu, 40, 50);
+    vec![
+        typical("typical claim, random graph", &random),
+        typical("typical claim, complete graph", &complete),
+        Evaluation::new("or tower of 250, random graph", &tower, &random),
+        Evaluation::new("80 nested mu, random graph", &nested, &random),
+        Evaluation::new("80 nested mu, state by state", &nested, &descent),
+        Evaluation::new("120 side by side, random graph", &beside, &random),
+        Evaluation::new("63 apart, state by state", &hard::apart(63), &path),
+        Evaluation::new("21 mixed mu, sparse graph", &mixed_mu, &sparse),
+        Evaluation::new("21 mixed nu, state by state", &mixed_nu, &path),
+        Evaluation::new("60 nested mu in turns", &hard::snake(60), &turns),
+        Evaluation::new("50 mu in a row", &in_a_row, &path),
+        Evaluation::new("40 nu in a row, 50 boxes beside", &padded, &path),
+    ]
+}
+
+/// Families by depth. The first needs hardly more rounds where it is deeper; the
+/// others need some more for every fixpoint.
+pub fn growing() -> Vec<Vec<Evaluation>> {
+    let (descent, turns, path) = (descent(), hard::turns(), hard::path(STATES));
+    let named = |name: &str, depth: u16| format!("{depth} {name}");
+    let nested = [10, 20, 40, 80].map(|depth| {
+        let entries = extremes::funnel(Kind::Mu, Kind::Box, Kind::And, depth);
+        Evaluation::new(named("nested mu", depth), &entries, &descent)
+    });
+    let turning = [10, 20, 40, 60].map(|depth| {
+        Evaluation::new(
+            named("nested mu in turns", depth),
+            &hard::snake(depth),
+            &turns,
+        )
+    });
+    let in_a_row = [10, 20, 40, 50].map(|depth| {
+        let entries = hard::relay(Kind::Mu, depth, 0);
+        Evaluation::new(named("mu in a row", depth), &entries, &path)
+    });
+    vec![nested.into(), turning.into(), in_a_row.into()]
+}
+
+/// What a mount's claim is like: whatever is asked for (letter 0) is reached on
+/// every way (letter 1), rest (letter 2) can be reached, and the stop (letter 3)
+/// is never met.
+fn typical(name: &str, model: &[u8]) -> Evaluation {
+    let entries = [
+        Entry::new(Kind::Name, 13, 0),
+        Entry::new(Kind::Name, 9, 0),
+        Entry::new(Kind::Negated, 0, 0),
+        Entry::new(Kind::Letter, 1, 0),
+        Entry::new(Kind::True, 0, 0),
+        Entry::new(Kind::Diamond, 4, 0),
+        Entry::new(Kind::Box, 1, 0),
+        Entry::new(Kind::And, 5, 6),
+        Entry::new(Kind::Or, 3, 7),
+        Entry::new(Kind::Mu, 8, 0),
+        Entry::new(Kind::Or, 2, 9),
+        Entry::new(Kind::Box, 0, 0),
+        Entry::new(Kind::And, 10, 11),
+        Entry::new(Kind::Nu, 12, 0),
+        Entry::new(Kind::Name, 18, 0),
+        Entry::new(Kind::Letter, 2, 0),
+        Entry::new(Kind::Diamond, 14, 0),
+        Entry::new(Kind::Or, 15, 16),
+        Entry::new(Kind::Mu, 17, 0),
+        Entry::new(Kind::Name, 23, 0),
+        Entry::new(Kind::Negated, 3, 0),
+        Entry::new(Kind::Box, 19, 0),
+        Entry::new(Kind::And, 20, 21),
+        Entry::new(Kind::Nu, 22, 0),
+    ];
+    Evaluation {
+        name: name.to_string(),
+        claim: draft::claim(&entries, &[13, 18, 23]).bytes,
+        model: model.to_vec(),
+    }
+}
+
+/// A random graph with that many successors for each state on average, and
+/// letters that are rarer the higher they are.
+fn graph(successors: usize) -> Vec<u8> {
+    let mut rng = Rng::new(64);
+    let letters: Vec<u32> = (0..STATES)
+        .map(|_| (0..4).fold(0, |mask, p| mask | u32::from(rng.chance(1, 2 + 2 * p)) << p))
+        .collect();
+    let leads: Vec<Vec<bool>> = (0..STATES)
+        .map(|_| {
+            (0..STATES)
+                .map(|_| rng.chance(successors, STATES))
+                .collect()
+        })
+        .collect();
+    hard::model(
+        STATES,
+        |state| letters[state],
+        |state, next| leads[state][next],
+    )
+}
+
+/// Each state leads to all below it, so that boxes become true one by one.
+fn descent() -> Vec<u8> {
+    hard::model(STATES, |_| 0, |state, next| next < state)
+}

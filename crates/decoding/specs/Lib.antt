@@ -1,0 +1,11 @@
+-- claim and proof by bytes, before the rules
+pub mod Files
+pub mod Found
+pub mod FilesLaws
+-- the decoding on its way to lent records
+pub mod Columns
+pub mod ColumnsLaws
+pub mod StoreLaws
+-- the proof that stands in lent records
+pub mod Standing
+pub mod StandingLaws

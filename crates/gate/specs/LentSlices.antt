@@ -1,0 +1,20 @@
+-- the lent slices of records by what they show, and what stores of a decoding leave in them
+use mathlib.Core.Path.{_≡_, refl}
+use mathlib.Core.List.{List}
+use Prim.Native.Nat.{ℕ}
+use Rattle.verdict.specs.Lists.{written}
+use Rattle.formula.specs.Table.{Table}
+use Rattle.formula.specs.Nodes.{Proof}
+use Rattle.formula.specs.Records.{nodeRecords, allCodes}
+use Rattle.records.specs.Records.{shownEntries, shownNodes}
+use Rattle.records.specs.declared.Entry.{Entry}
+use Rattle.records.specs.declared.Node.{Node}
+use Rattle.gate.specs.Slices.{Lent, LentWords}
+
+-- the slices of presenting
+abbrev pub lentOf : List Entry → List Node → List ℕ → Lent
+lentOf es vs cs = record { entries = shownEntries es; nodes = shownNodes vs; codes = cs }
+
+-- the slices of an evaluation
+abbrev pub lentWordsOf : List Entry → List ℕ → LentWords
+lentWordsOf es ws = record { entries = shownEntries es; words = ws }

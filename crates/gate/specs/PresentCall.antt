@@ -1,0 +1,77 @@
+-- presenting's promise: what it answers and leaves, and demand 3 stands in it
+use mathlib.Core.Path.{_≡_, refl, sym, ap, _∙_}
+use mathlib.Core.Logic.{_↔_}
+use mathlib.Core.Bool.{Bool, true, false}
+use mathlib.Core.List.{List}
+use Prim.Native.Nat.{ℕ}
+use native.Mathlib.Omega.{arith}
+use Rattle.verdict.specs.Verdict.{Verdict, accepted, refused, packed}
+use Rattle.encoding.specs.Encode.{Bytes}
+use Rattle.records.specs.declared.Entry.{Entry}
+use Rattle.records.specs.declared.Node.{Node}
+use Rattle.gate.specs.GateState.{Gate, closed, opened, holding}
+use Rattle.gate.specs.Plain.{stateOf, leftBy}
+use Rattle.gate.specs.Slices.{Lent, short}
+use Rattle.gate.specs.LentSlices.{lentOf}
+use Rattle.gate.specs.Present.{presenting}
+use Rattle.gate.specs.PresentLaws.{Granted, presented-verdict}
+use Rattle.gate.specs.Correct.{Correct, Irrefutable}
+use Rattle.gate.specs.Demands.{presented-sound, presented-exact}
+use Rattle.gate.specs.Numbered.{packed-zero}
+use Rattle.gate.specs.PresentStep.{right, PresentedStep}
+use Rattle.gate.specs.declared.State.{State}
+use Rattle.gate.specs.declared.lent.Numbered.{Numbered}
+
+-- the promise of presenting: PresentedStep's three, and demand 3
+pub record PresentCall (s : State) (tag : ℕ) (claim proof : List ℕ) (es : List Entry) (vs : List Node) (cs : List ℕ) (r : ℕ) (s′ : State) (es′ : List Entry) (vs′ : List Node) (cs′ : List ℕ) : Type 0 where
+  -- 0 for accepted, or refusal × 65,536 + place
+  pub answer : r ≡ packed (right s tag claim proof es vs cs .answer)
+  pub state : s′ ≡ leftBy (right s tag claim proof es vs cs .answer) (right s tag claim proof es vs cs .gate) s
+  pub lent : lentOf es′ vs′ cs′ ≡ right s tag claim proof es vs cs .lent
+  -- accepted: in every finite model every state has a member of the claim that is true there
+  pub sound : r ≡ 0 → Irrefutable claim
+  -- "whenever presenting says so, the gate then holds the tag it was given"
+  pub holds : r ≡ 0 → s′ ≡ record { phase = 2; tag = tag }
+  -- slices long enough, gate open, no permit held: accepted exactly when claim and proof are well formed and keep every rule
+  pub exact : stateOf s ≡ opened → short (lentOf es vs cs) ≡ false → (r ≡ 0) ↔ Correct claim proof
+
+module _ (tag : ℕ) (claim proof : List ℕ) (bc : Bytes claim) (bp : Bytes proof) (l : Lent) where
+  too-short : short l ≡ true → presenting opened tag claim proof l .answer ≡ refused 1 0
+  unfolding presenting
+  too-short h = rw h refl
+
+  opened-zero : (b : Bool) → short l ≡ b → packed (presenting opened tag claim proof l .answer) ≡ 0 → presenting opened tag claim proof l .answer ≡ accepted
+  opened-zero true h z = absurd (omega (arith, ap packed (too-short h)))
+  opened-zero false h z =
+      let same = presented-verdict tag claim proof l h in
+      same ∙ packed-zero claim proof bc bp (sym (ap packed same) ∙ z)
+
+  -- 0 for accepted, and for nothing else: 50, 51 and 1 are no more 0 than the verdict's refusals
+  presented-zero : (g : Gate) → packed (presenting g tag claim proof l .answer) ≡ 0 → presenting g tag claim proof l .answer ≡ accepted
+  unfolding presenting
+  presented-zero closed z = absurd (omega arith)
+  presented-zero opened z = opened-zero (short l) refl z
+  presented-zero (holding old) z = absurd (omega arith)
+
+module _ {s : State} {tag : ℕ} {claim proof : List ℕ} {es : List Entry} {vs : List Node} {cs : List ℕ} (bc : Bytes claim) (bp : Bytes proof)
+    {n : Numbered} {es′ : List Entry} {vs′ : List Node} {cs′ : List ℕ} (step : PresentedStep s tag claim proof es vs cs n es′ vs′ cs′) where
+  abbrev answered : Verdict
+  answered = right s tag claim proof es vs cs .answer
+
+  accepts : n .answer ≡ 0 → answered ≡ accepted
+  accepts z = presented-zero tag claim proof bc bp (lentOf es vs cs) (stateOf s) (sym (step .answer) ∙ z)
+
+  sound : n .answer ≡ 0 → Granted tag claim proof (lentOf es vs cs) (stateOf s) × Irrefutable claim
+  sound z = presented-sound claim proof bc bp (stateOf s) tag (lentOf es vs cs) (accepts z)
+
+  holds : n .answer ≡ 0 → n .state ≡ record { phase = 2; tag = tag }
+  holds z = step .state ∙ rw (accepts z, sound z .0 .holds) refl
+
+  exact : stateOf s ≡ opened → short (lentOf es vs cs) ≡ false → (n .answer ≡ 0) ↔ Correct claim proof
+  exact was-open long =
+      let same : answered ≡ presenting opened tag claim proof (lentOf es vs cs) .answer = ap (λ (g : Gate). presenting g tag claim proof (lentOf es vs cs) .answer) was-open in
+      let right-if = presented-exact claim proof bc bp tag (lentOf es vs cs) long in
+      (λ z. right-if .0 (sym same ∙ accepts z), λ k. step .answer ∙ ap packed (same ∙ right-if .1 k))
+
+  pub present-call : PresentCall s tag claim proof es vs cs (n .answer) (n .state) es′ vs′ cs′
+  present-call = record { answer = step .answer; state = step .state; lent = step .lent; sound = λ z. sound z .1; holds = holds; exact = exact }

@@ -1,0 +1,125 @@
+// An evaluation in plain numbers: the claim's refusals, then the model's, then each entry's word. The records are stored by the caller, as many as the answer says.
+ghost use Prim.Native.Nat.{_≤_};
+ghost use mathlib.Core.Path.{_≡_};
+ghost use lib.ListN.{length};
+ghost use Rattle.formula.specs.Plain.{tableOf};
+ghost use Rattle.formula.specs.Judge.{judgeTable};
+ghost use Rattle.reader.specs.ReadClaim.{readClaim};
+ghost use Rattle.model.specs.ReadModel.{readModel};
+ghost use Rattle.evaluator.specs.Claim.{Given};
+ghost use Rattle.gate.specs.Evaluate.{afterModel, afterTable, afterClaim};
+ghost use Rattle.decoding.specs.Files.{tableIn};
+ghost use Rattle.gate.specs.EvaluateFiles.{EvaluatedFiles, EvaluateCall, Staged, refusal};
+ghost use Rattle.gate.specs.EvaluateStages.{TableHeld};
+use decoding::store_claim;
+use evaluator::evaluate;
+use formula::judge;
+use model::read::ModelRead;
+use model::read::read_model;
+use reader::claim::read_claim;
+use records::Entry;
+use verdict::Verdict;
+
+// How many entries' records are to be stored, and what is answered: 0, or refusal × 65,536 + place.
+pub struct Evaluation {
+    pub answer: u32,
+    pub entries: usize,
+}
+
+// "Refusals 1 to 34 and 60 to 64 write nothing to lent slices."
+fn refuse(number: u16, place: u16) -> Evaluation
+    ensures { λ r. ⌜ r ≡ refusal number place ⌝ }
+{
+    let answer = verdict::pack(Verdict::Refused { number, place });
+    Evaluation { answer, entries: 0 }
+}
+
+// 60 to 64: the model's bytes, and then "one 64-bit word per entry".
+fn after_model(
+    model: &[u8],
+    kinds: &[u8; 256],
+    a: &[u16; 256],
+    b: &[u16; 256],
+    count: usize,
+    words: &mut [u64],
+) -> Evaluation
+    requires { ⌜ Given (now kinds) (now a) (now b) count (now words) ⌝ }
+    ensures { λ r. ⌜ Staged (tableOf (now (kinds .entry)) (now (a .entry)) (now (b .entry)) count) (afterModel (tableOf (now (kinds .entry)) (now (a .entry)) (now (b .entry)) count) (readModel (now (model .entry)))) (now (words .entry)) r (now (words .exit)) ⌝ }
+{
+    let mut masks = [0u32; 64];
+    let mut marks = [[0u8; 64]; 64];
+    match read_model(model, &mut masks, &mut marks) {
+        ModelRead::Refused { number, place } => refuse(number, place),
+        ModelRead::Read { states } => {
+            evaluate(kinds, a, b, count, &masks, &marks, states, words);
+            Evaluation {
+                answer: 0,
+                entries: count,
+            }
+        }
+    }
+}
+
+// 20 to 23 over the claim's table, and then the model.
+fn after_table(
+    model: &[u8],
+    kinds: &[u8; 256],
+    a: &[u16; 256],
+    b: &[u16; 256],
+    count: usize,
+    words: &mut [u64],
+) -> Evaluation
+    requires { ⌜ TableHeld (now kinds) (now a) (now b) count (now words) ⌝ }
+    ensures { λ r. ⌜ Staged (tableOf (now (kinds .entry)) (now (a .entry)) (now (b .entry)) count) (λ l. afterTable (judgeTable (tableOf (now (kinds .entry)) (now (a .entry)) (now (b .entry)) count)) l (afterModel (tableOf (now (kinds .entry)) (now (a .entry)) (now (b .entry)) count) (readModel (now (model .entry))) l)) (now (words .entry)) r (now (words .exit)) ⌝ }
+{
+    match judge(kinds, a, b, count) {
+        Verdict::Refused { number, place } => refuse(number, place),
+        Verdict::Accepted => after_model(model, kinds, a, b, count, words),
+    }
+}
+
+// 10 to 14: the claim's bytes, and then its table.
+fn after_lengths(claim: &[u8], model: &[u8], words: &mut [u64]) -> Evaluation
+    requires { ⌜ 256 ≤ length (now words) ⌝ }
+    ensures { λ r. ⌜ Staged (tableIn (now (claim .entry))) (afterClaim (readClaim (now (claim .entry))) (now (model .entry))) (now (words .entry)) r (now (words .exit)) ⌝ }
+{
+    let mut kinds = [0u8; 256];
+    let mut a = [0u16; 256];
+    let mut b = [0u16; 256];
+    let mut members = [0u16; 24];
+    let read = read_claim(claim, &mut kinds, &mut a, &mut b, &mut members);
+    let verdict = read.verdict;
+    let count = read.entries;
+    match verdict {
+        Verdict::Refused { number, place } => refuse(number, place),
+        Verdict::Accepted => after_table(model, &kinds, &a, &b, count, words),
+    }
+}
+
+// An evaluation of a claim in a model, for so many lent entry records. 1 comes before the files.
+fn evaluate_files(entries: usize, claim: &[u8], model: &[u8], words: &mut [u64]) -> Evaluation
+    ensures { λ r. ⌜ EvaluatedFiles entries (now (claim .entry)) (now (model .entry)) (now (words .entry)) r (now (words .exit)) ⌝ }
+{
+    if entries < 256 {
+        return refuse(1, 0);
+    }
+    if words.len() < 256 {
+        return refuse(1, 0);
+    }
+    after_lengths(claim, model, words)
+}
+
+// Each entry's word in the model, and the claim's entries as records: 0, or refusal × 65,536 + place.
+#[no_mangle]
+pub extern "C" fn focus_evaluate(
+    claim: &[u8],
+    model: &[u8],
+    entries: &mut [Entry],
+    words: &mut [u64],
+) -> u32
+    ensures { λ r. ⌜ EvaluateCall (now (claim .entry)) (now (model .entry)) (now (entries .entry)) (now (words .entry)) r (now (entries .exit)) (now (words .exit)) ⌝ }
+{
+    let done = evaluate_files(entries.len(), claim, model, words);
+    store_claim(entries, claim, done.entries);
+    done.answer
+}

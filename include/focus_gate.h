@@ -1,0 +1,159 @@
+/* The Focus proof gate for a loader written in C: link target/staticlib/libgate.a.
+ *
+ * An answer is 0 for done or accepted, else refusal x 65,536 + place; focus_take
+ * alone answers otherwise. For every call: no pointer is null, each leads to as
+ * many elements as its length says, and what the call may write overlaps nothing
+ * else that it is lent. The gate keeps no pointer and has no memory of its own. */
+#ifndef FOCUS_GATE_H
+#define FOCUS_GATE_H
+
+#include <stddef.h>
+#include <stdint.h>
+
+#ifdef __cplusplus
+extern "C" {
+#endif
+
+/* The least lengths of lent slices; a shorter one earns FOCUS_SHORT_SLICE. */
+#define FOCUS_ENTRIES 256
+#define FOCUS_NODES 1024
+#define FOCUS_CODES 24576
+#define FOCUS_WORDS 256
+
+/* The phases of a gate. Any other number reads as closed. */
+enum {
+    FOCUS_PHASE_CLOSED = 0,
+    FOCUS_PHASE_OPEN = 1,
+    FOCUS_PHASE_HOLDING = 2
+};
+
+/* Refusals, with the place that comes with each in brackets. "Offset" counts the
+ * bytes of that file from 0. */
+enum {
+    FOCUS_SHORT_SLICE = 1,    /* a lent slice under its least length (0) */
+
+    FOCUS_CLAIM_OPENING = 10, /* wrong or short opening (0) */
+    FOCUS_CLAIM_LENGTH = 11,  /* ends early (its length), or bytes follow (offset) */
+    FOCUS_CLAIM_COUNT = 12,   /* a count out of range (its offset) */
+    FOCUS_CLAIM_MAP = 13,     /* map or kind unfit (offset of the map) */
+    FOCUS_CLAIM_MEMBER = 14,  /* not rising, out of range, or a name (its offset) */
+    FOCUS_BOUNDS = 20,        /* a field out of its bounds, or a name of no fixpoint (entry) */
+    FOCUS_NAME_BELOW = 21,    /* a free name that is not above (entry) */
+    FOCUS_ALTERNATION = 22,   /* a mu with a free nu, or a nu with a free mu (entry) */
+    FOCUS_UNGUARDED = 23,     /* its own name without a box or diamond between (entry) */
+
+    FOCUS_PROOF_OPENING = 30, /* wrong or short opening (0) */
+    FOCUS_PROOF_LENGTH = 31,  /* ends early (its length), or bytes follow (offset) */
+    FOCUS_PROOF_COUNT = 32,   /* a count out of range (its offset) */
+    FOCUS_PROOF_MAP = 33,     /* map or rule unfit (offset of the map) */
+    FOCUS_PROOF_MEMBER = 34,  /* not rising, out of range, or a name (its offset) */
+    FOCUS_CHILD = 35,         /* a bad child number (parent), or an orphan (itself) */
+    FOCUS_ROOT = 36,          /* the root is not the claim in focus (0) */
+    FOCUS_RULE = 37,          /* a rule not kept (node) */
+    FOCUS_BACK_LINK = 38,     /* bad back link or other sequent (leaf) */
+    FOCUS_LOOP = 39,          /* bad loop path (leaf) */
+
+    FOCUS_GATE_CLOSED = 50,   /* presenting, taking or closing on a closed gate (0) */
+    FOCUS_PERMIT_HELD = 51,   /* presenting while a permit is held (0) */
+    FOCUS_NO_PERMIT = 52,     /* taking while open and none is held (0) */
+    FOCUS_NOT_CLOSED = 53,    /* opening a gate that is not closed (0) */
+
+    FOCUS_MODEL_OPENING = 60, /* wrong or short opening (0) */
+    FOCUS_MODEL_LENGTH = 61,  /* ends early (its length), or bytes follow (offset) */
+    FOCUS_MODEL_COUNT = 62,   /* a count out of range (its offset) */
+    FOCUS_MODEL_MAP = 63,     /* map unfit, a zero mask or successor count (offset of the map) */
+    FOCUS_MODEL_MEMBER = 64   /* a successor not rising or out of range (its offset) */
+};
+
+/* The two parts of an answer that is not 0. */
+#define FOCUS_NUMBER(answer) ((uint32_t)(answer) >> 16)
+#define FOCUS_PLACE(answer) ((uint32_t)(answer) & 0xffff)
+
+/* What focus_take answered: a tag, or a refusal whose parts FOCUS_NUMBER and
+ * FOCUS_PLACE give. Every 32-bit tag is a tag, 0 too. */
+#define FOCUS_TOOK(answer) ((uint64_t)(answer) >> 32 == 0)
+
+/* A gate, lent to each call. One with all bytes zero is closed, as a gate starts.
+ * The tag means something only in FOCUS_PHASE_HOLDING. */
+typedef struct {
+    uint8_t phase;
+    uint32_t tag;
+} focus_gate;
+
+/* A decoded entry of a claim. A field that its kind does not have is 0. */
+typedef struct {
+    uint8_t kind;
+    uint16_t a, b;
+} focus_entry;
+
+/* A decoded node of a proof. A field that its rule does not have is 0; its count
+ * codes follow those of the nodes before it. */
+typedef struct {
+    uint8_t rule;
+    uint16_t principal, first, second, back;
+    uint8_t count;
+} focus_node;
+
+/* Opens a closed gate, with no permit and tag 0.
+ * Else 53, and the gate is as it was. */
+uint32_t focus_open(focus_gate *gate);
+
+/* Closes an open gate or one that holds a permit, which is dropped: tag 0.
+ * Else 50, and the gate is as it was. */
+uint32_t focus_close(focus_gate *gate);
+
+/* Answers the held tag and leaves the gate open, with no permit and tag 0.
+ * Else 2^32 + (50 or 52) x 65,536, and the gate is as it was. */
+uint64_t focus_take(focus_gate *gate);
+
+/* Judges a claim and proof on an open gate: 0, and it holds the tag; else the gate is as it was.
+ * With 0 and 35 to 39 each slice begins with its decoding; beyond, and else, nothing is written. */
+uint32_t focus_present(focus_gate *gate, uint32_t tag,
+                       const uint8_t *claim, size_t claim_len,
+                       const uint8_t *proof, size_t proof_len,
+                       focus_entry *entries, size_t entries_len,
+                       focus_node *nodes, size_t nodes_len,
+                       uint16_t *codes, size_t codes_len);
+
+/* Evaluates a claim in a model: 0, and word i has bit s where entry i is true at state s.
+ * With 0 the entries are written too; beyond the last one, and else, nothing is written. */
+uint32_t focus_evaluate(const uint8_t *claim, size_t claim_len,
+                        const uint8_t *model, size_t model_len,
+                        focus_entry *entries, size_t entries_len,
+                        uint64_t *words, size_t words_len);
+
+/* Judges a claim and proof without any gate: 0 for accepted.
+ * It writes nothing. */
+uint32_t focus_check(const uint8_t *claim, size_t claim_len,
+                     const uint8_t *proof, size_t proof_len);
+
+/* The gate reads and writes these structs at fixed places: a compiler that packs
+ * or pads them otherwise must not get through. */
+#if defined(__STDC_VERSION__) && __STDC_VERSION__ >= 201112L
+#define FOCUS_PLACED(type, field, place) \
+    _Static_assert(offsetof(type, field) == (place), #type "." #field " is not at " #place)
+#define FOCUS_SIZED(type, size) \
+    _Static_assert(sizeof(type) == (size), #type " is not of size " #size)
+FOCUS_SIZED(focus_gate, 8);
+FOCUS_PLACED(focus_gate, phase, 0);
+FOCUS_PLACED(focus_gate, tag, 4);
+FOCUS_SIZED(focus_entry, 6);
+FOCUS_PLACED(focus_entry, kind, 0);
+FOCUS_PLACED(focus_entry, a, 2);
+FOCUS_PLACED(focus_entry, b, 4);
+FOCUS_SIZED(focus_node, 12);
+FOCUS_PLACED(focus_node, rule, 0);
+FOCUS_PLACED(focus_node, principal, 2);
+FOCUS_PLACED(focus_node, first, 4);
+FOCUS_PLACED(focus_node, second, 6);
+FOCUS_PLACED(focus_node, back, 8);
+FOCUS_PLACED(focus_node, count, 10);
+#undef FOCUS_PLACED
+#undef FOCUS_SIZED
+#endif
+
+#ifdef __cplusplus
+}
+#endif
+
+#endif

@@ -1,0 +1,90 @@
+//! The records of files that are well formed by their bytes, read off the bytes
+//! here and neither by the gate nor by the reference. Nothing is judged; a file
+//! that ends early is the caller's mistake.
+
+use crate::{Entry, Node};
+
+/// What the record slices hold after a claim and proof were decoded.
+#[derive(Clone, Debug, Default, PartialEq, Eq)]
+pub struct Decoding {
+    pub entries: Vec<Entry>,
+    pub nodes: Vec<Node>,
+    pub codes: Vec<u16>,
+}
+
+pub fn decode(claim: &[u8], proof: &[u8]) -> Decoding {
+    let (nodes, codes) = nodes(proof);
+    Decoding {
+        entries: entries(claim),
+        nodes,
+        codes,
+    }
+}
+
+/// After the opening and a count: a map, the kind, and the fields whose bit
+/// stands; members and their count follow.
+pub fn entries(claim: &[u8]) -> Vec<Entry> {
+    let mut rest = Rest(&claim[4..]);
+    let count = rest.two();
+    (0..count)
+        .map(|_| {
+            let (map, kind) = (rest.one(), rest.one());
+            Entry {
+                kind,
+                a: rest.field(map, 0),
+                b: rest.field(map, 1),
+            }
+        })
+        .collect()
+}
+
+/// After the opening and a count: a map, the rule, the fields whose bit stands,
+/// and with bit 4 a count of codes and the codes.
+fn nodes(proof: &[u8]) -> (Vec<Node>, Vec<u16>) {
+    let mut rest = Rest(&proof[4..]);
+    let mut codes = Vec::new();
+    let count = rest.two();
+    let nodes = (0..count)
+        .map(|_| {
+            let (map, rule) = (rest.one(), rest.one());
+            let mut node = Node {
+                rule,
+                principal: rest.field(map, 0),
+                first: rest.field(map, 1),
+                second: rest.field(map, 2),
+                back: rest.field(map, 3),
+                count: 0,
+            };
+            if map & 1 << 4 != 0 {
+                node.count = rest.one();
+                codes.extend((0..node.count).map(|_| rest.two()));
+            }
+            node
+        })
+        .collect();
+    (nodes, codes)
+}
+
+struct Rest<'a>(&'a [u8]);
+
+impl Rest<'_> {
+    fn one(&mut self) -> u8 {
+        let (&first, rest) = self.0.split_first().expect("a whole file");
+        self.0 = rest;
+        first
+    }
+
+    /// Little-endian.
+    fn two(&mut self) -> u16 {
+        let low = u16::from(self.one());
+        low + 256 * u16::from(self.one())
+    }
+
+    /// "a field whose bit is not set is 0 in its record"
+    fn field(&mut self, map: u8, bit: u8) -> u16 {
+        match map >> bit & 1 {
+            0 => 0,
+            _ => self.two(),
+        }
+    }
+}

@@ -1,0 +1,334 @@
+//! Random claims and models for evaluation: well formed by construction, or
+//! damaged on purpose. The reference has a generator that grows formulas from
+//! above; this one lays tables down from below, so that operands are shared at
+//! random, names stay free over many fixpoints, and blocks tangle.
+
+use reference::draft::{self, DraftState};
+use reference::generate::Rng;
+use reference::{Entry, Kind};
+use std::collections::BTreeSet;
+
+pub struct Pair {
+    pub claim: Vec<u8>,
+    pub model: Vec<u8>,
+    /// One of the two was changed; it may be well formed all the same.
+    pub damaged: bool,
+}
+
+/// An endless run of pairs, one in four damaged.
+pub fn pairs(seed: u64) -> impl Iterator<Item = Pair> {
+    let mut rng = Rng::new(seed);
+    std::iter::repeat_with(move || pair(&mut rng))
+}
+
+fn pair(rng: &mut Rng) -> Pair {
+    let entries = entries(rng);
+    let members = members(rng, &entries);
+    let states = states(rng);
+    let claim = draft::claim(&entries, &members).bytes;
+    let model = draft::model(&states).bytes;
+    let damaged = rng.chance(1, 4);
+    let (claim, model) = match (damaged, rng.below(4)) {
+        (false, _) => (claim, model),
+        (true, 0) => (damage(rng, claim), model),
+        (true, 1) => (ill_formed(rng, entries, &members), model),
+        (true, 2) => (claim, damage(rng, model)),
+        (true, _) => (claim, unfit(rng, states)),
+    };
+    Pair {
+        claim,
+        model,
+        damaged,
+    }
+}
+
+/// What is known of an entry laid down.
+#[derive(Clone, Default)]
+struct Names {
+    free: BTreeSet<usize>,
+    /// Those of them that are reached without a box or diamond.
+    bare: BTreeSet<usize>,
+}
+
+/// A table in the making. Where fixpoints will stand, and of which kind, is
+/// settled first: names below them need their numbers.
+struct Table {
+    fixpoints: Vec<Option<Kind>>,
+    entries: Vec<Entry>,
+    names: Vec<Names>,
+}
+
+/// A well-formed table.
+pub fn entries(rng: &mut Rng) -> Vec<Entry> {
+    let size = match rng.below(16) {
+        0 => 256,
+        1 => rng.between(100, 255),
+        2..=5 => rng.between(30, 100),
+        _ => rng.between(1, 30),
+    };
+    let mut table = Table {
+        fixpoints: fixpoints(rng, size),
+        entries: Vec::with_capacity(size),
+        names: Vec::with_capacity(size),
+    };
+    while table.entries.len() < size {
+        table.lay(rng);
+    }
+    table.entries
+}
+
+/// Few or many fixpoints, in runs of one kind: only those nest without closing
+/// each other's names off. Entry 0 has no operands to be one.
+fn fixpoints(rng: &mut Rng, size: usize) -> Vec<Option<Kind>> {
+    let share = rng.between(2, 8);
+    let mut kind = Kind::Mu;
+    let mut fixpoints = vec![None; size];
+    for fixpoint in fixpoints.iter_mut().skip(1) {
+        if rng.chance(1, share) {
+            if rng.chance(1, 4) {
+                kind = other(kind);
+            }
+            *fixpoint = Some(kind);
+        }
+    }
+    fixpoints
+}
+
+fn other(kind: Kind) -> Kind {
+    match kind {
+        Kind::Mu => Kind::Nu,
+        _ => Kind::Mu,
+    }
+}
+
+impl Table {
+    fn lay(&mut self, rng: &mut Rng) {
+        let number = self.entries.len();
+        let entry = match (self.fixpoints[number], rng.below(10)) {
+            (Some(kind), _) => Entry::new(kind, self.body(rng, kind), 0),
+            // Nothing lies below entry 0, and it is what others fall back on.
+            _ if number == 0 => leaf(rng),
+            (None, 0) => leaf(rng),
+            (None, 1..=3) => self.name(rng),
+            (None, 4..=5) => self.joined(rng, Kind::Or),
+            (None, 6) => self.joined(rng, Kind::And),
+            (None, 7..=8) => Entry::new(Kind::Diamond, self.operand(rng), 0),
+            (None, _) => Entry::new(Kind::Box, self.operand(rng), 0),
+        };
+        self.push(entry);
+    }
+
+    /// Mostly of one of the next fixpoints above.
+    fn name(&self, rng: &mut Rng) -> Entry {
+        let number = self.entries.len();
+        let above: Vec<usize> = (number + 1..self.fixpoints.len())
+            .filter(|&f| self.fixpoints[f].is_some())
+            .collect();
+        let reach = if rng.chance(1, 4) { above.len() } else { 4 };
+        match above.get(rng.below(reach.min(above.len()))) {
+            Some(&fixpoint) => Entry::new(Kind::Name, fixpoint as u16, 0),
+            None => leaf(rng),
+        }
+    }
+
+    fn joined(&self, rng: &mut Rng, kind: Kind) -> Entry {
+        Entry::new(kind, self.operand(rng), self.operand(rng))
+    }
+
+    /// An entry whose free names all lie above the one being laid down, of several
+    /// mostly one with many of them, so that fixpoints come to depend on each
+    /// other. Entry 0 is closed.
+    fn operand(&self, rng: &mut Rng) -> u16 {
+        let number = self.entries.len();
+        let fits = |found: &usize| self.names[*found].free.iter().all(|&name| name > number);
+        let several = rng.between(1, 3);
+        let found: Vec<usize> = (0..6)
+            .map(|_| self.late(rng))
+            .filter(fits)
+            .take(several)
+            .collect();
+        let most = |found: &&usize| self.names[**found].free.len();
+        found.iter().max_by_key(most).copied().unwrap_or_default() as u16
+    }
+
+    /// An entry laid down, a late one more often, so that formulas grow deep.
+    fn late(&self, rng: &mut Rng) -> usize {
+        let number = self.entries.len();
+        let reach = if rng.chance(2, 3) { 6 } else { number };
+        number - 1 - rng.below(reach.min(number))
+    }
+
+    /// A body for the fixpoint being laid down, mostly one with its own name.
+    fn body(&self, rng: &mut Rng, kind: Kind) -> u16 {
+        let number = self.entries.len();
+        let fits = |&body: &usize| {
+            let Names { free, bare } = &self.names[body];
+            let open = |&name: &usize| name > number && self.fixpoints[name] == Some(kind);
+            free.iter().all(|name| *name == number || open(name)) && !bare.contains(&number)
+        };
+        let bodies: Vec<usize> = (0..number).filter(fits).collect();
+        let own: Vec<usize> = bodies
+            .iter()
+            .copied()
+            .filter(|&body| self.names[body].free.contains(&number))
+            .collect();
+        let chosen = match own.len() {
+            0 => bodies,
+            _ if rng.chance(1, 10) => bodies,
+            _ => own,
+        };
+        // The highest has most below it.
+        let body = match rng.chance(1, 2) {
+            true => chosen.last().copied(),
+            false => rng.pick(&chosen),
+        };
+        body.unwrap_or_default() as u16
+    }
+
+    fn push(&mut self, entry: Entry) {
+        let number = self.entries.len();
+        let mut names = Names::default();
+        let operands = match entry.kind {
+            Kind::False | Kind::True | Kind::Letter | Kind::Negated => vec![],
+            Kind::Name => {
+                names.free.insert(entry.a.into());
+                names.bare.insert(entry.a.into());
+                vec![]
+            }
+            Kind::Or | Kind::And => vec![entry.a, entry.b],
+            _ => vec![entry.a],
+        };
+        for operand in operands {
+            let below = &self.names[usize::from(operand)];
+            names.free.extend(&below.free);
+            names.bare.extend(&below.bare);
+        }
+        match entry.kind {
+            Kind::Diamond | Kind::Box => names.bare.clear(),
+            Kind::Mu | Kind::Nu => {
+                names.free.remove(&number);
+            }
+            _ => {}
+        }
+        self.entries.push(entry);
+        self.names.push(names);
+    }
+}
+
+fn leaf(rng: &mut Rng) -> Entry {
+    let letters = if rng.chance(1, 8) { 32 } else { 4 };
+    let letter = rng.below(letters) as u16;
+    match rng.below(8) {
+        0 => Entry::new(Kind::False, 0, 0),
+        1 => Entry::new(Kind::True, 0, 0),
+        2..=4 => Entry::new(Kind::Letter, letter, 0),
+        _ => Entry::new(Kind::Negated, letter, 0),
+    }
+}
+
+/// Some entries that are no names; entry 0 never is.
+fn members(rng: &mut Rng, entries: &[Entry]) -> Vec<u16> {
+    let mut members: Vec<u16> = (0..entries.len() as u16)
+        .filter(|&number| entries[usize::from(number)].kind != Kind::Name)
+        .collect();
+    rng.shuffle(&mut members);
+    members.truncate(rng.between(1, 24));
+    members.sort_unstable();
+    members
+}
+
+fn states(rng: &mut Rng) -> Vec<DraftState> {
+    let count = match rng.below(8) {
+        0 => 1,
+        1 => 64,
+        2 => 63,
+        3 => rng.between(10, 62),
+        _ => rng.between(2, 12),
+    };
+    let shape = rng.below(9);
+    let letters = if rng.chance(1, 4) { u32::MAX } else { 15 };
+    let rare = rng.chance(1, 3);
+    (0..count)
+        .map(|state| DraftState {
+            letters: match rare && state > 0 {
+                true => 1 << rng.below(8) & letters,
+                false => rng.word() as u32 & letters,
+            },
+            successors: (0..count)
+                .filter(|&next| leads(rng, shape, state, next, count))
+                .map(|next| next as u8)
+                .collect(),
+        })
+        .collect()
+}
+
+/// Whether `next` follows `state` in a graph of that shape.
+fn leads(rng: &mut Rng, shape: usize, state: usize, next: usize, count: usize) -> bool {
+    match shape {
+        0 => false,
+        1 => true,
+        2 => next == (state + 1) % count,
+        3 => next + 1 == state,
+        4 => next == state + 1 || state + 1 == count && next == count / 2,
+        5 => rng.chance(1, 2),
+        6 => rng.chance(2, count),
+        7 => next < state && rng.chance(1, 3),
+        // Pairs and self-loops apart from each other.
+        _ => state / 2 == next / 2 && rng.chance(2, 3),
+    }
+}
+
+/// Blind damage to a file's bytes.
+fn damage(rng: &mut Rng, mut bytes: Vec<u8>) -> Vec<u8> {
+    let at = rng.below(bytes.len());
+    match rng.below(8) {
+        0 => bytes[at] ^= 1 << rng.below(8),
+        1 => bytes[at] = rng.word() as u8,
+        2 => bytes[at] = bytes[at].wrapping_add(1),
+        3 => bytes[at] = 0,
+        4 => bytes.truncate(at),
+        5 => bytes.insert(at, rng.word() as u8),
+        6 => drop(bytes.remove(at)),
+        _ => bytes.extend((0..rng.between(1, 3)).map(|_| rng.word() as u8)),
+    }
+    bytes
+}
+
+/// A table with one entry changed: 14, 20 to 23, or still well formed.
+fn ill_formed(rng: &mut Rng, mut entries: Vec<Entry>, members: &[u16]) -> Vec<u8> {
+    let count = entries.len();
+    let any = rng.below(count + 1) as u16;
+    let entry = &mut entries[rng.below(count)];
+    match rng.below(5) {
+        0 => entry.a = any,
+        1 => entry.b = any,
+        2 => entry.a = rng.word() as u16,
+        // A name of this or another fixpoint, or of none.
+        3 => *entry = Entry::new(Kind::Name, any, 0),
+        _ => {
+            entry.kind = match entry.kind {
+                Kind::Mu => Kind::Nu,
+                Kind::Nu => Kind::Mu,
+                Kind::Diamond | Kind::Box => Kind::Mu,
+                Kind::Or => Kind::And,
+                _ => Kind::Letter,
+            }
+        }
+    }
+    draft::claim(&entries, members).bytes
+}
+
+/// A model with one state unlike any that a file may have: 61 to 64.
+fn unfit(rng: &mut Rng, mut states: Vec<DraftState>) -> Vec<u8> {
+    let count = states.len();
+    let at = rng.below(count);
+    let successors = &mut states[at].successors;
+    match rng.below(5) {
+        0 => successors.push(count as u8),
+        1 => successors.insert(0, rng.below(count) as u8),
+        2 => successors.resize(65, 0),
+        3 => states.resize(rng.between(65, 67), DraftState::default()),
+        _ => states.clear(),
+    }
+    draft::model(&states).bytes
+}

@@ -1,0 +1,21 @@
+//! The records of the vectors.
+
+use reference::corpus::{self, CheckRecord, EvalRecord};
+use std::path::Path;
+
+pub fn checks() -> Vec<CheckRecord> {
+    let records = corpus::read_checks(&read("check.bin")).expect("whole records");
+    assert_eq!(records.len(), 3551);
+    records
+}
+
+pub fn evals() -> Vec<EvalRecord> {
+    let records = corpus::read_evals(&read("eval.bin")).expect("whole records");
+    assert_eq!(records.len(), 519);
+    records
+}
+
+fn read(file: &str) -> Vec<u8> {
+    let folder = Path::new(env!("CARGO_MANIFEST_DIR")).join("../vectors/base");
+    std::fs::read(folder.join(file)).expect("the vectors")
+}

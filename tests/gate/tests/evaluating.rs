@@ -1,0 +1,301 @@
+//! Evaluation, over the vectors and over random claims and models: the answer and
+//! every place of the lent slices.
+
+use gate_tests::lent::{LentWords, ENTRIES, WORDS};
+use gate_tests::{decode, evaluate, hard, random, setting, vectors};
+use reference::corpus::EvalRecord;
+use reference::{describe, generate, Entry, Kind, Refusal};
+use std::collections::BTreeMap;
+
+/// "Refusals 1 to 34 and 60 to 64 write nothing to lent slices. ... after a
+/// finished evaluation, record slices hold the whole decoding".
+fn assert_evaluated(record: &EvalRecord, lent: &mut LentWords, what: &str) {
+    lent.renew();
+    let got = evaluate(&record.claim, &record.model, lent);
+    assert_eq!(describe(got), describe(record.answer), "{what}");
+    match record.answer {
+        0 => lent.assert_holds(&decode::entries(&record.claim), &record.words, what),
+        _ => lent.assert_untouched(what),
+    }
+}
+
+/// A record with the reference's opinion.
+fn judged(claim: &[u8], model: &[u8]) -> EvalRecord {
+    let outcome = reference::evaluate(claim, model);
+    EvalRecord {
+        claim: claim.to_vec(),
+        model: model.to_vec(),
+        answer: outcome.as_ref().map_or_else(|r| r.packed(), |_| 0),
+        words: outcome.unwrap_or_default(),
+    }
+}
+
+#[test]
+fn every_eval_record_in_slices_of_the_least_lengths() {
+    let mut lent = LentWords::least();
+    let mut evaluated = 0;
+    for (index, record) in vectors::evals().iter().enumerate() {
+        assert_evaluated(record, &mut lent, &format!("eval record {index}"));
+        evaluated += u64::from(record.answer == 0);
+    }
+    assert!(evaluated > 200, "only {evaluated} records are evaluated");
+    println!("gate: 519 eval records agree, {evaluated} evaluated");
+}
+
+#[test]
+fn every_eval_record_in_longer_slices() {
+    let records = vectors::evals();
+    for (entries, words) in [(1, 1), (300, 0), (0, 300), (4096, 4096)] {
+        let mut lent = LentWords::new(ENTRIES + entries, WORDS + words);
+        for (index, record) in records.iter().enumerate() {
+            let what = format!("eval record {index}, {entries} and {words} more");
+            assert_evaluated(record, &mut lent, &what);
+        }
+    }
+}
+
+/// Slices that hold what one pair left are lent for the next.
+#[test]
+fn what_stood_in_the_slices_does_not_count() {
+    let mut lent = LentWords::least();
+    for (index, record) in vectors::evals().iter().enumerate() {
+        let got = evaluate(&record.claim, &record.model, &mut lent);
+        assert_eq!(
+            describe(got),
+            describe(record.answer),
+            "eval record {index}"
+        );
+        assert!(lent.words.lend().starts_with(&record.words));
+    }
+}
+
+/// "1: a lent slice under 256 entries ... or 256 words", before anything of the
+/// files.
+#[test]
+fn a_short_slice_earns_1_and_is_not_written() {
+    let records = vectors::evals();
+    let chosen: BTreeMap<u32, &EvalRecord> = records
+        .iter()
+        .map(|record| (record.answer >> 16, record))
+        .collect();
+    assert!(chosen.len() > 10, "few numbers: {:?}", chosen.keys());
+    for (entries, words) in [
+        (255, WORDS),
+        (ENTRIES, 255),
+        (0, WORDS),
+        (ENTRIES, 0),
+        (255, 255),
+        (0, 0),
+        (255, 5000),
+        (5000, 255),
+    ] {
+        let mut lent = LentWords::new(entries, words);
+        for record in chosen.values() {
+            let got = evaluate(&record.claim, &record.model, &mut lent);
+            let what = format!("{entries} and {words}, else {}", describe(record.answer));
+            assert_eq!(describe(got), "refuse 1 at 0", "{what}");
+            lent.assert_untouched(&what);
+        }
+    }
+}
+
+/// What a run of random pairs was like.
+#[derive(Default)]
+struct Shares {
+    total: u64,
+    evaluated: u64,
+    /// Pairs with a fixpoint true at some states and false at others.
+    split: u64,
+    refusals: BTreeMap<u32, u64>,
+}
+
+impl Shares {
+    fn count(&mut self, record: &EvalRecord) {
+        self.total += 1;
+        if record.answer != 0 {
+            *self.refusals.entry(record.answer >> 16).or_default() += 1;
+            return;
+        }
+        self.evaluated += 1;
+        let states = u32::from(record.model[4]);
+        let entries = decode::entries(&record.claim);
+        let split = entries.iter().zip(&record.words).any(|(entry, word)| {
+            let fixpoint = entry.kind == Kind::Mu as u8 || entry.kind == Kind::Nu as u8;
+            fixpoint && *word != 0 && word.count_ones() != states
+        });
+        self.split += u64::from(split);
+    }
+
+    /// With few pairs evaluated the words would hardly be tried, and with few
+    /// fixpoints between no state and all their rounds would not. Both shares are
+    /// in hundredths.
+    fn assert_telling(&self, what: &str, evaluated: u64, split: u64) {
+        let share = |part: u64| 100.0 * part as f64 / self.total as f64;
+        println!(
+            "gate: {} {what} agree, {:.1} % evaluated, {:.1} % with a fixpoint true at some \
+             states only; refusals {:?}",
+            self.total,
+            share(self.evaluated),
+            share(self.split),
+            self.refusals
+        );
+        assert!(self.evaluated * 100 > self.total * evaluated);
+        assert!(self.split * 100 > self.total * split);
+    }
+}
+
+/// Claims laid down from below; `GATE_EVALS` sets how many, `GATE_SEED` the seed.
+#[test]
+fn random_claims_and_models_agree() {
+    let mut lent = LentWords::least();
+    let mut shares = Shares::default();
+    let pairs = random::pairs(setting("GATE_SEED", 1));
+    for (index, pair) in pairs
+        .take(setting("GATE_EVALS", 20_000) as usize)
+        .enumerate()
+    {
+        let record = judged(&pair.claim, &pair.model);
+        assert!(
+            pair.damaged || record.answer == 0,
+            "pair {index} was meant to be well formed: {}",
+            describe(record.answer)
+        );
+        assert_evaluated(&record, &mut lent, &format!("random pair {index}"));
+        shares.count(&record);
+    }
+    shares.assert_telling("random claims and models", 60, 25);
+}
+
+/// Claims grown from above and claims hard to walk, by the reference's generator.
+#[test]
+fn generated_claims_and_models_agree() {
+    let mut lent = LentWords::least();
+    let mut shares = Shares::default();
+    let records = generate::evals(setting("GATE_SEED", 1));
+    for (index, record) in records
+        .take(setting("GATE_EVALS", 20_000) as usize)
+        .enumerate()
+    {
+        assert_evaluated(&record, &mut lent, &format!("generated pair {index}"));
+        shares.count(&record);
+    }
+    shares.assert_telling("generated claims and models", 40, 10);
+}
+
+/// Rounds by the thousand: a bound of as many as there are states, right for one
+/// fixpoint, is too low for several settled at once.
+#[test]
+fn many_rounds_agree() {
+    let mut lent = LentWords::least();
+    let mut assert_all = |entries: &[Entry], model: &[u8], top: u64, what: &str| {
+        let record = judged(&hard::claim(entries), model);
+        assert_eq!(record.words.last(), Some(&top), "{what}: not as meant");
+        assert_evaluated(&record, &mut lent, what);
+        record.words
+    };
+    for fixpoints in [1, 2, 3, 7, 20, 50] {
+        for states in [1, 2, 63, 64] {
+            let path = hard::path(states);
+            let all = u64::MAX >> (64 - states);
+            for (kind, top) in [(Kind::Mu, all), (Kind::Nu, 0)] {
+                let what = format!("{fixpoints} {kind:?} on a path of {states}");
+                let entries = hard::relay(kind, fixpoints, 3);
+                let words = assert_all(&entries, &path, top, &what);
+                let fixpoint = |&number: &usize| entries[number].kind == kind;
+                let mut fixpoints = (0..entries.len()).filter(fixpoint);
+                assert!(fixpoints.all(|number| words[number] == top), "{what}");
+            }
+        }
+    }
+    for depth in [2, 3, 10, 60] {
+        let entries = hard::snake(depth);
+        let what = format!("{depth} mu in one another");
+        assert_all(&entries, &hard::turns(), (1 << 62) - 1, &what);
+    }
+    assert_all(&hard::apart(63), &hard::path(64), u64::MAX, "63 apart");
+}
+
+/// Fixpoints of one kind in one another beside closed ones of the other kind.
+#[test]
+fn mixed_blocks_agree() {
+    let mut lent = LentWords::least();
+    let models: Vec<Vec<u8>> = generate::models(setting("GATE_SEED", 1))
+        .take(200)
+        .collect();
+    for depth in [1, 2, 5, 21] {
+        for kind in [Kind::Mu, Kind::Nu] {
+            let claim = hard::claim(&hard::mixed(kind, depth));
+            for (index, model) in models.iter().enumerate() {
+                let record = judged(&claim, model);
+                assert_eq!(record.answer, 0, "{kind:?}, {depth} deep");
+                let what = format!("{kind:?}, {depth} deep, model {index}");
+                assert_evaluated(&record, &mut lent, &what);
+            }
+        }
+    }
+}
+
+/// Each file of a good pair cut at each place, and with a byte more.
+#[test]
+fn every_cut_of_a_good_pair_agrees() {
+    let mut lent = LentWords::least();
+    let good = random::pairs(5).filter(|pair| !pair.damaged);
+    for pair in good.take(30) {
+        let (claim, model) = (&pair.claim, &pair.model);
+        for length in 0..claim.len() {
+            let record = judged(&claim[..length], model);
+            assert_evaluated(&record, &mut lent, &format!("claim of {length} bytes"));
+        }
+        for length in 0..model.len() {
+            let record = judged(claim, &model[..length]);
+            assert_evaluated(&record, &mut lent, &format!("model of {length} bytes"));
+        }
+        let record = judged(claim, &[model, &[0][..]].concat());
+        assert_eq!(record.answer, 61 << 16 | model.len() as u32);
+        assert_evaluated(&record, &mut lent, "model with a byte more");
+    }
+}
+
+#[test]
+fn every_map_of_a_state_and_every_state_count_agrees() {
+    let mut lent = LentWords::least();
+    let claim = random::pairs(6)
+        .find(|pair| !pair.damaged)
+        .expect("a pair")
+        .claim;
+    for byte in 0..=255 {
+        let states = b"MDL1\x02\x00\x00\x00\x00\x00\x00\x00";
+        for at in [4, 5] {
+            let mut model = states.to_vec();
+            model[at] = byte;
+            for length in 5..=model.len() {
+                let record = judged(&claim, &model[..length]);
+                assert_evaluated(&record, &mut lent, &format!("{model:?} cut to {length}"));
+            }
+        }
+    }
+}
+
+/// Files far longer than any good one, where a length could be cut to two bytes.
+#[test]
+fn long_files_agree() {
+    let mut lent = LentWords::least();
+    for pair in random::pairs(7).filter(|pair| !pair.damaged).take(20) {
+        for length in [65_536, 65_537, 70_000, 200_000] {
+            let mut long = pair.claim.clone();
+            long.resize(length, 0xFF);
+            let record = judged(&long, &pair.model);
+            assert_eq!(refusal(&record), Some((11, pair.claim.len())));
+            assert_evaluated(&record, &mut lent, "a long claim");
+            let mut long = pair.model.clone();
+            long.resize(length, 0xFF);
+            let record = judged(&pair.claim, &long);
+            assert_eq!(refusal(&record), Some((61, pair.model.len())));
+            assert_evaluated(&record, &mut lent, "a long model");
+        }
+    }
+}
+
+fn refusal(record: &EvalRecord) -> Option<(u16, usize)> {
+    Refusal::unpack(record.answer).map(|refusal| (refusal.number, refusal.place.into()))
+}

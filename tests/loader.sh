@@ -1,0 +1,106 @@
+#!/usr/bin/env bash
+# The example loader, built as its comment says: a permit for a good pair only,
+# and the number and place of what a bad one earns.
+set -euo pipefail
+cd "$(dirname "$0")/.."
+
+archive=target/staticlib/libgate.a
+samples=examples
+if [ ! -f "$archive" ]; then
+    echo "loader: $archive is not there: build it first" >&2
+    exit 1
+fi
+
+scratch=$(mktemp -d)
+trap 'rm -rf "$scratch"' EXIT
+flags=(-std=c11 -Wall -Wextra -Werror -pedantic -Iinclude)
+
+# The header alone, so that it needs nothing included before it; its static
+# asserts are the layout test for C.
+gcc "${flags[@]}" -fsyntax-only -x c include/focus_gate.h
+gcc "${flags[@]}" -O1 -g examples/loader/loader.c "$archive" -o "$scratch/loader"
+
+passed=0
+failed=0
+
+# run NAME STATUS LINES ARGUMENTS...: both streams and the exit status, compared
+# as bytes. No line on standard error is expected unless LINES is empty.
+run() {
+    local name=$1 expected=$2 lines=$3 status=0 good=yes
+    shift 3
+    timeout 10 "$scratch/loader" "$@" >"$scratch/out" 2>"$scratch/err" </dev/null || status=$?
+    if [ -n "$lines" ]; then
+        printf '%s\n' "$lines" | cmp -s - "$scratch/out" && [ ! -s "$scratch/err" ] || good=no
+    else
+        [ ! -s "$scratch/out" ] && [ "$(wc -l <"$scratch/err")" -eq 1 ] || good=no
+    fi
+    [ "$status" -eq "$expected" ] || good=no
+    if [ "$good" = yes ]; then
+        passed=$((passed + 1))
+        return
+    fi
+    failed=$((failed + 1))
+    echo "$name"
+    echo "  expected: stdout '$lines', status $expected"
+    echo "  got: stdout '$(head -c 300 "$scratch/out" | tr -d '\0')'," \
+        "stderr '$(head -c 300 "$scratch/err" | tr -d '\0')', status $status"
+}
+
+granted() {
+    run "$1" 0 $'open: done\npresent: accept\ntake: tag '"$2"$'\nclose: done' "$2" "${@:3}"
+}
+
+# Nothing is held after a refused presentation, so taking is refused with 52.
+denied() {
+    run "$1" 1 $'open: done\npresent: '"$2"$'\ntake: refuse 52 at 0\nclose: done' 7 "${@:3}"
+}
+
+# No call is made: nothing on standard output, one line on standard error.
+not_tried() {
+    run "$1" 2 '' "${@:2}"
+}
+
+pair() {
+    files=("$samples/$1/claim.bin" "$samples/$1/proof.bin")
+}
+
+pair nu-of-box
+for tag in 7 0 1 65536 4294967295; do
+    granted "a good pair under tag $tag" "$tag" "${files[@]}"
+done
+
+pair mu-of-box
+denied 'mu of box' 'refuse 38 at 3' "${files[@]}"
+pair mu-of-box-refocused
+denied 'mu of box, refocused' 'refuse 39 at 4' "${files[@]}"
+pair loop-without-box
+denied 'loop without a box' 'refuse 39 at 1' "${files[@]}"
+
+# Damaged copies of the good pair, each in one thing.
+pair nu-of-box
+claim=${files[0]}
+proof=${files[1]}
+head -c 21 "$claim" >"$scratch/claim.bin"
+denied 'claim cut by a byte' 'refuse 11 at 21' "$scratch/claim.bin" "$proof"
+{ printf 'CLM2'; tail -c +5 "$claim"; } >"$scratch/claim.bin"
+denied 'claim of another form' 'refuse 10 at 0' "$scratch/claim.bin" "$proof"
+{ cat "$claim"; printf '\0'; } >"$scratch/claim.bin"
+denied 'claim with a byte more' 'refuse 11 at 22' "$scratch/claim.bin" "$proof"
+{ head -c 6 "$proof"; printf '\200'; tail -c +8 "$proof"; } >"$scratch/proof.bin"
+denied 'proof with an unfit map' 'refuse 33 at 6' "$claim" "$scratch/proof.bin"
+: >"$scratch/proof.bin"
+denied 'empty proof' 'refuse 30 at 0' "$claim" "$scratch/proof.bin"
+{ cat "$proof"; head -c 100000 /dev/zero; } >"$scratch/proof.bin"
+denied 'proof longer than the buffer' 'refuse 31 at 38' "$claim" "$scratch/proof.bin"
+denied 'claim and proof exchanged' 'refuse 10 at 0' "$proof" "$claim"
+
+not_tried 'missing claim' 7 "$scratch/none.bin" "$proof"
+not_tried 'missing proof' 7 "$claim" "$scratch/none.bin"
+not_tried 'folder in place of a proof' 7 "$claim" "$scratch"
+not_tried 'no arguments'
+for tag in '' 4294967296 -1 7x ' 7' 99999999999999999999; do
+    not_tried "tag '$tag'" "$tag" "$claim" "$proof"
+done
+
+echo "loader: $passed passed, $failed failed"
+[ "$failed" -eq 0 ]
