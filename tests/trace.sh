@@ -3,7 +3,7 @@
 set -euo pipefail
 cd "$(dirname "$0")/.."
 
-crates='verdict|encoding|formula|reader|rules|model|evaluator|gate|samples'
+crates='verdict|encoding|formula|reader|calculus|kept|rules|model|states|evaluator|records|decoding|permit|gate|samples'
 checked=0
 missing=0
 while IFS= read -r mention; do

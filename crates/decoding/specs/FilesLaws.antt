@@ -39,8 +39,8 @@ use Rattle.reader.specs.ProofGood as nodes
 use Rattle.reader.specs.ProofAnswer.{Accepts, accepts}
 use Rattle.reader.specs.RecordLaws.{entry-count, member-count, member-formula, node-count, codes-few, codes-rise, code-formula}
 use Rattle.reader.specs.declared.claim.ClaimRead.{ClaimRead}
-use Rattle.rules.specs.Given.{Given}
-use Rattle.rules.specs.Placed.{Members}
+use Rattle.calculus.specs.Given.{Given}
+use Rattle.kept.specs.Placed.{Members}
 use Rattle.decoding.specs.Files.{Files, unread, readable, afterProof, firstly, afterClaim, files, tableRead, tableIn}
 use Rattle.decoding.specs.Found.{Unread, Readable, Tells}
 use Rattle.decoding.specs.declared.Found.{Found}

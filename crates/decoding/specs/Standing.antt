@@ -9,8 +9,8 @@ use Rattle.formula.specs.Table.{Table}
 use Rattle.formula.specs.Nodes.{Proof}
 use Rattle.formula.specs.Records.{NodeRecord}
 use Rattle.formula.specs.WellFormed.{WellFormed}
-use Rattle.rules.specs.Given.{Given}
-use Rattle.rules.specs.Placed.{Members}
+use Rattle.calculus.specs.Given.{Given}
+use Rattle.kept.specs.Placed.{Members}
 use Rattle.rules.specs.JudgeStages.{Laid}
 use Rattle.records.specs.Records.{firstNodes, total}
 use Rattle.records.specs.declared.Entry.{Entry}

@@ -15,8 +15,8 @@ use Rattle.formula.specs.Plain.{tableOf}
 use Rattle.formula.specs.Nodes.{Proof}
 use Rattle.formula.specs.PlainNodes.{proofOf}
 use Rattle.formula.specs.Records.{NodeRecord, nodeRecords, allCodes}
-use Rattle.rules.specs.Given.{Given}
-use Rattle.rules.specs.Judge.{judge}
+use Rattle.calculus.specs.Given.{Given}
+use Rattle.calculus.specs.Judge.{judge}
 use Rattle.records.specs.Records.{shownNode, firstEntries, firstNodes, startColumn, total, EntriesLoaded, NodesLoaded}
 use Rattle.records.specs.Shown.{loaded-table, loaded-proof}
 use Rattle.records.specs.declared.Entry.{Entry}

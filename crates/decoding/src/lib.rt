@@ -9,7 +9,7 @@ ghost use Rattle.formula.specs.Plain.{tableOf};
 ghost use Rattle.formula.specs.PlainNodes.{proofOf};
 ghost use Rattle.reader.specs.ClaimEntries.{EntryArrays};
 ghost use Rattle.reader.specs.ReadClaim.{readClaim};
-ghost use Rattle.rules.specs.Judge.{judge as judged};
+ghost use Rattle.calculus.specs.Judge.{judge as judged};
 ghost use Rattle.records.specs.Records.{shownEntries, firstEntries, firstNodes};
 ghost use Rattle.decoding.specs.Files.{tableIn};
 ghost use Rattle.decoding.specs.Found.{ruled};

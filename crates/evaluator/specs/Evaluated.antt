@@ -9,8 +9,8 @@ use lib.ListN.{length, getD}
 use borrow.Author.Tests.{le-ltb}
 use Rattle.formula.specs.States.{Same}
 use Rattle.formula.specs.Meaning.{own}
-use Rattle.evaluator.specs.StateWords.{setsOf}
-use Rattle.evaluator.specs.PlainModel.{rowModel}
+use Rattle.states.specs.StateWords.{setsOf}
+use Rattle.states.specs.PlainModel.{rowModel}
 use Rattle.evaluator.specs.Top.{alone}
 use Rattle.evaluator.specs.Claim.{tableFrom}
 use Rattle.evaluator.specs.Ready.{Ready}

@@ -21,11 +21,11 @@ use Rattle.formula.specs.States.{Model, Same}
 use Rattle.formula.specs.StateLaws.{same-sym, same-trans}
 use Rattle.formula.specs.Meaning.{own}
 use Rattle.model.specs.Bits.{bit}
-use Rattle.evaluator.specs.Words.{word, words}
-use Rattle.evaluator.specs.WordLaws.{word-inside, word-past, words-length, words-at}
-use Rattle.evaluator.specs.BitLaws.{no-bit}
-use Rattle.evaluator.specs.StateWords.{Inside, setsOf, by-bits}
-use Rattle.evaluator.specs.PlainModel.{plainModel, wordsIn, rowModel}
+use Rattle.states.specs.Words.{word, words}
+use Rattle.states.specs.WordLaws.{word-inside, word-past, words-length, words-at}
+use Rattle.states.specs.BitLaws.{no-bit}
+use Rattle.states.specs.StateWords.{Inside, setsOf, by-bits}
+use Rattle.states.specs.PlainModel.{plainModel, wordsIn, rowModel}
 use Rattle.evaluator.specs.Settled.{formed}
 use Rattle.evaluator.specs.BlockLaws.{formed-own, formed-same, Block}
 use Rattle.evaluator.specs.Top.{top, alone}
@@ -34,7 +34,7 @@ use Rattle.evaluator.specs.Strategy.{reach}
 use Rattle.evaluator.specs.Reach.{reach-self, reach-small, reach-block, operand-alone, rest-block}
 use Rattle.evaluator.specs.Claim.{tableFrom, Claim, Given, first-entries, claim-length, leaf-at, two-at, step-at, fix-at, name-at}
 use Rattle.evaluator.specs.Ready.{Ready, ready-again, formedWord}
-use Rattle.evaluator.specs.Fill.{Filled, filled-keep, filled-set, zeros-at}
+use Rattle.states.specs.Fill.{Filled, filled-keep, filled-set, zeros-at}
 use Rattle.evaluator.specs.Pass.{marksOf}
 use Rattle.evaluator.specs.Solve.{Solved}
 use Rattle.evaluator.specs.Tops.{Tops}

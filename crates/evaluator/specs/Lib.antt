@@ -1,9 +1,4 @@
-pub mod Words
-pub mod WordLaws
 -- words by their bits, and models in plain numbers
-pub mod BitLaws
-pub mod StateWords
-pub mod PlainModel
 -- evaluation in few passes, and that it is each entry's own meaning
 pub mod TowardLaws
 pub mod Settled
@@ -16,7 +11,6 @@ pub mod Reach
 pub mod Strategy
 pub mod StrategyLaws
 -- the code: a claim in plain numbers, and what each function makes of its words
-pub mod Fill
 pub mod Claim
 pub mod Ready
 pub mod Pass

@@ -14,7 +14,7 @@ use borrow.Author.Tests.{eq-eqb, ne-eqb, lt-ltb, le-ltb, eqb-true}
 use Rattle.formula.specs.Shape.{Shape, leaf, two, step, fix, name, shape}
 use Rattle.evaluator.specs.Strategy.{isOperand, grow, spread, reach}
 use Rattle.evaluator.specs.Claim.{tableFrom, Claim, leaf-at, two-at, step-at, fix-at, name-at}
-use Rattle.evaluator.specs.Fill.{zeros-at}
+use Rattle.states.specs.Fill.{zeros-at}
 use Rattle.evaluator.specs.Pass.{marksOf}
 
 -- the entries that are settled

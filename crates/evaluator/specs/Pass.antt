@@ -9,13 +9,13 @@ use lib.ListN.{length, getD, set}
 use borrow.Author.Tests.{eq-eqb, ne-eqb, eqb-true, eqb-false}
 use Rattle.formula.specs.Shape.{nu}
 use Rattle.formula.specs.States.{start}
-use Rattle.evaluator.specs.Words.{word}
-use Rattle.evaluator.specs.StateWords.{setsOf}
-use Rattle.evaluator.specs.PlainModel.{rowModel}
+use Rattle.states.specs.Words.{word}
+use Rattle.states.specs.StateWords.{setsOf}
+use Rattle.states.specs.PlainModel.{rowModel}
 use Rattle.evaluator.specs.Block.{pass}
 use Rattle.evaluator.specs.Claim.{tableFrom}
 use Rattle.evaluator.specs.Ready.{formedWord}
-use Rattle.evaluator.specs.Fill.{Filled, filled-keep, filled-set}
+use Rattle.states.specs.Fill.{Filled, filled-keep, filled-set}
 
 -- a block is given by marks
 abbrev pub marksOf : List ℕ → ℕ → Bool

@@ -18,18 +18,18 @@ use Rattle.formula.specs.TableLaws.{past-end, fix-in}
 use Rattle.formula.specs.States.{Model, Set, Same, leafSet}
 use Rattle.formula.specs.StateLaws.{same-sym, same-trans, path-same}
 use Rattle.model.specs.Bits.{bit}
-use Rattle.evaluator.specs.Words.{word}
-use Rattle.evaluator.specs.WordLaws.{word-inside, word-past}
-use Rattle.evaluator.specs.BitLaws.{no-bit}
-use Rattle.evaluator.specs.StateWords.{Inside, setsOf, by-bits, word-same}
-use Rattle.evaluator.specs.PlainModel.{rowModel}
+use Rattle.states.specs.Words.{word}
+use Rattle.states.specs.WordLaws.{word-inside, word-past}
+use Rattle.states.specs.BitLaws.{no-bit}
+use Rattle.states.specs.StateWords.{Inside, setsOf, by-bits, word-same}
+use Rattle.states.specs.PlainModel.{rowModel}
 use Rattle.evaluator.specs.Settled.{formed}
 use Rattle.evaluator.specs.Block.{pass}
 use Rattle.evaluator.specs.BlockLaws.{Block, Passing, passing-formed, pass-in, pass-out, Still}
 use Rattle.evaluator.specs.LoopLaws.{Alike}
 use Rattle.evaluator.specs.Claim.{tableFrom, Claim, claim-length, leaf-at, two-at, step-at, fix-at, name-at}
 use Rattle.evaluator.specs.Ready.{Ready, ready-again, formedWord}
-use Rattle.evaluator.specs.Fill.{Filled, filled-none, filled-keep, filled-set}
+use Rattle.states.specs.Fill.{Filled, filled-none, filled-keep, filled-set}
 use Rattle.evaluator.specs.Pass.{marksOf, IsFix, Visited, Passed}
 
 -- only kinds 8 and 9 have the shape of a fixpoint

@@ -12,10 +12,10 @@ use Rattle.formula.specs.Shape.{Shape, leaf, two, step, fix, name, Leaf, never,
 use Rattle.formula.specs.Truth.{some, every}
 use Rattle.formula.specs.States.{Model, Set, leafSet, twoSet, stepSet, start}
 use Rattle.model.specs.Bits.{digit, bit}
-use Rattle.evaluator.specs.Words.{word}
-use Rattle.evaluator.specs.BitLaws.{or-bit, and-bit, zero-digit, no-bit}
-use Rattle.evaluator.specs.StateWords.{Inside, setsOf, by-bits, word-same}
-use Rattle.evaluator.specs.PlainModel.{rowModel}
+use Rattle.states.specs.Words.{word}
+use Rattle.states.specs.BitLaws.{or-bit, and-bit, zero-digit, no-bit}
+use Rattle.states.specs.StateWords.{Inside, setsOf, by-bits, word-same}
+use Rattle.states.specs.PlainModel.{rowModel}
 use Rattle.evaluator.specs.Settled.{formed}
 use Rattle.evaluator.specs.Claim.{tableFrom, Claim, false-at, true-at, letter-at, negated-at, or-at, and-at, fix-at, name-at, a-entry, b-below}
 

@@ -17,17 +17,17 @@ use Rattle.formula.specs.States.{Model, Set, Same, start}
 use Rattle.formula.specs.Bounds.{sum, sum-mono}
 use Rattle.formula.specs.Meaning.{own}
 use Rattle.model.specs.Bits.{bit}
-use Rattle.evaluator.specs.Words.{word}
-use Rattle.evaluator.specs.WordLaws.{word-inside, word-past}
-use Rattle.evaluator.specs.BitLaws.{no-bit}
-use Rattle.evaluator.specs.StateWords.{setsOf}
-use Rattle.evaluator.specs.PlainModel.{rowModel}
+use Rattle.states.specs.Words.{word}
+use Rattle.states.specs.WordLaws.{word-inside, word-past}
+use Rattle.states.specs.BitLaws.{no-bit}
+use Rattle.states.specs.StateWords.{setsOf}
+use Rattle.states.specs.PlainModel.{rowModel}
 use Rattle.evaluator.specs.Block.{changesOf, room}
 use Rattle.evaluator.specs.BlockLaws.{Block}
 use Rattle.evaluator.specs.LoopLaws.{Solving, solving-begin, solving-more, solving-last, solving-few}
 use Rattle.evaluator.specs.Claim.{tableFrom, Claim, claim-length, mu-at, nu-at, fix-at}
 use Rattle.evaluator.specs.Ready.{Ready, ready-again}
-use Rattle.evaluator.specs.Fill.{Filled}
+use Rattle.states.specs.Fill.{Filled}
 use Rattle.evaluator.specs.Pass.{marksOf, IsFix, startWord, begunWord, Passed}
 use Rattle.evaluator.specs.PassLaws.{fix-kind, pass-ready, pass-alike, pass-still, pass-moved}
 

@@ -9,7 +9,7 @@ use Rattle.formula.specs.Shape.{Shape, shape, Operand}
 use Rattle.evaluator.specs.Top.{topClause, top}
 use Rattle.evaluator.specs.TopLaws.{topClause-local, top-at}
 use Rattle.evaluator.specs.Claim.{tableFrom, Claim, leaf-at, two-at, step-at, fix-at, name-at}
-use Rattle.evaluator.specs.Fill.{Filled}
+use Rattle.states.specs.Fill.{Filled}
 
 -- from the numbers as they stand
 unfoldable pub topFrom : List ℕ → List ℕ → List ℕ → List ℕ → ℕ → ℕ

@@ -4,16 +4,13 @@ ghost use mathlib.Core.Bool.{true, _||_, _&&_, not};
 ghost use Prim.Native.Nat.{ℕ, max, _+_, _*_, _<_, _≤_};
 ghost use lib.Dec.{eqb};
 ghost use lib.ListN.{length, getD, set, replicate};
-ghost use Rattle.formula.specs.Truth.{some, every};
 ghost use Rattle.formula.specs.Shape.{nu};
 ghost use Rattle.formula.specs.States.{start};
 ghost use Rattle.evaluator.specs.Top.{alone};
 ghost use Rattle.model.specs.Bits.{one, digit, bit};
-ghost use Rattle.model.specs.DescribedLaws.{cell};
-ghost use Rattle.evaluator.specs.Words.{word};
-ghost use Rattle.evaluator.specs.StateWords.{Inside};
-ghost use Rattle.evaluator.specs.PlainModel.{RowWords, wordsIn};
-ghost use Rattle.evaluator.specs.Fill.{Filled};
+ghost use Rattle.states.specs.Words.{word};
+ghost use Rattle.states.specs.PlainModel.{RowWords, wordsIn};
+ghost use Rattle.states.specs.Fill.{Filled};
 ghost use Rattle.evaluator.specs.Ready.{Ready, leafWord, formedWord};
 ghost use Rattle.evaluator.specs.Pass.{startWord, begunWord, Visited, Passed};
 ghost use Rattle.evaluator.specs.Solve.{Solved};
@@ -25,105 +22,11 @@ ghost use Rattle.formula.specs.Plain.{tableOf};
 ghost use Rattle.evaluator.specs.Evaluated.{Standing, Evaluated, Swept, Isolated};
 ghost use Rattle.evaluator.specs.EvaluatedLaws.{settledMark, restMark};
 use formula::Kind;
-
-// The bit that a truth value contributes to a word.
-fn bit_of(holds: bool) -> u64
-    ensures { λ r. ⌜ r ≡ one holds ⌝ }
-{
-    if holds { 1 } else { 0 }
-}
-
-// The word with bit s set where the state is in.
-fn put_bit(w: u64, s: usize, holds: bool) -> u64
-    requires { ⌜ s < 64 ⌝ }
-    ensures { λ r. ⌜ ((k : ℕ) → bit r k ≡ (bit w k || (eqb k s && holds))) ⌝ }
-{
-    w | (bit_of(holds) << s)
-}
-
-// All states of a model that has n.
-fn all_states(n: usize) -> u64
-    requires { ⌜ n ≤ 64 ⌝ }
-    ensures { λ r. ⌜ r ≡ word n (start nu) ⌝ }
-{
-    let mut r: u64 = 0;
-    let mut s: usize = 0;
-    while s < n {
-        r = put_bit(r, s, true);
-        s += 1;
-    }
-    r
-}
-
-// The states whose mask has the digit at p: 1 for the letter, 0 for its negation.
-fn letter_word(masks: &[u32; 64], n: usize, p: u16, wanted: u32) -> u64
-    requires { ⌜ (n ≤ 64) × (p < 32) ⌝ }
-    ensures { λ r. ⌜ r ≡ word n (λ s. eqb (digit (getD (now (masks .entry)) s 0) p) wanted) ⌝ }
-{
-    let mut r: u64 = 0;
-    let mut s: usize = 0;
-    while s < n {
-        r = put_bit(r, s, (masks[s] >> p) & 1 == wanted);
-        s += 1;
-    }
-    r
-}
-
-// The successors of state s.
-fn row_word(marks: &[[u8; 64]; 64], n: usize, s: usize) -> u64
-    requires { ⌜ (n ≤ 64) × (s < 64) ⌝ }
-    ensures { λ r. ⌜ r ≡ word n (λ u. eqb (cell (now (marks .entry)) s u) 1) ⌝ }
-{
-    let mut r: u64 = 0;
-    let mut u: usize = 0;
-    while u < n {
-        r = put_bit(r, u, marks[s][u] == 1);
-        u += 1;
-    }
-    r
-}
-
-// The successors of each state, made once: a modal step is then 64 operations.
-fn row_words(marks: &[[u8; 64]; 64], n: usize) -> [u64; 64]
-    requires { ⌜ n ≤ 64 ⌝ }
-    ensures { λ r. ⌜ RowWords (now (marks .entry)) n r ⌝ }
-{
-    let mut rows = [0u64; 64];
-    let mut s: usize = 0;
-    while s < n {
-        rows[s] = row_word(marks, n, s);
-        s += 1;
-    }
-    rows
-}
-
-// Where some successor is in w.
-fn diamond_word(rows: &[u64; 64], n: usize, w: u64) -> u64
-    requires { ⌜ (n ≤ 64) × Inside n 64 (now rows) ⌝ }
-    ensures { λ r. ⌜ r ≡ word n (λ s. some n (λ u. bit (getD (now (rows .entry)) s 0) u && bit w u)) ⌝ }
-{
-    let mut r: u64 = 0;
-    let mut s: usize = 0;
-    while s < n {
-        r = put_bit(r, s, rows[s] & w != 0);
-        s += 1;
-    }
-    r
-}
-
-// Where all successors are in w: also where there is none.
-fn box_word(rows: &[u64; 64], n: usize, w: u64) -> u64
-    requires { ⌜ (n ≤ 64) × Inside n 64 (now rows) ⌝ }
-    ensures { λ r. ⌜ r ≡ word n (λ s. every n (λ u. not (bit (getD (now (rows .entry)) s 0) u) || bit w u)) ⌝ }
-{
-    let mut r: u64 = 0;
-    let mut s: usize = 0;
-    while s < n {
-        r = put_bit(r, s, rows[s] & w == rows[s]);
-        s += 1;
-    }
-    r
-}
+use states::all_states;
+use states::box_word;
+use states::diamond_word;
+use states::letter_word;
+use states::row_words;
 
 fn wide(x: u16) -> usize
     ensures { λ r. ⌜ r ≡ x ⌝ }

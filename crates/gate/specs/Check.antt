@@ -9,7 +9,7 @@ use Rattle.formula.specs.Nodes.{Proof}
 use Rattle.formula.specs.Judge.{judgeTable}
 use Rattle.reader.specs.ReadClaim.{readClaim}
 use Rattle.reader.specs.ReadProof.{readProof}
-use Rattle.rules.specs.Judge.{judge}
+use Rattle.calculus.specs.Judge.{judge}
 
 -- refused before both files are decoded (10 to 34), or the decoding and what the rules say of it (35 to 39 or accepted)
 pub data Checked : Type 0 where

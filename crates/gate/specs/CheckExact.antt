@@ -16,9 +16,9 @@ use Rattle.reader.specs.ProofFile.{ProofFile}
 use Rattle.reader.specs.ProofExact.{proof-good}
 use Rattle.reader.specs.ProofFaults.{proof-refused}
 use Rattle.reader.specs.RecordLaws.{codes-rise, code-formula}
-use Rattle.rules.specs.Given.{Given}
-use Rattle.rules.specs.JudgeExact.{accepted-correct, correct-accepted}
-use Rattle.rules.specs.FaultLaws.{refused-earned, earned-refused}
+use Rattle.calculus.specs.Given.{Given}
+use Rattle.calculus.specs.JudgeExact.{accepted-correct, correct-accepted}
+use Rattle.calculus.specs.FaultLaws.{refused-earned, earned-refused}
 use Rattle.gate.specs.Correct.{Correct}
 use Rattle.gate.specs.Check.{verdict}
 use Rattle.gate.specs.CheckLaws.{check-claim, check-table, check-proof, check-rules, verdict-unread, verdict-decoded}

@@ -10,7 +10,7 @@ use Rattle.formula.specs.Nodes.{Proof}
 use Rattle.formula.specs.Judge.{judgeTable}
 use Rattle.reader.specs.ReadClaim.{readClaim}
 use Rattle.reader.specs.ReadProof.{readProof}
-use Rattle.rules.specs.Judge.{judge}
+use Rattle.calculus.specs.Judge.{judge}
 use Rattle.gate.specs.Check.{Checked, unread, decoded, afterProof, afterTable, afterClaim, check, answer, verdict}
 
 module _ (claim proof : List ℕ) where

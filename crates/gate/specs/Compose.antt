@@ -42,9 +42,9 @@ use Rattle.reader.specs.ProofAnswer.{ProofDone, done-by-kinds, good-stored, acc
 use Rattle.reader.specs.RecordLaws.{entry-count, member-count, member-formula, node-count, codes-few}
 use Rattle.reader.specs.declared.claim.ClaimRead.{ClaimRead}
 use Rattle.reader.specs.declared.proof.ProofRead.{ProofRead}
-use Rattle.rules.specs.Given.{Given}
-use Rattle.rules.specs.Judge.{judge}
-use Rattle.rules.specs.Placed.{Members}
+use Rattle.calculus.specs.Given.{Given}
+use Rattle.calculus.specs.Judge.{judge}
+use Rattle.kept.specs.Placed.{Members}
 use Rattle.rules.specs.JudgeStages.{Laid}
 use Rattle.gate.specs.Check.{Checked, afterProof, afterTable, answer, verdict}
 use Rattle.gate.specs.CheckLaws.{past-claim, check-claim, verdict-unread}

@@ -12,10 +12,10 @@ use Rattle.formula.specs.States.{Model}
 use Rattle.formula.specs.Meaning.{own}
 use Rattle.reader.specs.ClaimFile.{ClaimFile}
 use Rattle.reader.specs.ProofFile.{ProofFile}
-use Rattle.rules.specs.Tree.{Tree}
-use Rattle.rules.specs.Rules.{Keeps}
-use Rattle.rules.specs.Loops.{GoodLoops}
-use Rattle.rules.specs.Faults.{Claimed}
+use Rattle.calculus.specs.Tree.{Tree}
+use Rattle.calculus.specs.Rules.{Keeps}
+use Rattle.calculus.specs.Loops.{GoodLoops}
+use Rattle.calculus.specs.Faults.{Claimed}
 
 -- the bytes earn none of 10 to 36, and keep every rule: none of 37 to 39 either
 pub record Correct (claim proof : List ℕ) : Type 0 where

@@ -25,8 +25,8 @@ use Rattle.reader.specs.ClaimExact.{claim-decodes, claim-encodes}
 use Rattle.reader.specs.ProofFile.{FitProof, encodeProof}
 use Rattle.reader.specs.ReadProof.{readProof}
 use Rattle.reader.specs.ProofExact.{proof-decodes, proof-encodes}
-use Rattle.rules.specs.Sequents.{sequent}
-use Rattle.gate.specs.GateState.{Gate, opened}
+use Rattle.calculus.specs.Sequents.{sequent}
+use Rattle.permit.specs.GateState.{Gate, opened}
 use Rattle.gate.specs.Slices.{Lent, short}
 use Rattle.gate.specs.Check.{verdict}
 use Rattle.gate.specs.Present.{presenting}

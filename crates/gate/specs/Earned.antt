@@ -9,7 +9,7 @@ use Rattle.reader.specs.ClaimFile.{ClaimFile}
 use Rattle.reader.specs.ClaimDocument.{ClaimEarns}
 use Rattle.reader.specs.ProofFile.{ProofFile}
 use Rattle.reader.specs.ProofDocument.{ProofEarns}
-use Rattle.rules.specs.Faults as rules
+use Rattle.calculus.specs.Faults as rules
 
 pub data Earned (claim proof : List ℕ) (n q : ℕ) : Type 0 where
   -- 10 to 14: the claim by bytes

@@ -12,7 +12,7 @@ use Rattle.reader.specs.ReadClaim.{readClaim}
 use Rattle.model.specs.ModelFile.{State}
 use Rattle.model.specs.Described.{modelOf}
 use Rattle.model.specs.ReadModel.{readModel}
-use Rattle.evaluator.specs.Words.{words}
+use Rattle.states.specs.Words.{words}
 use Rattle.gate.specs.Slices.{LentWords, shortWords}
 
 pub record Evaluated : Type 0 where

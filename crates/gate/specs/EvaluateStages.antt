@@ -36,8 +36,8 @@ use Rattle.model.specs.Decoded.{maskTable}
 use Rattle.model.specs.ReadTells.{ModelTells, masksAfter, marksAfter, answerOf, read-decoded}
 use Rattle.model.specs.declared.read.ModelRead.{ModelRead}
 use Rattle.model.specs.declared.read.ModelRead.the-variants.{Read, Refused}
-use Rattle.evaluator.specs.Words.{words}
-use Rattle.evaluator.specs.PlainModel.{plainModel, wordsIn, plain-described}
+use Rattle.states.specs.Words.{words}
+use Rattle.states.specs.PlainModel.{plainModel, wordsIn, plain-described}
 use Rattle.evaluator.specs.Claim.{Given}
 use Rattle.gate.specs.Slices.{LentWords}
 use Rattle.gate.specs.Evaluate.{Evaluated, unevaluated, afterModel, afterTable, afterClaim, ifLong, evaluating}

@@ -22,7 +22,7 @@ use Rattle.reader.specs.ProofDocument.{ProofEarns}
 use Rattle.reader.specs.ReadProof.{readProof}
 use Rattle.reader.specs.ProofExact.{good-proof}
 use Rattle.reader.specs.ProofFaults.{proof-earned}
-use Rattle.rules.specs.Judge.{judge}
+use Rattle.calculus.specs.Judge.{judge}
 use Rattle.gate.specs.Check.{check, unread, decoded, verdict}
 use Rattle.gate.specs.CheckLaws.{check-claim, check-table, check-proof, check-rules}
 use Rattle.gate.specs.Earned.{Earned, by-claim, by-table, by-proof}

@@ -1,7 +1,4 @@
--- the gate's states and calls
-pub mod GateState
-pub mod Numbers
-pub mod Plain
+-- the gate's calls, over the states of `permit`
 pub mod Slices
 pub mod Check
 pub mod Present
@@ -18,12 +15,10 @@ pub mod Demands
 pub mod Numbered
 pub mod Single
 pub mod Compose
--- what lent states and lent records hold
-pub mod LentState
+-- what lent records hold
 pub mod LentSlices
 -- evaluating and presenting, stage by stage in plain numbers
 pub mod EvaluateFiles
 pub mod EvaluateStages
-pub mod PresentStages
 pub mod PresentStep
 pub mod PresentCall

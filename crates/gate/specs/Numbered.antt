@@ -15,7 +15,7 @@ use Rattle.reader.specs.ClaimDocument as claims
 use Rattle.reader.specs.ClaimDocument.{ClaimEarns, ClaimStage, at-entry-count, at-entry, at-fields, at-member-count, at-member}
 use Rattle.reader.specs.ProofDocument as proofs
 use Rattle.reader.specs.ProofDocument.{ProofEarns, ProofStage, at-node-count, at-node, at-code-count, at-code}
-use Rattle.rules.specs.Faults as rules
+use Rattle.calculus.specs.Faults as rules
 use Rattle.gate.specs.Earned.{Earned, by-claim, by-table, by-proof, by-rules}
 use Rattle.gate.specs.Check.{verdict}
 use Rattle.gate.specs.CheckExact.{verdict-earned}

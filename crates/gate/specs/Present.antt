@@ -3,7 +3,7 @@ use mathlib.Core.List.{List}
 use mathlib.Core.Bool.{Bool, true, false}
 use Prim.Native.Nat.{ℕ}
 use Rattle.verdict.specs.Verdict.{Verdict, accepted, refused}
-use Rattle.gate.specs.GateState.{Gate, closed, opened, holding}
+use Rattle.permit.specs.GateState.{Gate, closed, opened, holding}
 use Rattle.gate.specs.Slices.{Lent, short, decodedInto}
 use Rattle.gate.specs.Check.{Checked, unread, decoded, check}
 

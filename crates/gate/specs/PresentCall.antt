@@ -9,18 +9,20 @@ use Rattle.verdict.specs.Verdict.{Verdict, accepted, refused, packed}
 use Rattle.encoding.specs.Encode.{Bytes}
 use Rattle.records.specs.declared.Entry.{Entry}
 use Rattle.records.specs.declared.Node.{Node}
-use Rattle.gate.specs.GateState.{Gate, closed, opened, holding}
-use Rattle.gate.specs.Plain.{stateOf, leftBy}
+use Rattle.permit.specs.GateState.{Gate, closed, opened, holding}
+use Rattle.permit.specs.Plain.{stateOf, leftBy}
+use Rattle.permit.specs.LentState.{plain-reads}
+use Rattle.permit.specs.declared.State.{State}
+use Rattle.permit.specs.declared.numbered.Numbered.{Numbered}
 use Rattle.gate.specs.Slices.{Lent, short}
 use Rattle.gate.specs.LentSlices.{lentOf}
-use Rattle.gate.specs.Present.{presenting}
+use Rattle.gate.specs.Check.{Checked, unread, decoded, check}
+use Rattle.gate.specs.Present.{presentedBy, ifLong, presenting}
 use Rattle.gate.specs.PresentLaws.{Granted, presented-verdict}
 use Rattle.gate.specs.Correct.{Correct, Irrefutable}
 use Rattle.gate.specs.Demands.{presented-sound, presented-exact}
 use Rattle.gate.specs.Numbered.{packed-zero}
 use Rattle.gate.specs.PresentStep.{right, PresentedStep}
-use Rattle.gate.specs.declared.State.{State}
-use Rattle.gate.specs.declared.lent.Numbered.{Numbered}
 
 -- the promise of presenting: PresentedStep's three, and demand 3
 pub record PresentCall (s : State) (tag : ℕ) (claim proof : List ℕ) (es : List Entry) (vs : List Node) (cs : List ℕ) (r : ℕ) (s′ : State) (es′ : List Entry) (vs′ : List Node) (cs′ : List ℕ) : Type 0 where
@@ -75,3 +77,23 @@ module _ {s : State} {tag : ℕ} {claim proof : List ℕ} {es : List Entry} {vs 
 
   pub present-call : PresentCall s tag claim proof es vs cs (n .answer) (n .state) es′ vs′ cs′
   present-call = record { answer = step .answer; state = step .state; lent = step .lent; sound = λ z. sound z .1; holds = holds; exact = exact }
+
+-- ---- the numbers that are left stand for the state that the definition leaves, with a refusal too
+module _ (s : State) (tag : ℕ) (claim proof : List ℕ) (l : Lent) where
+  checked-left : (x : Checked) → stateOf s ≡ opened → stateOf (leftBy (presentedBy x tag l .answer) (presentedBy x tag l .gate) s) ≡ presentedBy x tag l .gate
+  checked-left (unread n q) e = e
+  checked-left (decoded t p accepted) e = plain-reads (holding tag)
+  checked-left (decoded t p (refused n q)) e = e
+
+  long-left : (b : Bool) (x : Checked) → stateOf s ≡ opened → stateOf (leftBy (ifLong b l (presentedBy x tag l) .answer) (ifLong b l (presentedBy x tag l) .gate) s) ≡ ifLong b l (presentedBy x tag l) .gate
+  long-left true x e = e
+  long-left false x e = checked-left x e
+
+  presenting-left : (g : Gate) → stateOf s ≡ g → stateOf (leftBy (presenting g tag claim proof l .answer) (presenting g tag claim proof l .gate) s) ≡ presenting g tag claim proof l .gate
+  unfolding presenting
+  presenting-left closed e = e
+  presenting-left opened e = long-left (short l) (check claim proof) e
+  presenting-left (holding old) e = e
+
+  pub presenting-reads : stateOf (leftBy (presenting (stateOf s) tag claim proof l .answer) (presenting (stateOf s) tag claim proof l .gate) s) ≡ presenting (stateOf s) tag claim proof l .gate
+  presenting-reads = presenting-left (stateOf s) refl

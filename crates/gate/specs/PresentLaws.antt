@@ -5,7 +5,7 @@ use mathlib.Core.List.{List}
 use Prim.Native.Nat.{ℕ}
 use Rattle.verdict.specs.Verdict.{Verdict, accepted, refused}
 use Rattle.verdict.specs.VerdictLaws.{accepted-not-refused}
-use Rattle.gate.specs.GateState.{Gate, closed, opened, holding}
+use Rattle.permit.specs.GateState.{Gate, closed, opened, holding}
 use Rattle.gate.specs.Slices.{Lent, short}
 use Rattle.gate.specs.Check.{Checked, unread, decoded, check, answer, verdict}
 use Rattle.gate.specs.Present.{Presented, held, presentedBy, ifLong, presenting}

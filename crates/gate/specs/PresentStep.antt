@@ -22,7 +22,7 @@ use Rattle.formula.specs.Judge.{judgeTable}
 use Rattle.reader.specs.ReadClaim.{readClaim}
 use Rattle.reader.specs.ReadProof.{readProof}
 use Rattle.reader.specs.ProofDecode.{proofIn}
-use Rattle.rules.specs.Judge.{judge}
+use Rattle.calculus.specs.Judge.{judge}
 use Rattle.records.specs.Records.{shownEntry, shownNode, shownEntries, shownNodes, firstEntries, firstNodes, total}
 use Rattle.records.specs.Shown.{total-codes}
 use Rattle.records.specs.declared.Entry.{Entry}
@@ -35,16 +35,16 @@ use Rattle.decoding.specs.Columns.{nodesIf, Counted, CodesRoom, ProofStored}
 use Rattle.decoding.specs.Standing.{standing, FitsEntries, FitsNodes, Ruleable, Judgeable}
 use Rattle.decoding.specs.StandingLaws.{standing-is}
 use Rattle.decoding.specs.declared.Found.{Found}
-use Rattle.gate.specs.GateState.{Gate, closed, opened, holding}
-use Rattle.gate.specs.Plain.{stateOf, leftBy}
+use Rattle.permit.specs.GateState.{Gate, closed, opened, holding}
+use Rattle.permit.specs.Plain.{stateOf, leftBy}
+use Rattle.permit.specs.PresentStages.{standsBefore, settledState, Settled}
+use Rattle.permit.specs.declared.State.{State}
+use Rattle.permit.specs.declared.numbered.Numbered.{Numbered}
 use Rattle.gate.specs.Slices.{short, decodedInto}
 use Rattle.gate.specs.LentSlices.{lentOf}
 use Rattle.gate.specs.Check as checks
 use Rattle.gate.specs.Check.{Checked, check}
 use Rattle.gate.specs.Present.{Presented, held, presentedBy, ifLong, presenting}
-use Rattle.gate.specs.PresentStages.{standsBefore, settledState, Settled}
-use Rattle.gate.specs.declared.State.{State}
-use Rattle.gate.specs.declared.lent.Numbered.{Numbered}
 
 module _ (s : State) (tag : ℕ) (claim proof : List ℕ) (es : List Entry) (vs : List Node) (cs : List ℕ) where
   -- what presenting to the state s answers and leaves

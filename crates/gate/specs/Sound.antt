@@ -13,11 +13,11 @@ use Rattle.formula.specs.Nodes.{node}
 use Rattle.formula.specs.States.{Model}
 use Rattle.formula.specs.Meaning.{own}
 use Rattle.reader.specs.RecordLaws.{node-count}
-use Rattle.rules.specs.Sequents.{sequent}
-use Rattle.rules.specs.Correct as rules
-use Rattle.rules.specs.Falsity.{Falsity}
-use Rattle.rules.specs.Kripke.{kripke}
-use Rattle.rules.specs.Sound.{claim-not-refuted, no-node-refuted}
+use Rattle.calculus.specs.Sequents.{sequent}
+use Rattle.calculus.specs.Correct as rules
+use Rattle.calculus.specs.Falsity.{Falsity}
+use Rattle.calculus.specs.Kripke.{kripke}
+use Rattle.calculus.specs.Sound.{claim-not-refuted, no-node-refuted}
 use Rattle.gate.specs.Correct.{Correct, Refutes, Irrefutable}
 use Rattle.gate.specs.CheckExact.{given}
 

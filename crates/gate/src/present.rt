@@ -1,76 +1,15 @@
 // "Presenting a tag, claim and proof (on acceptance it holds that tag)": what stands before the files, the files, the lent records and what the judge says of what stands there, and the state that the verdict leaves.
-ghost use mathlib.Core.Path.{_≡_};
-ghost use Rattle.verdict.specs.Shown.{shown};
-ghost use Rattle.verdict.specs.declared.Verdict.the-variants.{Refused};
-ghost use Rattle.gate.specs.Plain.{stateOf};
-ghost use Rattle.gate.specs.PresentStages.{standsBefore, Settled};
 ghost use Rattle.gate.specs.PresentCall.{PresentCall};
-use super::Phase;
-use super::State;
-use super::lent::Numbered;
 use decoding::files::read_files;
 use decoding::judge_records;
 use decoding::store_claim;
 use decoding::store_proof;
+use permit::State;
+use permit::numbered::Numbered;
+use permit::present::settle;
+use permit::present::stands_before;
 use records::Entry;
 use records::Node;
-use verdict::Verdict;
-use verdict::pack;
-
-fn refused(number: u16) -> Verdict
-    ensures { λ r. ⌜ r ≡ Refused number 0 ⌝ }
-{
-    Verdict::Refused {
-        number: number,
-        place: 0,
-    }
-}
-
-// 50, 51 and 1, which stand before the files.
-fn stands_before(state: State, entries: usize, nodes: usize, codes: usize) -> Verdict
-    ensures { λ r. ⌜ shown r ≡ standsBefore (stateOf state) entries nodes codes ⌝ }
-{
-    let phase = state.phase;
-    if phase == Phase::HOLDING {
-        return refused(51);
-    }
-    if phase != Phase::OPEN {
-        return refused(50);
-    }
-    if entries < 256 {
-        return refused(1);
-    }
-    if nodes < 1024 {
-        return refused(1);
-    }
-    if codes < 24576 {
-        return refused(1);
-    }
-    Verdict::Accepted
-}
-
-// "On acceptance it holds that tag", and "no input refusal alters the gate state".
-fn settle(state: State, tag: u32, verdict: Verdict) -> Numbered
-    ensures { λ r. ⌜ Settled state tag (shown verdict) r ⌝ }
-{
-    let answer = pack(verdict);
-    match verdict {
-        Verdict::Accepted => Numbered {
-            state: State {
-                phase: Phase::HOLDING,
-                tag: tag,
-            },
-            answer: answer,
-        },
-        Verdict::Refused {
-            number: _,
-            place: _,
-        } => Numbered {
-            state: state,
-            answer: answer,
-        },
-    }
-}
 
 // With 1 to 34 nothing is stored: the files are then found to have no entry and no node.
 fn present_step(

@@ -7,7 +7,7 @@ use native.Mathlib.Omega.{arith}
 use lib.ListN.{getD, set, replicate, length-replicate, getD-replicate}
 use Rattle.formula.specs.Fields.{hasFirst, hasSecond}
 use Rattle.formula.specs.PlainNodes.{proofOf, proofOf-length}
-use Rattle.rules.specs.Steps.{owner-none}
+use Rattle.calculus.specs.Steps.{owner-none}
 use Rattle.rules.specs.Owners.{unowned, OwnedBy, OneChild, OneParent}
 use Rattle.rules.specs.OwnerLaws.{parent-of, none-fit, none-owned, first-unfit, one-fit, one-owned, two-fit, two-owned}
 

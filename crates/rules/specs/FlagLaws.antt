@@ -12,8 +12,8 @@ use borrow.Author.Count.{below-more}
 use Rattle.verdict.specs.Tests.{any}
 use Rattle.formula.specs.Nodes.{Node}
 use Rattle.formula.specs.PlainNodes.{codesAt, proofOf, proofOf-length, proofOf-node}
-use Rattle.rules.specs.View.{plain}
-use Rattle.rules.specs.Judge.{on-loop}
+use Rattle.calculus.specs.View.{plain}
+use Rattle.calculus.specs.Judge.{on-loop}
 use Rattle.rules.specs.Flags.{in-focus, may-loop, Flagged}
 
 module _ (cs : List ℕ) (end : ℕ) where

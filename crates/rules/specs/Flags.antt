@@ -10,8 +10,8 @@ use Rattle.verdict.specs.Verdict.{Verdict, accepted, scan}
 use Rattle.formula.specs.Rule
 use Rattle.formula.specs.Codes.{focusOf}
 use Rattle.formula.specs.Nodes.{Proof, node}
-use Rattle.rules.specs.View.{owner, plain}
-use Rattle.rules.specs.Judge.{climb, ancestor, on-loop, good-path, loop}
+use Rattle.calculus.specs.View.{owner, plain}
+use Rattle.calculus.specs.Judge.{climb, ancestor, on-loop, good-path, loop}
 
 abbrev pub in-focus : ℕ → Bool
 in-focus c = eqb (focusOf c) 1

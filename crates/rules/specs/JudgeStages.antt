@@ -17,19 +17,19 @@ use Rattle.formula.specs.Plain.{tableOf}
 use Rattle.formula.specs.Nodes.{Node, Proof, node}
 use Rattle.formula.specs.PlainNodes.{codesAt, proofOf, proofOf-length, proofOf-node}
 use Rattle.formula.specs.WellFormed.{WellFormed}
-use Rattle.rules.specs.Tree.{Tree}
-use Rattle.rules.specs.Given.{Given}
-use Rattle.rules.specs.View.{plain}
-use Rattle.rules.specs.Judge.{codes, keeps, rule-number, back-kept, loop, root, judge}
-use Rattle.rules.specs.Steps.{keeps-leaf}
-use Rattle.rules.specs.JudgeExact.{judge-is, claim-stage, loops-stage}
+use Rattle.calculus.specs.Tree.{Tree}
+use Rattle.calculus.specs.Given.{Given}
+use Rattle.calculus.specs.View.{plain}
+use Rattle.calculus.specs.Judge.{codes, keeps, rule-number, back-kept, loop, root, judge}
+use Rattle.calculus.specs.Steps.{keeps-leaf}
+use Rattle.calculus.specs.JudgeExact.{judge-is, claim-stage, loops-stage}
 use Rattle.rules.specs.ScanLaws.{Passed, scan-passes, scan-fails, after, scan-then}
 use Rattle.rules.specs.Owners.{Parented, Filled, tree-judged}
 use Rattle.rules.specs.TreeStages.{tree-then, accepted-tree}
 use Rattle.rules.specs.Flags.{Noted, Companion, companion-fits, loops-judged}
 use Rattle.rules.specs.LoopStages.{linked-of, back-kept-is, no-leaf}
-use Rattle.rules.specs.Placed.{Placed, Members}
-use Rattle.rules.specs.Judged.{Judged, placed, codes-is}
+use Rattle.kept.specs.Placed.{Placed, Members}
+use Rattle.kept.specs.Judged.{Judged, placed, codes-is}
 
 -- 37 or 38 by rising node
 abbrev pub rules-judged : Table → Proof → Verdict

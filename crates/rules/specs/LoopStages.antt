@@ -12,8 +12,8 @@ use Rattle.formula.specs.Rule
 use Rattle.formula.specs.Table.{Table}
 use Rattle.formula.specs.Nodes.{Proof, Node, node}
 use Rattle.formula.specs.PlainNodes.{proofOf, proofOf-length, proofOf-node}
-use Rattle.rules.specs.View.{plain}
-use Rattle.rules.specs.Judge.{codes, ancestor, back-kept, loop}
+use Rattle.calculus.specs.View.{plain}
+use Rattle.calculus.specs.Judge.{codes, ancestor, back-kept, loop}
 use Rattle.rules.specs.Owners.{Owned}
 use Rattle.rules.specs.Flags.{Flagged, Noted, Linked, WalkedUp, companion-fits}
 

@@ -15,8 +15,8 @@ use Rattle.verdict.specs.Tells.{and-tells, ltb-tells, eqb-tells}
 use Rattle.formula.specs.Fields.{hasFirst, hasSecond}
 use Rattle.formula.specs.Nodes.{Proof, node}
 use Rattle.formula.specs.PlainNodes.{proofOf, proofOf-length, proofOf-node}
-use Rattle.rules.specs.View.{parents, owner, plain}
-use Rattle.rules.specs.Judge.{fits, children-fit}
+use Rattle.calculus.specs.View.{parents, owner, plain}
+use Rattle.calculus.specs.Judge.{fits, children-fit}
 use Rattle.rules.specs.Owners.{unowned, Owned}
 
 -- node v of p, of n nodes, in plain numbers

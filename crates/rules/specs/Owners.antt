@@ -12,8 +12,8 @@ use Rattle.verdict.specs.declared.Verdict.{Verdict}
 use Rattle.verdict.specs.declared.Verdict.the-variants.{Accepted}
 use Rattle.formula.specs.Nodes.{Proof}
 use Rattle.formula.specs.PlainNodes.{proofOf}
-use Rattle.rules.specs.View.{owner, plain}
-use Rattle.rules.specs.Judge.{children-fit, adopted}
+use Rattle.calculus.specs.View.{owner, plain}
+use Rattle.calculus.specs.Judge.{children-fit, adopted}
 
 -- w is a node above v, and has no owner
 abbrev pub unowned : List ℕ → ℕ → ℕ → ℕ → Bool

@@ -17,10 +17,10 @@ use Rattle.verdict.specs.declared.Verdict.the-variants.{Accepted, Refused}
 use Rattle.verdict.specs.Shown.{shown}
 use Rattle.formula.specs.Nodes.{Proof}
 use Rattle.formula.specs.PlainNodes.{proofOf, proofOf-length}
-use Rattle.rules.specs.Tree.{Tree}
-use Rattle.rules.specs.View.{owner, plain}
-use Rattle.rules.specs.Judge.{children-fit, adopted, parent}
-use Rattle.rules.specs.TreeLaws.{children-fit-tells, adopted-tells, to-tree, tree-adopted, parent-child}
+use Rattle.calculus.specs.Tree.{Tree}
+use Rattle.calculus.specs.View.{owner, plain}
+use Rattle.calculus.specs.Judge.{children-fit, adopted, parent}
+use Rattle.calculus.specs.TreeLaws.{children-fit-tells, adopted-tells, to-tree, tree-adopted, parent-child}
 use Rattle.rules.specs.ScanLaws.{Passed, scan-passes, scan-fails, after, scan-then}
 use Rattle.rules.specs.Owners.{Owned, OwnedBy, OneParent, children-judged, orphans-judged, tree-judged, Filled, Parented}
 

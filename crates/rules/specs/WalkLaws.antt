@@ -12,9 +12,9 @@ use Rattle.verdict.specs.Tests.{all, any, member}
 use Rattle.verdict.specs.Tells.{and-tells, ltb-tells, eqb-tells}
 use Rattle.formula.specs.Rule
 use Rattle.formula.specs.Nodes.{Proof, node}
-use Rattle.rules.specs.View.{plain}
-use Rattle.rules.specs.Judge.{parent, climb, ancestor, on-loop, good-path}
-use Rattle.rules.specs.Steps.{climb-end, climb-step}
+use Rattle.calculus.specs.View.{plain}
+use Rattle.calculus.specs.Judge.{parent, climb, ancestor, on-loop, good-path}
+use Rattle.calculus.specs.Steps.{climb-end, climb-step}
 use Rattle.rules.specs.Owners.{Parented}
 use Rattle.rules.specs.Flags.{Noted}
 

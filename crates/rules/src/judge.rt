@@ -7,21 +7,21 @@ ghost use Rattle.verdict.specs.Verdict.{accepted, scan};
 ghost use Rattle.verdict.specs.Shown.{shown};
 ghost use Rattle.formula.specs.Plain.{tableOf};
 ghost use Rattle.formula.specs.PlainNodes.{proofOf};
-ghost use Rattle.rules.specs.View.{plain};
-ghost use Rattle.rules.specs.Judge.{keeps, loop, judge as judged};
+ghost use Rattle.calculus.specs.View.{plain};
+ghost use Rattle.calculus.specs.Judge.{keeps, loop, judge as judged};
 ghost use Rattle.rules.specs.ScanLaws.{FirstBad};
-ghost use Rattle.rules.specs.Placed.{Members};
-ghost use Rattle.rules.specs.Judged.{Judged};
+ghost use Rattle.kept.specs.Placed.{Members};
+ghost use Rattle.kept.specs.Judged.{Judged};
 ghost use Rattle.rules.specs.JudgeStages.{Ready, Laid, nodes-judged, tree-rules-judged};
 ghost use Rattle.rules.specs.Owners.{OwnedBy, Parented};
-use super::kept::kept;
 use super::loops::companion;
 use super::loops::fill_flags;
-use super::sequents::root_is_claim;
-use super::sequents::same_sequent;
 use super::tree::fill_owners;
 use super::tree::wide;
 use formula::Rule;
+use kept::kept::kept;
+use kept::sequents::root_is_claim;
+use kept::sequents::same_sequent;
 use verdict::Verdict;
 
 // What is said of a node: it keeps its rule; it is no back leaf, or its loop path is good.

@@ -47,7 +47,7 @@ use Rattle.verdict.proofs.Verdict as Ver
 use Rattle.verdict.proofs.Verdict.Laws as Ver′
 use Rattle.formula.specs.Plain.{tableOf}
 use Rattle.formula.specs.PlainNodes.{proofOf}
-use Rattle.rules.specs.Judge.{judge}
+use Rattle.calculus.specs.Judge.{judge}
 use Rattle.records.specs.Records.{firstNodes, NodesLoaded}
 use Rattle.records.specs.declared.Node.{Node}
 use Rattle.records.proofs.Node as T

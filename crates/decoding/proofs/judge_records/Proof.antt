@@ -45,7 +45,7 @@ use Rattle.verdict.proofs.Verdict as Ver
 use Rattle.verdict.proofs.Verdict.Laws as Ver′
 use Rattle.formula.specs.Table.{Table}
 use Rattle.formula.specs.Plain.{tableOf}
-use Rattle.rules.specs.Judge.{judge}
+use Rattle.calculus.specs.Judge.{judge}
 use Rattle.records.specs.Records.{firstEntries, firstNodes, EntriesLoaded}
 use Rattle.records.specs.declared.Entry.{Entry}
 use Rattle.records.specs.declared.Node.{Node}

@@ -5,7 +5,7 @@ use native.Mathlib.Omega.{arith}
 use borrow.Author.Needs.{needs}
 use mathlib.Core.Logic.{⊎-elim}
 use lib.ListN.{length}
-use Rattle.evaluator.specs.Fill.{Filled, filled-none}
+use Rattle.states.specs.Fill.{Filled, filled-none}
 use Rattle.evaluator.specs.Pass.{begunWord, begun-set, begun-keep}
 use Rattle.evaluator.proofs.begin.Statement.{statement}
 use Rattle.evaluator.proofs.begin.Tie as tie

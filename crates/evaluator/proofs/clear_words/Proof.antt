@@ -4,7 +4,7 @@ use Prim.Native.Nat.{_-_, _≤_}
 use native.Mathlib.Omega.{arith}
 use borrow.Author.Needs.{needs}
 use lib.ListN.{length}
-use Rattle.evaluator.specs.Fill.{Filled, filled-none, filled-set}
+use Rattle.states.specs.Fill.{Filled, filled-none, filled-set}
 use Rattle.evaluator.proofs.clear_words.Statement.{statement}
 use Rattle.evaluator.proofs.clear_words.Tie as tie
 

@@ -1,7 +1,7 @@
 -- what is settled is right from the first call to the last, and in the end every entry is
 use mathlib.Core.Path.{_∙_}
 use Rattle.evaluator.specs.Claim.{tableFrom}
-use Rattle.evaluator.specs.PlainModel.{rows-inside, rows-words}
+use Rattle.states.specs.PlainModel.{rows-inside, rows-words}
 use Rattle.evaluator.specs.EvaluatedLaws.{standing-first, every-word}
 use borrow.Author.Needs.{needs}
 use Rattle.evaluator.proofs.fill_words.Statement.{statement}

@@ -6,7 +6,7 @@ use borrow.Author.Needs.{needs}
 use lib.ListN.{length, replicate, length-replicate}
 use Rattle.evaluator.specs.Top.{top}
 use Rattle.evaluator.specs.Claim.{tableFrom}
-use Rattle.evaluator.specs.Fill.{Filled, filled-none, filled-set}
+use Rattle.states.specs.Fill.{Filled, filled-none, filled-set}
 use Rattle.evaluator.specs.Tops.{top-next}
 use Rattle.evaluator.proofs.find_tops.Statement.{statement}
 use Rattle.evaluator.proofs.find_tops.Tie as tie

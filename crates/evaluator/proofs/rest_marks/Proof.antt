@@ -5,7 +5,7 @@ use native.Mathlib.Omega.{arith}
 use borrow.Author.Needs.{needs}
 use mathlib.Core.Logic.{⊎-elim}
 use lib.ListN.{replicate}
-use Rattle.evaluator.specs.Fill.{Filled, filled-none}
+use Rattle.states.specs.Fill.{Filled, filled-none}
 use Rattle.evaluator.specs.EvaluatedLaws.{restMark, rest-set, rest-keep}
 use Rattle.evaluator.proofs.rest_marks.Statement.{statement}
 use Rattle.evaluator.proofs.rest_marks.Tie as tie

@@ -4,7 +4,7 @@ use Prim.Native.Nat.{_-_, _≤_}
 use native.Mathlib.Omega.{arith}
 use borrow.Author.Needs.{needs}
 use mathlib.Core.Logic.{⊎-elim}
-use Rattle.evaluator.specs.Fill.{Filled, filled-none}
+use Rattle.states.specs.Fill.{Filled, filled-none}
 use Rattle.evaluator.specs.EvaluatedLaws.{settledMark, settled-set, settled-keep}
 use Rattle.evaluator.proofs.settle_marked.Statement.{statement}
 use Rattle.evaluator.proofs.settle_marked.Tie as tie

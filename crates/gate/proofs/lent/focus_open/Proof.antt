@@ -37,19 +37,19 @@ use denote.Triple.Spec.{Meets, tripleOf}
 use denote.Triple.Table.{entered, cited}
 use denote.Triple.Clauses.{ensured, lasts}
 use denote.Triple.Walked.{says, Stays, stay-ref, walkOf, goes-ref, Walks, ends-at, walked, walk-meets}
-use Rattle.gate.specs.GateState.{opening}
-use Rattle.gate.specs.Plain.{stateOf}
-use Rattle.gate.specs.LentState.{Answered}
-use Rattle.gate.specs.declared.State.{State}
-use Rattle.gate.specs.declared.lent.Numbered.{Numbered}
-use Rattle.gate.proofs.State as T
-use Rattle.gate.proofs.State.Laws as T′
-use Rattle.gate.proofs.lent.Numbered as S
-use Rattle.gate.proofs.lent.Numbered.Laws as S′
-use Rattle.gate.proofs.lent.open_number as step
-use Rattle.gate.proofs.lent.open_number.Symbol as step-def
-use Rattle.gate.proofs.lent.open_number.Symbol.{name as #open-number}
-use Rattle.gate.proofs.lent.open_number.Met as step-thm
+use Rattle.permit.specs.GateState.{opening}
+use Rattle.permit.specs.Plain.{stateOf}
+use Rattle.permit.specs.LentState.{Answered}
+use Rattle.permit.specs.declared.State.{State}
+use Rattle.permit.specs.declared.numbered.Numbered.{Numbered}
+use Rattle.permit.proofs.State as T
+use Rattle.permit.proofs.State.Laws as T′
+use Rattle.permit.proofs.numbered.Numbered as S
+use Rattle.permit.proofs.numbered.Numbered.Laws as S′
+use Rattle.permit.proofs.numbered.open_number as step
+use Rattle.permit.proofs.numbered.open_number.Symbol as step-def
+use Rattle.permit.proofs.numbered.open_number.Symbol.{name as #open-number}
+use Rattle.permit.proofs.numbered.open_number.Met as step-thm
 use Rattle.gate.proofs.lent.focus_open.Key.{name as #focus-open}
 use Rattle.gate.proofs.lent.focus_open as f
 use Rattle.gate.proofs.lent.focus_open.Statement as stated
@@ -130,4 +130,4 @@ focus-open-spec 𝓤 H 𝓜 𝓖 𝓡 =
     entered 𝓤 H (tripleOf 𝓤 H (𝓖 .A) f.signature (f.spec 𝓤 H (𝓖 .A) (𝓜 .mem) (𝓡 .run)))
     (tables 𝓤 H 𝓜 𝓡 code.env .C) (tables 𝓤 H 𝓜 𝓡 code.env .Λ) #focus-open code.function (code.unfolded 𝓤 H 𝓜 𝓡)
     (f-meets 𝓤 H (𝓖 .A) (givenOf 𝓤 H 𝓜 𝓖) (𝓜 .mem) (𝓡 .run) (tablesOf 𝓤 H 𝓜 (tables 𝓤 H 𝓜 𝓡 code.env))
-    (cited 𝓤 H (Step 𝓤 H (𝓖 .A) (𝓜 .mem) (𝓡 .run)) 𝓜 𝓡 code.env #open-number step-def.routine code.calls-gate·lent·open-number (step-thm.met 𝓤 H 𝓜 𝓖 𝓡)))
+    (cited 𝓤 H (Step 𝓤 H (𝓖 .A) (𝓜 .mem) (𝓡 .run)) 𝓜 𝓡 code.env #open-number step-def.routine code.calls-permit·numbered·open-number (step-thm.met 𝓤 H 𝓜 𝓖 𝓡)))

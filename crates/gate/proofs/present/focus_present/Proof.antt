@@ -44,12 +44,12 @@ use Rattle.records.specs.declared.Node.{Node}
 use Rattle.records.proofs.Entry as E
 use Rattle.records.proofs.Node as T
 use Rattle.gate.specs.PresentCall.{PresentCall}
-use Rattle.gate.specs.declared.State.{State}
-use Rattle.gate.specs.declared.lent.Numbered.{Numbered}
-use Rattle.gate.proofs.State as S
-use Rattle.gate.proofs.State.Laws as S′
-use Rattle.gate.proofs.lent.Numbered as N
-use Rattle.gate.proofs.lent.Numbered.Laws as N′
+use Rattle.permit.specs.declared.State.{State}
+use Rattle.permit.specs.declared.numbered.Numbered.{Numbered}
+use Rattle.permit.proofs.State as S
+use Rattle.permit.proofs.State.Laws as S′
+use Rattle.permit.proofs.numbered.Numbered as N
+use Rattle.permit.proofs.numbered.Numbered.Laws as N′
 use Rattle.gate.proofs.present.present_step as step
 use Rattle.gate.proofs.present.present_step.Symbol as step-def
 use Rattle.gate.proofs.present.present_step.Symbol.{name as #step}

@@ -44,7 +44,7 @@ use Rattle.verdict.specs.Shown.{shown}
 use Rattle.verdict.specs.declared.Verdict.{Verdict}
 use Rattle.verdict.proofs.Verdict as Ver
 use Rattle.verdict.proofs.Verdict.Laws as Ver′
-use Rattle.rules.specs.Judge.{judge}
+use Rattle.calculus.specs.Judge.{judge}
 use Rattle.records.specs.Records.{shownEntries, firstEntries, firstNodes}
 use Rattle.records.specs.declared.Entry.{Entry}
 use Rattle.records.specs.declared.Node.{Node}
@@ -60,20 +60,20 @@ use Rattle.decoding.specs.Standing.{standing, FitsEntries, FitsNodes, Judgeable
 use Rattle.decoding.specs.declared.Found.{Found}
 use Rattle.decoding.proofs.Found as F
 use Rattle.decoding.proofs.Found.Laws as F′
-use Rattle.gate.specs.Plain.{stateOf}
-use Rattle.gate.specs.PresentStages.{standsBefore, Settled}
+use Rattle.permit.specs.Plain.{stateOf}
+use Rattle.permit.specs.PresentStages.{standsBefore, Settled}
 use Rattle.gate.specs.PresentStep.{told-before, may-store-claim, may-store-proof, may-judge, presented-step}
 use Rattle.gate.specs.PresentCall.{PresentCall, present-call}
-use Rattle.gate.specs.declared.State.{State}
-use Rattle.gate.specs.declared.lent.Numbered.{Numbered}
-use Rattle.gate.proofs.State as S
-use Rattle.gate.proofs.State.Laws as S′
-use Rattle.gate.proofs.lent.Numbered as N
-use Rattle.gate.proofs.lent.Numbered.Laws as N′
-use Rattle.gate.proofs.present.stands_before as stand
-use Rattle.gate.proofs.present.stands_before.Symbol as stand-def
-use Rattle.gate.proofs.present.stands_before.Symbol.{name as #stand}
-use Rattle.gate.proofs.present.stands_before.Met as stand-thm
+use Rattle.permit.specs.declared.State.{State}
+use Rattle.permit.specs.declared.numbered.Numbered.{Numbered}
+use Rattle.permit.proofs.State as S
+use Rattle.permit.proofs.State.Laws as S′
+use Rattle.permit.proofs.numbered.Numbered as N
+use Rattle.permit.proofs.numbered.Numbered.Laws as N′
+use Rattle.permit.proofs.present.stands_before as stand
+use Rattle.permit.proofs.present.stands_before.Symbol as stand-def
+use Rattle.permit.proofs.present.stands_before.Symbol.{name as #stand}
+use Rattle.permit.proofs.present.stands_before.Met as stand-thm
 use Rattle.decoding.proofs.files.read_files as read
 use Rattle.decoding.proofs.files.read_files.Symbol as read-def
 use Rattle.decoding.proofs.files.read_files.Symbol.{name as #read}
@@ -90,10 +90,10 @@ use Rattle.decoding.proofs.judge_records as rule-on
 use Rattle.decoding.proofs.judge_records.Symbol as rule-on-def
 use Rattle.decoding.proofs.judge_records.Symbol.{name as #rule-on}
 use Rattle.decoding.proofs.judge_records.Met as rule-on-thm
-use Rattle.gate.proofs.present.settle as leave
-use Rattle.gate.proofs.present.settle.Symbol as leave-def
-use Rattle.gate.proofs.present.settle.Symbol.{name as #leave}
-use Rattle.gate.proofs.present.settle.Met as leave-thm
+use Rattle.permit.proofs.present.settle as leave
+use Rattle.permit.proofs.present.settle.Symbol as leave-def
+use Rattle.permit.proofs.present.settle.Symbol.{name as #leave}
+use Rattle.permit.proofs.present.settle.Met as leave-thm
 use Rattle.gate.proofs.present.present_step.Key.{name as #fn}
 use Rattle.gate.proofs.present.present_step as f
 use Rattle.gate.proofs.present.present_step.Statement as stated
@@ -408,9 +408,9 @@ present-step-spec 𝓤 H 𝓜 𝓖 𝓡 =
     entered 𝓤 H (tripleOf 𝓤 H (𝓖 .A) f.signature (f.spec 𝓤 H (𝓖 .A) (𝓜 .mem) (𝓡 .run)))
     (tables 𝓤 H 𝓜 𝓡 code.env .C) (tables 𝓤 H 𝓜 𝓡 code.env .Λ) #fn code.function (code.unfolded 𝓤 H 𝓜 𝓡)
     (f-meets 𝓤 H (𝓖 .A) (givenOf 𝓤 H 𝓜 𝓖) (𝓜 .mem) (𝓡 .run) (tablesOf 𝓤 H 𝓜 (tables 𝓤 H 𝓜 𝓡 code.env))
-    (cited 𝓤 H (Stand 𝓤 H (𝓖 .A) (𝓜 .mem) (𝓡 .run)) 𝓜 𝓡 code.env #stand stand-def.routine code.calls-gate·present·stands-before (stand-thm.met 𝓤 H 𝓜 𝓖 𝓡))
+    (cited 𝓤 H (Stand 𝓤 H (𝓖 .A) (𝓜 .mem) (𝓡 .run)) 𝓜 𝓡 code.env #stand stand-def.routine code.calls-permit·present·stands-before (stand-thm.met 𝓤 H 𝓜 𝓖 𝓡))
     (cited 𝓤 H (Read 𝓤 H (𝓖 .A) (𝓜 .mem) (𝓡 .run)) 𝓜 𝓡 code.env #read read-def.routine code.calls-decoding·files·read-files (read-thm.met 𝓤 H 𝓜 𝓖 𝓡))
     (cited 𝓤 H (PutE 𝓤 H (𝓖 .A) (𝓜 .mem) (𝓡 .run)) 𝓜 𝓡 code.env #put-entries put-entries-def.routine code.calls-decoding·store-claim (put-entries-thm.met 𝓤 H 𝓜 𝓖 𝓡))
     (cited 𝓤 H (PutN 𝓤 H (𝓖 .A) (𝓜 .mem) (𝓡 .run)) 𝓜 𝓡 code.env #put-nodes put-nodes-def.routine code.calls-decoding·store-proof (put-nodes-thm.met 𝓤 H 𝓜 𝓖 𝓡))
     (cited 𝓤 H (Rule 𝓤 H (𝓖 .A) (𝓜 .mem) (𝓡 .run)) 𝓜 𝓡 code.env #rule-on rule-on-def.routine code.calls-decoding·judge-records (rule-on-thm.met 𝓤 H 𝓜 𝓖 𝓡))
-    (cited 𝓤 H (Leave 𝓤 H (𝓖 .A) (𝓜 .mem) (𝓡 .run)) 𝓜 𝓡 code.env #leave leave-def.routine code.calls-gate·present·settle (leave-thm.met 𝓤 H 𝓜 𝓖 𝓡)))
+    (cited 𝓤 H (Leave 𝓤 H (𝓖 .A) (𝓜 .mem) (𝓡 .run)) 𝓜 𝓡 code.env #leave leave-def.routine code.calls-permit·present·settle (leave-thm.met 𝓤 H 𝓜 𝓖 𝓡)))

@@ -7,8 +7,8 @@ use borrow.Author.Needs.{needs}
 use borrow.Author.Tests.{not-true, not-false}
 use Rattle.formula.specs.Plain.{tableOf}
 use Rattle.formula.specs.PlainNodes.{proofOf}
-use Rattle.rules.specs.View.{plain}
-use Rattle.rules.specs.Judge.{keeps, loop}
+use Rattle.calculus.specs.View.{plain}
+use Rattle.calculus.specs.Judge.{keeps, loop}
 use Rattle.rules.specs.ScanLaws.{Passed, FirstBad}
 use Rattle.rules.specs.JudgeStages.{rules-fail, rules-pass, nodes-fail, nodes-pass}
 use Rattle.rules.proofs.judge.judge_nodes.Statement.{statement}

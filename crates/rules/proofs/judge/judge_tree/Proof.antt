@@ -10,9 +10,9 @@ use Rattle.formula.specs.Table.{Table}
 use Rattle.formula.specs.Plain.{tableOf}
 use Rattle.formula.specs.Nodes.{Proof}
 use Rattle.formula.specs.PlainNodes.{proofOf}
-use Rattle.rules.specs.View.{plain}
-use Rattle.rules.specs.Judge.{root}
-use Rattle.rules.specs.Judged.{placed}
+use Rattle.calculus.specs.View.{plain}
+use Rattle.calculus.specs.Judge.{root}
+use Rattle.kept.specs.Judged.{placed}
 use Rattle.rules.specs.LoopStages.{noted-of}
 use Rattle.rules.specs.JudgeStages.{other-root, claim-root}
 use Rattle.rules.proofs.judge.judge_tree.Statement.{statement}

@@ -5,7 +5,7 @@ use mathlib.Core.List.{[]}
 use native.Mathlib.Omega.{arith}
 use borrow.Author.Needs.{needs}
 use borrow.Author.Tests.{not-true, not-false}
-use Rattle.rules.specs.Judged.{placed}
+use Rattle.kept.specs.Judged.{placed}
 use Rattle.rules.specs.JudgeStages.{leaf-refused, leaf-path, companion-inside, leaf-compared, other-path}
 use Rattle.rules.proofs.judge.node_stands.Statement.{statement}
 use Rattle.rules.proofs.judge.node_stands.Tie as tie

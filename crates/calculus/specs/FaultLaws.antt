@@ -1,0 +1,182 @@
+-- the judge refuses with a number at a place just when the tables earn that number there
+use mathlib.Core.Path.{_≡_, refl, sym, _∙_, ap}
+use mathlib.Core.Logic.{_≢_, _⊎_, inl, inr, _↔_}
+use mathlib.Core.List.{List}
+use mathlib.Core.Bool.{Bool, true, false}
+use Prim.Native.Nat.{ℕ, _<_}
+use native.Mathlib.Decide.{ℕ-discrete}
+use native.Mathlib.Omega.{arith}
+use lib.ListN.{length}
+use borrow.Author.Tests.{eq-eqb, ne-eqb}
+use Rattle.formula.specs.Rule
+use Rattle.formula.specs.Table.{Table}
+use Rattle.formula.specs.Nodes.{Proof}
+use Rattle.calculus.specs.Tree.{Tree}
+use Rattle.calculus.specs.Sequents.{rule}
+use Rattle.calculus.specs.Rules.{Keeps, back}
+use Rattle.calculus.specs.Correct.{Correct}
+use Rattle.verdict.specs.Verdict.{Verdict, accepted, refused, pick, scan}
+use Rattle.calculus.specs.View.{plain}
+use Rattle.calculus.specs.Judge.{children-fit, adopted, root, keeps, loop, rule-number, judge}
+use Rattle.calculus.specs.Faults.{ChildrenFit, Adopted, Claimed, GoodLeaf, Before, Earns, bad-child, orphan, other-root, rule-broken, bad-link, bad-loop}
+use Rattle.calculus.specs.Given.{Given}
+use Rattle.verdict.specs.Tells.{Tells, fails, fails-holds}
+use Rattle.calculus.specs.Loops.{good-walk}
+use Rattle.verdict.specs.VerdictLaws.{First, Passes, accepted-not-refused, scan-holds, scan-refuses, scan-first}
+use Rattle.calculus.specs.TreeLaws.{children-fit-tells, adopted-tells, to-tree, tree-children, tree-adopted, child-real}
+use Rattle.calculus.specs.ClimbLaws.{ancestor-path}
+use Rattle.calculus.specs.RuleLaws.{keeps-tells}
+use Rattle.calculus.specs.JudgeExact.{orphans-stage, claim-stage, rules-stage, loops-stage, judge-is, root-tells, keeps-back, leaf-tells, accepted-correct, correct-accepted}
+
+-- the first number below n that lacks P
+record Lacks (P : ℕ → Type 0) (n q : ℕ) : Type 0 where
+  pub inside : q < n
+  pub before : Before q P
+  pub lacks : P q → ⊥
+
+-- a scan whose test tells P, from 0 on
+module _ {ok : ℕ → Bool} {P : ℕ → Type 0} (number : ℕ → ℕ) (n : ℕ) (x : (v : ℕ) → v < n → Tells (ok v) (P v)) (rest : Verdict) where
+  all-scanned : Before n P → scan ok number n 0 rest ≡ rest
+  all-scanned f = scan-holds ok number n 0 rest (λ w _ h. x w (omega arith) .holds (f w (omega arith)))
+
+  first-scanned : {q : ℕ} → Lacks P n q → scan ok number n 0 rest ≡ refused (number q) q
+  first-scanned {q} l = scan-first ok number n 0 rest (record {
+    inside = omega (arith, l .inside);
+    bad = fails-holds (x q (l .inside)) (l .lacks);
+    numbered = refl;
+    before = λ w _ h. x w (omega (arith, l .inside)) .holds (l .before w h);
+  })
+
+  scanned : {k q : ℕ} → scan ok number n 0 rest ≡ refused k q → ((number q ≡ k) × Lacks P n q) ⊎ (Before n P × (rest ≡ refused k q))
+  scanned {k} {q} h = go (scan-refuses ok number n 0 rest h)
+    where
+      go : First ok number 0 n k q ⊎ (Passes ok 0 n × (rest ≡ refused k q)) → ((number q ≡ k) × Lacks P n q) ⊎ (Before n P × (rest ≡ refused k q))
+      go (inl z) =
+          let i : q < n = omega (arith, z .inside) in
+          inl (z .numbered, record { inside = i; before = λ w b. x w (omega arith) .says (z .before w (omega arith) b); lacks = fails (x q i) (z .bad) })
+      go (inr (f, r)) = inr (λ w b. x w b .says (f w (omega arith) (omega arith)), r)
+
+number-back : (p : Proof) (v : ℕ) → rule p v ≡ Rule.BACK → rule-number (plain p) v ≡ 38
+unfolding rule-number
+number-back p v e = rw (eq-eqb (rule p v) Rule.BACK e) refl
+
+number-other : (p : Proof) (v : ℕ) → rule p v ≢ Rule.BACK → rule-number (plain p) v ≡ 37
+unfolding rule-number
+number-other p v n = rw (ne-eqb (rule p v) Rule.BACK n) refl
+
+pick-refuses : (b : Bool) (x : Verdict) {m r k q : ℕ} → pick b x (refused m r) ≡ refused k q → ((b ≡ false) × (m ≡ k) × (r ≡ q)) ⊎ ((b ≡ true) × (x ≡ refused k q))
+pick-refuses true x h = inr (refl, h)
+pick-refuses false x {m} {r} {k} {q} h =
+    let a : m ≡ k = cc in
+    let b : r ≡ q = cc in
+    inl (refl, a, b)
+
+module _ (t : Table) (claim : List ℕ) (p : Proof) (G : Given t p) where
+  children-told : (v : ℕ) → v < length p → Tells (children-fit (plain p) v) (ChildrenFit p v)
+  children-told v i = children-fit-tells p v i
+
+  adopted-told : (v : ℕ) → v < length p → Tells (adopted (plain p) v) (Adopted p v)
+  adopted-told v i = adopted-tells p v i
+
+  module _ (T : Tree p) where
+    keeps-told : (v : ℕ) → v < length p → Tells (keeps t (plain p) v) (Keeps t p v)
+    keeps-told v i = keeps-tells t p T G v i
+
+    module _ (K : Before (length p) (Keeps t p)) where
+      leaf-told : (v : ℕ) → v < length p → Tells (loop (plain p) v) (GoodLeaf p v)
+      leaf-told v i = leaf-tells t p T v (K v i)
+
+      loops-earn : Claimed claim p → {k q : ℕ} → loops-stage t claim p ≡ refused k q → Earns t claim p k q
+      loops-earn C {k} {q} h = go (scanned (λ _. 39) (length p) leaf-told accepted h)
+        where
+          bad : Lacks (GoodLeaf p) (length p) q → Dec (rule p q ≡ Rule.BACK) → Earns t claim p 39 q
+          bad l (yes b) =
+              let π = ancestor-path p T (keeps-back b (K q (l .inside)) .companion) in
+              bad-loop T C K (l .inside) (l .before) b π (λ g. l .lacks (λ _ ρ. good-walk T π g ρ))
+          bad l (no n) = absurd (l .lacks (λ b. absurd (n b)))
+
+          go : ((39 ≡ k) × Lacks (GoodLeaf p) (length p) q) ⊎ (Before (length p) (GoodLeaf p) × (accepted ≡ refused k q)) → Earns t claim p k q
+          go (inl (e, l)) = rw (← e) (bad l (ℕ-discrete (rule p q) Rule.BACK))
+          go (inr (f, r)) = absurd (accepted-not-refused (sym r))
+
+    rules-earn : Claimed claim p → {k q : ℕ} → rules-stage t claim p ≡ refused k q → Earns t claim p k q
+    rules-earn C {k} {q} h = go (scanned (rule-number (plain p)) (length p) keeps-told (loops-stage t claim p) h)
+      where
+        bad : Lacks (Keeps t p) (length p) q → Dec (rule p q ≡ Rule.BACK) → Earns t claim p (rule-number (plain p) q) q
+        bad l (yes b) = rw (number-back p q b) (bad-link T C (l .inside) (l .before) b (λ k. l .lacks (back b k)))
+        bad l (no n) = rw (number-other p q n) (rule-broken T C (l .inside) (l .before) n (l .lacks))
+
+        go : ((rule-number (plain p) q ≡ k) × Lacks (Keeps t p) (length p) q) ⊎ (Before (length p) (Keeps t p) × (loops-stage t claim p ≡ refused k q)) → Earns t claim p k q
+        go (inl (e, l)) = rw (← e) (bad l (ℕ-discrete (rule p q) Rule.BACK))
+        go (inr (f, r)) = loops-earn f C r
+
+    claim-earn : {k q : ℕ} → claim-stage t claim p ≡ refused k q → Earns t claim p k q
+    claim-earn {k} {q} h = go (pick-refuses (root claim (plain p)) (rules-stage t claim p) h)
+      where
+        go : ((root claim (plain p) ≡ false) × (36 ≡ k) × (0 ≡ q)) ⊎ ((root claim (plain p) ≡ true) × (rules-stage t claim p ≡ refused k q)) → Earns t claim p k q
+        go (inl (f, e, z)) = rw (← e, ← z) (other-root T (fails (root-tells claim p) f))
+        go (inr (r, h)) = rules-earn (root-tells claim p .says r) h
+
+  -- no number lies
+  pub refused-earned : {k q : ℕ} → judge t claim p ≡ refused k q → Earns t claim p k q
+  refused-earned {k} {q} h = go (scanned (λ _. 35) (length p) children-told (orphans-stage t claim p) (rw (judge-is t claim p) at h))
+    where
+      next : Before (length p) (ChildrenFit p) → ((35 ≡ k) × Lacks (Adopted p) (length p) q) ⊎ (Before (length p) (Adopted p) × (claim-stage t claim p ≡ refused k q)) → Earns t claim p k q
+      next f (inl (e, l)) = rw (← e) (orphan f (l .inside) (l .before) (λ z. l .lacks (inl z)) (λ v c. l .lacks (inr (v, child-real p c, c))))
+      next f (inr (g, r)) = claim-earn (to-tree p f g) r
+
+      go : ((35 ≡ k) × Lacks (ChildrenFit p) (length p) q) ⊎ (Before (length p) (ChildrenFit p) × (orphans-stage t claim p ≡ refused k q)) → Earns t claim p k q
+      go (inl (e, l)) = rw (← e) (bad-child (l .inside) (l .before) (l .lacks))
+      go (inr (f, r)) = next f (scanned (λ _. 35) (length p) adopted-told (claim-stage t claim p) r)
+
+  -- and each is given where it is earned
+  children-pass : Before (length p) (ChildrenFit p) → judge t claim p ≡ orphans-stage t claim p
+  children-pass f = judge-is t claim p ∙ all-scanned (λ _. 35) (length p) children-told (orphans-stage t claim p) f
+
+  tree-passes : Tree p → judge t claim p ≡ claim-stage t claim p
+  tree-passes T = children-pass (tree-children p T) ∙ all-scanned (λ _. 35) (length p) adopted-told (claim-stage t claim p) (tree-adopted p T)
+
+  claim-passes : Tree p → Claimed claim p → judge t claim p ≡ rules-stage t claim p
+  claim-passes T C = tree-passes T ∙ rw (root-tells claim p .holds C) refl
+
+  pub earned-refused : {k q : ℕ} → Earns t claim p k q → judge t claim p ≡ refused k q
+  earned-refused (bad-child i b n) =
+      judge-is t claim p ∙ first-scanned (λ _. 35) (length p) children-told (orphans-stage t claim p) (record { inside = i; before = b; lacks = n })
+  earned-refused (orphan {q = q} f i b z n) =
+      children-pass f ∙ first-scanned (λ _. 35) (length p) adopted-told (claim-stage t claim p) (record { inside = i; before = b; lacks = none })
+    where
+      none : Adopted p q → ⊥
+      none (inl e) = z e
+      none (inr (v, _, c)) = n v c
+  earned-refused (other-root T n) = tree-passes T ∙ rw (fails-holds (root-tells claim p) n) refl
+  earned-refused (rule-broken {q = q} T C i b n k) =
+      claim-passes T C
+      ∙ first-scanned (rule-number (plain p)) (length p) (keeps-told T) (loops-stage t claim p) (record { inside = i; before = b; lacks = k })
+      ∙ ap (λ (m : ℕ). refused m q) (number-other p q n)
+  earned-refused (bad-link {q = q} T C i b e k) =
+      claim-passes T C
+      ∙ first-scanned (rule-number (plain p)) (length p) (keeps-told T) (loops-stage t claim p) (record { inside = i; before = b; lacks = λ z. k (keeps-back e z) })
+      ∙ ap (λ (m : ℕ). refused m q) (number-back p q e)
+  earned-refused (bad-loop T C K i b e π n) =
+      claim-passes T C
+      ∙ all-scanned (rule-number (plain p)) (length p) (keeps-told T) (loops-stage t claim p) K
+      ∙ first-scanned (λ _. 39) (length p) (leaf-told T K) accepted (record { inside = i; before = b; lacks = λ g. n (g e π) })
+
+  pub exact-refusal : {k q : ℕ} → (judge t claim p ≡ refused k q) ↔ Earns t claim p k q
+  exact-refusal = (refused-earned, earned-refused)
+
+  -- every proof of tables is correct or earns one refusal
+  pub outcome : (Correct t p × Claimed claim p) ⊎ ((k : ℕ) × (q : ℕ) × Earns t claim p k q)
+  outcome = go (judge t claim p) refl
+    where
+      go : (x : Verdict) → judge t claim p ≡ x → (Correct t p × Claimed claim p) ⊎ ((k : ℕ) × (q : ℕ) × Earns t claim p k q)
+      go accepted h = inl (accepted-correct t claim p G h)
+      go (refused k q) h = inr (k, q, refused-earned h)
+
+  pub one-refusal : {k q m r : ℕ} → Earns t claim p k q → Earns t claim p m r → (k ≡ m) × (q ≡ r)
+  one-refusal {k} {q} {m} {r} x y =
+      let h : refused k q ≡ refused m r = sym (earned-refused x) ∙ earned-refused y in
+      ((cc), (cc))
+
+  pub correct-earns-nothing : {k q : ℕ} → Correct t p → Claimed claim p → Earns t claim p k q → ⊥
+  correct-earns-nothing C R x = accepted-not-refused (sym (earned-refused x) ∙ correct-accepted t claim p G C R)

@@ -1,0 +1,29 @@
+-- what is right
+pub mod Sequents
+pub mod Tree
+pub mod Paths
+pub mod Rules
+pub mod Loops
+pub mod Correct
+-- refusals 35 to 39: what each means, and the first one computed
+pub mod Given
+pub mod Faults
+pub mod Alike
+pub mod View
+pub mod ViewLaws
+pub mod Judge
+pub mod Steps
+pub mod TreeLaws
+pub mod ClimbLaws
+pub mod AxiomLaws
+pub mod RuleLaws
+pub mod LoopLaws
+pub mod JudgeExact
+pub mod FaultLaws
+-- soundness
+pub mod Falsity
+pub mod Refutes
+pub mod NodeStep
+pub mod Reached
+pub mod Sound
+pub mod Kripke

@@ -1,0 +1,65 @@
+-- the conclusions of soundness.md: in a correct proof no state refutes the claim, the root or any other node
+use mathlib.Core.Path.{_≡_, refl, subst, sym}
+use mathlib.Core.Logic.{_⊎_, inl, inr, ⊎-elim}
+use mathlib.Core.List.{List, [], _∷_, List·Memᴰ, List·Memᴰ·head, List·Memᴰ·tail, List·Memᴰ·cases-cons, List·Memᴰ·not-nil}
+use Prim.Native.Nat.{ℕ, zero, suc, _<_}
+use native.Mathlib.Omega.{arith}
+use lib.ListN.{length}
+use Rattle.verdict.specs.Sets.{Set, Same, _⊆_, elements, image, image-⊆, ⊆-trans}
+use Rattle.formula.specs.Table.{Table}
+use Rattle.formula.specs.Codes.{code, entryOf, code-entry}
+use Rattle.formula.specs.Nodes.{Proof, node}
+use Rattle.calculus.specs.Sequents.{sequent}
+use Rattle.calculus.specs.Paths.{ancestor-below}
+use Rattle.calculus.specs.Correct.{Correct}
+use Rattle.formula.specs.States.{Model}
+use Rattle.calculus.specs.Falsity.{Falsity}
+use Rattle.calculus.specs.Refutes.{Refutes, RefutesWithin, all-within}
+use Rattle.calculus.specs.Reached.{companion, companion-refuted, every-node}
+
+all-or-some : {P : Set} → ((c : ℕ) → Dec (P c)) → (l : List ℕ) → (elements l ⊆ P) ⊎ ((c : ℕ) × elements l c × (¬ P c))
+all-or-some d [] = inl (λ c n. absurd (List·Memᴰ·not-nil n))
+all-or-some {P} d (x ∷ l) = go (d x) (all-or-some d l)
+  where
+    go : Dec (P x) → (elements l ⊆ P) ⊎ ((c : ℕ) × elements l c × (¬ P c)) → (elements (x ∷ l) ⊆ P) ⊎ ((c : ℕ) × elements (x ∷ l) c × (¬ P c))
+    go (no q) r = inr (x, List·Memᴰ·head refl, q)
+    go (yes q) (inl f) = inl (λ c n. ⊎-elim (λ (e : c ≡ x). subst P (sym e) q) (λ (k : List·Memᴰ c l). f c k) (List·Memᴰ·cases-cons n))
+    go (yes q) (inr (c, n, k)) = inr (c, List·Memᴰ·tail n, k)
+
+module _ {t : Table} {m : Model} (M : Falsity t m) (p : Proof) (ok : Correct t p) where
+  -- a refuted node has a refuted companion with a smaller number
+  none-below : (n v : ℕ) → v < n → v < length p → (j s : ℕ) → RefutesWithin M j s (sequent p v) → ⊥
+  none-below zero v h real j s r = omega arith
+  none-below (suc n) v h real j s r =
+      let ρ = every-node M p ok v real j s r in
+      let up = ancestor-below (ok .tree) (ρ .above) in
+      none-below n (companion (ρ .to)) (omega arith) (omega arith) (ρ .to .rank) (ρ .to .state) (companion-refuted M p (ρ .to))
+
+  -- T-14
+  pub no-node-refuted : (v : ℕ) → v < length p → (s : ℕ) → Refutes M s (sequent p v) → ⊥
+  no-node-refuted v real s r =
+      let (j, f) = all-within M s (r .inside) (node p v .codes) (λ c n. ok .members v c real n) (r .all) in
+      none-below (suc v) v (omega arith) real j s (record { inside = r .inside; all = f })
+
+  pub root-not-refuted : 0 < length p → (s : ℕ) → Refutes M s (sequent p 0) → ⊥
+  root-not-refuted = no-node-refuted 0
+
+  -- the root's members are the claim's, all in focus
+  pub claim-not-refuted : 0 < length p
+      → (claim : List ℕ)
+      → Same (sequent p 0) (image (λ e. code e 1) (elements claim))
+      → (s : ℕ)
+      → s < m .size
+      → ((e : ℕ) → List·Memᴰ e claim → M .false-at e s)
+      → ⊥
+  claim-not-refuted real claim same s h f = root-not-refuted real s (record {
+    inside = h;
+    all = ⊆-trans (same .into) (image-⊆ (λ c. M .false-at (entryOf c) s) (λ e. code e 1) (λ e n. rw (code-entry e 1 (omega arith)) (f e n)));
+  })
+
+  -- where falsity is decided, some member of each node is true at every state
+  pub some-member-true : ((e s : ℕ) → Dec (M .false-at e s)) → (v : ℕ) → v < length p → (s : ℕ) → s < m .size → (c : ℕ) × sequent p v c × (¬ M .false-at (entryOf c) s)
+  some-member-true dec v real s h = ⊎-elim
+      (λ r. absurd (no-node-refuted v real s (record { inside = h; all = r })))
+      (λ x. x)
+      (all-or-some (λ c. dec (entryOf c) s) (node p v .codes))

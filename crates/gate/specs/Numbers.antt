@@ -1,9 +1,0 @@
--- the numbers that C calls answer
-use Prim.Native.Nat.{ℕ, _+_, _*_, _^_}
-use Rattle.verdict.specs.Verdict.{Verdict, accepted, refused, packed}
-use Rattle.gate.specs.GateState.{Permit, granted, denied}
-
--- taking answers the tag, or 2 ^ 32 + refusal × 65,536 + place
-abbrev pub packedPermit : Permit → ℕ
-packedPermit (granted tag) = tag
-packedPermit (denied n q) = 2 ^ 32 + packed (refused n q)

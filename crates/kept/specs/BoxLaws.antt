@@ -1,0 +1,82 @@
+-- the box step in plain numbers: all others are diamonds, and every member is stepped to its target
+use mathlib.Core.Path.{_≡_, refl, ap, _∙_, sym}
+use mathlib.Core.Logic.{_⊎_, inl, inr}
+use mathlib.Core.List.{List}
+use mathlib.Core.Bool.{Bool, true, false, _||_}
+use Prim.Native.Nat.{ℕ, _+_, _*_, _<_, _≤_}
+use native.Mathlib.Decide.{ℕ-discrete}
+use lib.Dec.{eqb}
+use lib.ListN.{length, getD}
+use Rattle.verdict.specs.Sets.{elements, _⊆_}
+use Rattle.verdict.specs.Tests.{all, remove}
+use Rattle.verdict.specs.Tells.{Tells, tells-as, eqb-tells, or-tells}
+use Rattle.verdict.specs.SetTells.{all-tells, lists-remove}
+use Rattle.formula.specs.Kind
+use Rattle.formula.specs.Table.{entry, kind}
+use Rattle.formula.specs.Plain.{tableOf, tableOf-kind}
+use Rattle.formula.specs.RowMarks.{same-test}
+use Rattle.formula.specs.ShapeLaws.{diamond-shape, box-shape}
+use Rattle.formula.specs.Codes.{entryOf}
+use Rattle.formula.specs.PlainNodes.{codesAt}
+use Rattle.calculus.specs.Judge.{sides}
+use Rattle.kept.specs.Part.{part, part-more, part-none}
+use Rattle.kept.specs.Placed.{local, Placed, Entries, Ready}
+use Rattle.kept.specs.KeptLaws.{Operand-in, Chosen, a-operand}
+
+-- a member of a box step: the principal, or a diamond
+abbrev pub boxed : List ℕ → ℕ → ℕ → Bool
+boxed ks p c = eqb c p || eqb (getD ks (entryOf c) 0) Kind.DIAMOND
+
+-- a test over a part, at its first element
+module _ (f : ℕ → Bool) (cs : List ℕ) (i j : ℕ) (h : i < j) (k : j ≤ length cs) where
+  pub all-on : f (getD cs i 0) ≡ true → all f (part cs i j) ≡ all f (part cs (i + 1) j)
+  unfolding all
+  all-on e = rw (part-more cs i j h k) (rw e refl)
+
+  pub all-stop : f (getD cs i 0) ≡ false → all f (part cs i j) ≡ false
+  unfolding all
+  all-stop e = rw (part-more cs i j h k) (rw e refl)
+
+pub all-end : (f : ℕ → Bool) (cs : List ℕ) (i j : ℕ) → j ≤ i → all f (part cs i j) ≡ true
+unfolding all
+all-end f cs i j h = rw (part-none cs i j h) refl
+
+-- the member c has an operand
+abbrev pub Modal : List ℕ → List ℕ → List ℕ → ℕ → ℕ → Type 0
+Modal ks xs ys n c = Operand-in ks xs xs n (entryOf c) (entry (tableOf ks xs ys n) (entryOf c) .a)
+
+boxed-tells : (ks : List ℕ) (p c : ℕ) → Tells (boxed ks p c) ((c ≡ p) ⊎ (getD ks (entryOf c) 0 ≡ Kind.DIAMOND))
+boxed-tells ks p c = or-tells (eqb-tells c p) (eqb-tells (getD ks (entryOf c) 0) Kind.DIAMOND)
+
+module _ (ks xs ys : List ℕ) (n : ℕ) (ls ss cs : List ℕ) (v : ℕ) (R : Ready ks xs ys n ls ss cs v) where
+  pub others-boxed : all (boxed ks (getD ls (4 * v) 0)) (codesAt ss cs v) ≡ all (λ c. eqb (kind (tableOf ks xs ys n) (entryOf c)) Kind.DIAMOND) (sides (local ls ss cs) v)
+  unfolding sides
+  others-boxed = same-test
+      (all-tells (boxed-tells ks (getD ls (4 * v) 0)) (codesAt ss cs v))
+      (tells-as into from (all-tells (λ c. eqb-tells (kind (tableOf ks xs ys n) (entryOf c)) Kind.DIAMOND) (sides (local ls ss cs) v)))
+    where
+      into : elements (remove (getD ls (4 * v) 0) (codesAt ss cs v)) ⊆ (λ c. kind (tableOf ks xs ys n) (entryOf c) ≡ Kind.DIAMOND)
+          → elements (codesAt ss cs v) ⊆ (λ c. (c ≡ getD ls (4 * v) 0) ⊎ (getD ks (entryOf c) 0 ≡ Kind.DIAMOND))
+      into f c m = go (ℕ-discrete c (getD ls (4 * v) 0))
+        where
+          go : Dec (c ≡ getD ls (4 * v) 0) → (c ≡ getD ls (4 * v) 0) ⊎ (getD ks (entryOf c) 0 ≡ Kind.DIAMOND)
+          go (yes e) = inl e
+          go (no d) = inr (sym (tableOf-kind ks xs ys n (entryOf c) (R .entries c m)) ∙ f c (lists-remove _ _ .from c (m, d)))
+
+      from : elements (codesAt ss cs v) ⊆ (λ c. (c ≡ getD ls (4 * v) 0) ⊎ (getD ks (entryOf c) 0 ≡ Kind.DIAMOND))
+          → elements (remove (getD ls (4 * v) 0) (codesAt ss cs v)) ⊆ (λ c. kind (tableOf ks xs ys n) (entryOf c) ≡ Kind.DIAMOND)
+      from f c m = let (o, d) = lists-remove _ _ .into c m in go o d (f c o)
+        where
+          go : elements (codesAt ss cs v) c → (c ≡ getD ls (4 * v) 0 → ⊥) → (c ≡ getD ls (4 * v) 0) ⊎ (getD ks (entryOf c) 0 ≡ Kind.DIAMOND) → kind (tableOf ks xs ys n) (entryOf c) ≡ Kind.DIAMOND
+          go o d (inl e) = absurd (d e)
+          go o d (inr e) = tableOf-kind ks xs ys n (entryOf c) (R .entries c o) ∙ e
+
+  pub modal : Chosen ks xs ys n ls ss cs v Kind.BOX → all (boxed ks (getD ls (4 * v) 0)) (codesAt ss cs v) ≡ true
+      → (c : ℕ) → elements (codesAt ss cs v) c → Modal ks xs ys n c
+  modal C h c m = go (all-tells (boxed-tells ks (getD ls (4 * v) 0)) (codesAt ss cs v) .says h c m)
+    where
+      go : (c ≡ getD ls (4 * v) 0) ⊎ (getD ks (entryOf c) 0 ≡ Kind.DIAMOND) → Modal ks xs ys n c
+      go (inl e) = a-operand ks xs ys n (R .small) (R .well) (entryOf c) (R .entries c m)
+          (box-shape (tableOf ks xs ys n) (entryOf c) (ap (λ (d : ℕ). kind (tableOf ks xs ys n) (entryOf d)) e ∙ C .kind-is)) refl
+      go (inr e) = a-operand ks xs ys n (R .small) (R .well) (entryOf c) (R .entries c m)
+          (diamond-shape (tableOf ks xs ys n) (entryOf c) (tableOf-kind ks xs ys n (entryOf c) (R .entries c m) ∙ e)) refl

@@ -1,0 +1,173 @@
+-- tables that have passed 20 to 35, in plain numbers: where each test's promise holds of the proof itself
+use mathlib.Core.Path.{_≡_, refl, ap, sym, _∙_}
+use mathlib.Core.Logic.{_≢_}
+use mathlib.Core.List.{List}
+use mathlib.Core.Bool.{Bool, false}
+use Prim.Native.Nat.{ℕ, _+_, _*_, _<_, _≤_}
+use native.Mathlib.Omega.{arith}
+use lib.ListN.{length, getD, List·getD-eq-default}
+use Rattle.verdict.specs.Sets.{elements}
+use Rattle.formula.specs.Rule
+use Rattle.formula.specs.Table.{Table}
+use Rattle.formula.specs.Plain.{tableOf, tableOf-length}
+use Rattle.formula.specs.WellFormed.{WellFormed}
+use Rattle.formula.specs.Codes.{entryOf}
+use Rattle.formula.specs.Nodes.{Node, Proof, node}
+use Rattle.formula.specs.PlainNodes.{codesAt, plainNode, proofOf, proofOf-length, proofOf-node}
+use Rattle.calculus.specs.Given.{Given}
+use Rattle.calculus.specs.Tree.{Tree, Child, first, second}
+use Rattle.calculus.specs.View.{plain}
+use Rattle.calculus.specs.Judge.{ax1-kept, ax2-kept, or-kept, and-kept, box-kept, mu-kept, nu-kept, weaken-kept, focus-kept, discharge-kept, of-kind, belongs, sides, clash, truth, keeps, tests}
+use Rattle.calculus.specs.Steps.{keeps-ax1, keeps-ax2, keeps-or, keeps-and, keeps-box, keeps-mu, keeps-nu, keeps-w, keeps-f, keeps-u, keeps-d}
+use Rattle.kept.specs.Placed.{local, Placed, Entries, Ready}
+
+pub record Judged (ks xs ys : List ℕ) (n : ℕ) (rs ls ss cs : List ℕ) (m : ℕ) : Type 0 where
+  -- 256 entries and 1,024 nodes
+  pub entries : n ≤ 256
+  pub nodes : m ≤ 1024
+  pub codes : 24576 ≤ length cs
+  pub rising : (v : ℕ) → v < m → (getD ss v 0 ≤ getD ss (v + 1) 0) × (getD ss (v + 1) 0 ≤ 24576)
+  pub well : WellFormed (tableOf ks xs ys n)
+  pub given : Given (tableOf ks xs ys n) (proofOf rs ls ss cs m)
+  pub tree : Tree (proofOf rs ls ss cs m)
+
+-- a number that is none of those below k, nor k
+pub past : {r : ℕ} (k : ℕ) → k ≤ r → (r ≡ k → ⊥) → k < r
+past k h d = omega arith
+
+module _ {ks xs ys : List ℕ} {n : ℕ} {rs ls ss cs : List ℕ} {m : ℕ} (J : Judged ks xs ys n rs ls ss cs m) (v : ℕ) (real : v < m) where
+  at-node : node (proofOf rs ls ss cs m) v ≡ plainNode rs ls ss cs v
+  at-node = proofOf-node rs ls ss cs m v real
+
+  rule-is : node (proofOf rs ls ss cs m) v .rule ≡ getD rs v 0
+  rule-is = ap (λ (x : Node). x .rule) at-node
+
+  inside : v < length (proofOf rs ls ss cs m)
+  inside = rw proofOf-length real
+
+  pub entries-in : Entries n ss cs v
+  entries-in c e = rw tableOf-length at (J .given .members v c inside (rw at-node e) .inside)
+
+  pub placed : Placed ss cs v
+  placed = record {
+    room = omega (arith, J .nodes);
+    span = record {
+      order = J .rising v real .0;
+      within = J .rising v real .1;
+      long = omega (arith, J .rising v real .1, J .codes);
+      small = λ c e. omega (arith, entries-in c e, J .entries);
+    };
+  }
+
+  first-inside : Rule.OR ≤ getD rs v 0 → getD rs v 0 ≤ Rule.D → getD ls (4 * v + 1) 0 < m
+  first-inside a b =
+      let c : Child (proofOf rs ls ss cs m) v (getD ls (4 * v + 1) 0) = first inside (rw rule-is a) (rw rule-is b) (ap (λ (x : Node). x .first) at-node) in
+      rw proofOf-length at (J .tree .inside c)
+
+  second-inside : getD rs v 0 ≡ Rule.AND → getD ls (4 * v + 2) 0 < m
+  second-inside a =
+      let c : Child (proofOf rs ls ss cs m) v (getD ls (4 * v + 2) 0) = second inside (rule-is ∙ a) (ap (λ (x : Node). x .second) at-node) in
+      rw proofOf-length at (J .tree .inside c)
+
+module _ {ks xs ys : List ℕ} {n : ℕ} {rs ls ss cs : List ℕ} {m : ℕ} (J : Judged ks xs ys n rs ls ss cs m) (v : ℕ) (real : v < m) where
+  pub first-placed : Rule.OR ≤ getD rs v 0 → getD rs v 0 ≤ Rule.D → Placed ss cs (getD ls (4 * v + 1) 0)
+  first-placed a b = placed J (getD ls (4 * v + 1) 0) (first-inside J v real a b)
+
+  pub second-placed : getD rs v 0 ≡ Rule.AND → Placed ss cs (getD ls (4 * v + 2) 0)
+  second-placed a = placed J (getD ls (4 * v + 2) 0) (second-inside J v real a)
+
+  pub ready : Rule.OR ≤ getD rs v 0 → getD rs v 0 ≤ Rule.D → Ready ks xs ys n ls ss cs v
+  ready a b = record { well = J .well; small = J .entries; here = placed J v real; entries = entries-in J v real; first = first-placed a b }
+
+  first-node : Rule.OR ≤ getD rs v 0 → getD rs v 0 ≤ Rule.D → node (proofOf rs ls ss cs m) (getD ls (4 * v + 1) 0) ≡ plainNode rs ls ss cs (getD ls (4 * v + 1) 0)
+  first-node a b = at-node J (getD ls (4 * v + 1) 0) (first-inside J v real a b)
+
+  second-node : getD rs v 0 ≡ Rule.AND → node (proofOf rs ls ss cs m) (getD ls (4 * v + 2) 0) ≡ plainNode rs ls ss cs (getD ls (4 * v + 2) 0)
+  second-node a = at-node J (getD ls (4 * v + 2) 0) (second-inside J v real a)
+
+  principal-is : node (proofOf rs ls ss cs m) v .principal ≡ getD ls (4 * v) 0
+  principal-is = ap (λ (x : Node). x .principal) (at-node J v real)
+
+  pub codes-is : node (proofOf rs ls ss cs m) v .codes ≡ codesAt ss cs v
+  codes-is = ap (λ (x : Node). x .codes) (at-node J v real)
+
+  first-codes : Rule.OR ≤ getD rs v 0 → getD rs v 0 ≤ Rule.D → node (proofOf rs ls ss cs m) (node (proofOf rs ls ss cs m) v .first) .codes ≡ codesAt ss cs (getD ls (4 * v + 1) 0)
+  first-codes a b =
+      ap (λ (x : Node). node (proofOf rs ls ss cs m) (x .first) .codes) (at-node J v real)
+      ∙ ap (λ (x : Node). x .codes) (first-node a b)
+
+  second-codes : getD rs v 0 ≡ Rule.AND → node (proofOf rs ls ss cs m) (node (proofOf rs ls ss cs m) v .second) .codes ≡ codesAt ss cs (getD ls (4 * v + 2) 0)
+  second-codes a =
+      ap (λ (x : Node). node (proofOf rs ls ss cs m) (x .second) .codes) (at-node J v real)
+      ∙ ap (λ (x : Node). x .codes) (second-node a)
+
+  -- the test that a node's rule names, of the node as it stands in the lists
+  module _ (t : Table) where
+    pub keeps-ax1-here : getD rs v 0 ≡ Rule.AX1 → ax1-kept t (local ls ss cs) v ≡ keeps t (plain (proofOf rs ls ss cs m)) v
+    unfolding ax1-kept
+    keeps-ax1-here e = sym (keeps-ax1 t (plain (proofOf rs ls ss cs m)) v (rule-is J v real ∙ e) ∙ ap (clash t) codes-is)
+
+    pub keeps-ax2-here : getD rs v 0 ≡ Rule.AX2 → ax2-kept t (local ls ss cs) v ≡ keeps t (plain (proofOf rs ls ss cs m)) v
+    unfolding ax2-kept
+    keeps-ax2-here e = sym (keeps-ax2 t (plain (proofOf rs ls ss cs m)) v (rule-is J v real ∙ e) ∙ ap (truth t) codes-is)
+
+    pub keeps-or-here : getD rs v 0 ≡ Rule.OR → or-kept t (local ls ss cs) v ≡ keeps t (plain (proofOf rs ls ss cs m)) v
+    unfolding or-kept of-kind belongs sides
+    keeps-or-here e =
+        let f = first-codes (omega arith) (omega arith) in
+        sym (keeps-or t (plain (proofOf rs ls ss cs m)) v (rule-is J v real ∙ e) ∙ cc (principal-is, codes-is, f))
+
+    pub keeps-and-here : getD rs v 0 ≡ Rule.AND → and-kept t (local ls ss cs) v ≡ keeps t (plain (proofOf rs ls ss cs m)) v
+    unfolding and-kept of-kind belongs sides
+    keeps-and-here e =
+        let f = first-codes (omega arith) (omega arith) in
+        sym (keeps-and t (plain (proofOf rs ls ss cs m)) v (rule-is J v real ∙ e) ∙ cc (principal-is, codes-is, f, second-codes e))
+
+    pub keeps-box-here : getD rs v 0 ≡ Rule.BOX → box-kept t (local ls ss cs) v ≡ keeps t (plain (proofOf rs ls ss cs m)) v
+    unfolding box-kept of-kind belongs sides
+    keeps-box-here e =
+        let f = first-codes (omega arith) (omega arith) in
+        sym (keeps-box t (plain (proofOf rs ls ss cs m)) v (rule-is J v real ∙ e) ∙ cc (principal-is, codes-is, f))
+
+    pub keeps-mu-here : getD rs v 0 ≡ Rule.MU → mu-kept t (local ls ss cs) v ≡ keeps t (plain (proofOf rs ls ss cs m)) v
+    unfolding mu-kept of-kind belongs sides
+    keeps-mu-here e =
+        let f = first-codes (omega arith) (omega arith) in
+        sym (keeps-mu t (plain (proofOf rs ls ss cs m)) v (rule-is J v real ∙ e) ∙ cc (principal-is, codes-is, f))
+
+    pub keeps-nu-here : getD rs v 0 ≡ Rule.NU → nu-kept t (local ls ss cs) v ≡ keeps t (plain (proofOf rs ls ss cs m)) v
+    unfolding nu-kept of-kind belongs sides
+    keeps-nu-here e =
+        let f = first-codes (omega arith) (omega arith) in
+        sym (keeps-nu t (plain (proofOf rs ls ss cs m)) v (rule-is J v real ∙ e) ∙ cc (principal-is, codes-is, f))
+
+    pub keeps-w-here : getD rs v 0 ≡ Rule.W → weaken-kept t (local ls ss cs) v ≡ keeps t (plain (proofOf rs ls ss cs m)) v
+    unfolding weaken-kept belongs sides
+    keeps-w-here e =
+        let f = first-codes (omega arith) (omega arith) in
+        sym (keeps-w t (plain (proofOf rs ls ss cs m)) v (rule-is J v real ∙ e) ∙ cc (principal-is, codes-is, f))
+
+    pub keeps-f-here : getD rs v 0 ≡ Rule.F → focus-kept t (local ls ss cs) 0 1 v ≡ keeps t (plain (proofOf rs ls ss cs m)) v
+    unfolding focus-kept belongs sides
+    keeps-f-here e =
+        let f = first-codes (omega arith) (omega arith) in
+        sym (keeps-f t (plain (proofOf rs ls ss cs m)) v (rule-is J v real ∙ e) ∙ cc (principal-is, codes-is, f))
+
+    pub keeps-u-here : getD rs v 0 ≡ Rule.U → focus-kept t (local ls ss cs) 1 0 v ≡ keeps t (plain (proofOf rs ls ss cs m)) v
+    unfolding focus-kept belongs sides
+    keeps-u-here e =
+        let f = first-codes (omega arith) (omega arith) in
+        sym (keeps-u t (plain (proofOf rs ls ss cs m)) v (rule-is J v real ∙ e) ∙ cc (principal-is, codes-is, f))
+
+    pub keeps-d-here : getD rs v 0 ≡ Rule.D → discharge-kept t (local ls ss cs) v ≡ keeps t (plain (proofOf rs ls ss cs m)) v
+    unfolding discharge-kept
+    keeps-d-here e =
+        let f = first-codes (omega arith) (omega arith) in
+        sym (keeps-d t (plain (proofOf rs ls ss cs m)) v (rule-is J v real ∙ e) ∙ cc (codes-is, f))
+
+    pub keeps-none : Rule.BACK < getD rs v 0 → false ≡ keeps t (plain (proofOf rs ls ss cs m)) v
+    unfolding keeps
+    keeps-none h = sym (ap (λ (f : ℕ → Bool). f v) (List·getD-eq-default (tests t (plain (proofOf rs ls ss cs m))) (λ _. false) (beyond (rule-is J v real))))
+      where
+        beyond : {r : ℕ} → r ≡ getD rs v 0 → length (tests t (plain (proofOf rs ls ss cs m))) ≤ r
+        beyond e = omega arith

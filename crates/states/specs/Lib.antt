@@ -1,0 +1,9 @@
+-- the word of a set of states, and the word of each entry in a model
+pub mod Words
+pub mod WordLaws
+-- bits of words, and how loops fill words and arrays
+pub mod BitLaws
+pub mod Fill
+pub mod StateWords
+-- a model in plain numbers
+pub mod PlainModel
