@@ -20,10 +20,9 @@ use Rattle.formula.specs.TableLaws.{operand-below}
 use Rattle.formula.specs.States.{Model, Same}
 use Rattle.formula.specs.StateLaws.{same-sym, same-trans}
 use Rattle.formula.specs.Meaning.{own}
-use Rattle.model.specs.Bits.{bit}
+use Rattle.formula.specs.Bits.{bit, no-bit}
 use Rattle.states.specs.Words.{word, words}
 use Rattle.states.specs.WordLaws.{word-inside, word-past, words-length, words-at}
-use Rattle.states.specs.BitLaws.{no-bit}
 use Rattle.states.specs.StateWords.{Inside, setsOf, by-bits}
 use Rattle.states.specs.PlainModel.{plainModel, wordsIn, rowModel}
 use Rattle.evaluator.specs.Settled.{formed}

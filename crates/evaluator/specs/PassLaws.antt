@@ -17,10 +17,9 @@ use Rattle.formula.specs.WellFormed.{WellFormed}
 use Rattle.formula.specs.TableLaws.{past-end, fix-in}
 use Rattle.formula.specs.States.{Model, Set, Same, leafSet}
 use Rattle.formula.specs.StateLaws.{same-sym, same-trans, path-same}
-use Rattle.model.specs.Bits.{bit}
+use Rattle.formula.specs.Bits.{bit, no-bit}
 use Rattle.states.specs.Words.{word}
 use Rattle.states.specs.WordLaws.{word-inside, word-past}
-use Rattle.states.specs.BitLaws.{no-bit}
 use Rattle.states.specs.StateWords.{Inside, setsOf, by-bits, word-same}
 use Rattle.states.specs.PlainModel.{rowModel}
 use Rattle.evaluator.specs.Settled.{formed}

@@ -11,9 +11,9 @@ use lib.ListN.{length, getD}
 use Rattle.formula.specs.Shape.{Shape, leaf, two, step, fix, name, Leaf, never, always, letter, negated, Two, or, and, Step, diamond, box, Fix, nu, shape}
 use Rattle.formula.specs.Truth.{some, every}
 use Rattle.formula.specs.States.{Model, Set, leafSet, twoSet, stepSet, start}
-use Rattle.model.specs.Bits.{digit, bit}
+use Rattle.formula.specs.Bits.{digit, bit, or-bit, and-bit, no-bit}
 use Rattle.states.specs.Words.{word}
-use Rattle.states.specs.BitLaws.{or-bit, and-bit, zero-digit, no-bit}
+use Rattle.states.specs.BitLaws.{zero-digit}
 use Rattle.states.specs.StateWords.{Inside, setsOf, by-bits, word-same}
 use Rattle.states.specs.PlainModel.{rowModel}
 use Rattle.evaluator.specs.Settled.{formed}

@@ -16,10 +16,9 @@ use Rattle.formula.specs.TableLaws.{fix-in}
 use Rattle.formula.specs.States.{Model, Set, Same, start}
 use Rattle.formula.specs.Bounds.{sum, sum-mono}
 use Rattle.formula.specs.Meaning.{own}
-use Rattle.model.specs.Bits.{bit}
+use Rattle.formula.specs.Bits.{bit, no-bit}
 use Rattle.states.specs.Words.{word}
 use Rattle.states.specs.WordLaws.{word-inside, word-past}
-use Rattle.states.specs.BitLaws.{no-bit}
 use Rattle.states.specs.StateWords.{setsOf}
 use Rattle.states.specs.PlainModel.{rowModel}
 use Rattle.evaluator.specs.Block.{changesOf, room}

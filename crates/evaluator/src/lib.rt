@@ -7,7 +7,7 @@ ghost use lib.ListN.{length, getD, set, replicate};
 ghost use Rattle.formula.specs.Shape.{nu};
 ghost use Rattle.formula.specs.States.{start};
 ghost use Rattle.evaluator.specs.Top.{alone};
-ghost use Rattle.model.specs.Bits.{one, digit, bit};
+ghost use Rattle.formula.specs.Bits.{one, digit, bit};
 ghost use Rattle.states.specs.Words.{word};
 ghost use Rattle.states.specs.PlainModel.{RowWords, wordsIn};
 ghost use Rattle.states.specs.Fill.{Filled};

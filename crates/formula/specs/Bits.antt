@@ -10,6 +10,11 @@ use lib.Pow.{pow-pos, pow-add, pow-lt, shl-shr, shl-exact, shr-shr}
 use lib.Bits.{bitAnd, bitOr, bitXor, differ, or-shr, and-shr, xor-shr, or-step, and-step, xor-step}
 use borrow.Author.Tests.{eq-eqb, ne-eqb}
 
+-- the number of a truth value
+abbrev pub one : Bool → ℕ
+one true = 1
+one false = 0
+
 -- bit k of w as a number, 0 or 1
 abbrev pub digit : ℕ → ℕ → ℕ
 digit w k = w / 2 ^ k % 2
@@ -66,7 +71,6 @@ unfolding bit
 no-bit k = ap (λ (n : ℕ). eqb n 1) (ap (λ (n : ℕ). n % 2) (div-eq-of-lt (pow-pos k)))
 
 -- the one bit of 2 ^ s
-
 one-same : (s : ℕ) → digit (1 * 2 ^ s) s ≡ 1
 one-same s = ap (λ (n : ℕ). n % 2) (shl-shr 1 s)
 
@@ -86,7 +90,7 @@ one-other s k ne = go (decLt k s)
     go (yes h) = subst (λ (n : ℕ). digit (1 * 2 ^ n) k ≡ 0) (omega arith) (one-below (s - k - 1) k)
     go (no h) = one-above s k (omega arith)
 
-one-bit : (s k : ℕ) → bit (1 * 2 ^ s) k ≡ eqb k s
+pub one-bit : (s k : ℕ) → bit (1 * 2 ^ s) k ≡ eqb k s
 unfolding bit
 one-bit s k = go (ℕ-discrete k s)
   where

@@ -5,7 +5,7 @@ use lib.ListN.{length, getD}
 use Rattle.verdict.specs.Lists.{valuesFrom}
 use Rattle.verdict.specs.Tests.{member}
 use Rattle.formula.specs.States.{Model}
-use Rattle.model.specs.Bits.{one, bit}
+use Rattle.formula.specs.Bits.{one, bit}
 use Rattle.model.specs.ModelFile.{State}
 
 -- a state with no letter and no successor, past the last

@@ -15,7 +15,7 @@ use Rattle.verdict.specs.Sets.{elements}
 use Rattle.verdict.specs.Tests.{any, member}
 use Rattle.verdict.specs.SetTells.{member-tells}
 use Rattle.encoding.specs.Encode.{Counts}
-use Rattle.model.specs.Bits.{one, bit}
+use Rattle.formula.specs.Bits.{one, bit}
 use Rattle.model.specs.ModelFile.{State, FitState, FitModel}
 use Rattle.model.specs.Described.{blank, state, modelOf, mark, row, successorTable}
 

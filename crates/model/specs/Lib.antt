@@ -11,7 +11,6 @@ pub mod StateFaults
 pub mod ModelFaults
 pub mod ModelSamples
 -- the model that a file describes
-pub mod Bits
 pub mod Described
 pub mod DescribedLaws
 -- the program's steps over a file

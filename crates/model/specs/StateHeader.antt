@@ -8,7 +8,7 @@ use lib.Dec.{eqb}
 use lib.ListN.{length}
 use Rattle.verdict.specs.Tells.{Tells, fails, not-tells, eqb-tells}
 use Rattle.encoding.specs.Encode.{encodeByte, encodeFour, encodePart, encodeAll}
-use Rattle.model.specs.Bits.{bit}
+use Rattle.formula.specs.Bits.{bit}
 use Rattle.model.specs.ModelFile.{State, hasMask, hasList, mapByte, encodeSuccessors, encodeState}
 use Rattle.model.specs.ReadModel.{masked}
 use Rattle.model.specs.Header.{lettersStand, listStands, Head, FitPart, Filled, encodeHeader, FitHeader}

@@ -25,12 +25,6 @@ pub struct Node {
     pub count: u8,
 }
 
-pub fn entries_len(entries: &[Entry]) -> usize
-    ensures { λ r. ⌜ r ≡ length (now (entries .entry)) ⌝ }
-{
-    entries.len()
-}
-
 pub fn entry_at(entries: &[Entry], i: usize) -> Entry
     requires { ⌜ i < length (now entries) ⌝ }
     ensures { λ r. ⌜ r ≡ getD (now (entries .entry)) i blankEntry ⌝ }
@@ -43,12 +37,6 @@ pub fn put_entry(entries: &mut [Entry], i: usize, entry: Entry)
     ensures { λ _. ⌜ now (entries .exit) ≡ set (now (entries .entry)) i entry ⌝ }
 {
     entries[i] = entry;
-}
-
-pub fn nodes_len(nodes: &[Node]) -> usize
-    ensures { λ r. ⌜ r ≡ length (now (nodes .entry)) ⌝ }
-{
-    nodes.len()
 }
 
 pub fn node_at(nodes: &[Node], i: usize) -> Node

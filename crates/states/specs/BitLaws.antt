@@ -1,83 +1,16 @@
 -- bits of the words that the code makes
-use mathlib.Core.Path.{_≡_, refl, ap, _∙_, sym, subst}
+use mathlib.Core.Path.{_≡_, refl, ap, _∙_, sym}
 use mathlib.Core.Bool.{Bool, true, false, not, _||_, _&&_}
-use Prim.Native.Nat.{ℕ, zero, suc, _+_, _*_, _-_, _/_, _%_, _^_, _<_, _≤_, min, max}
+use Prim.Native.Nat.{ℕ, zero, suc, _+_, _*_, _-_, _/_, _%_, _^_, _<_, _≤_}
 use native.Mathlib.Omega.{arith}
-use native.Mathlib.Nat.{div-eq-of-lt}
-use native.Mathlib.Decide.{decLt, ℕ-discrete}
 use lib.Dec.{eqb, lit<}
-use lib.Pow.{pow-pos, pow-add, pow-lt, shl-shr, shl-exact, shr-shr}
-use lib.Bits.{bitAnd, bitOr, or-shr, and-shr, or-step, and-step, and-mask, or-zero-r}
-use borrow.Author.Tests.{eq-eqb, ne-eqb}
-use Rattle.model.specs.Bits.{one, digit, bit}
-
-or-digit : (x y k : ℕ) → digit (bitOr x y) k ≡ max (digit x k) (digit y k)
-or-digit x y k = rw or-shr (omega (arith, or-step (x / 2 ^ k) (y / 2 ^ k)))
-
-and-digit : (x y k : ℕ) → digit (bitAnd x y) k ≡ min (digit x k) (digit y k)
-and-digit x y k = rw and-shr (omega (arith, and-step (x / 2 ^ k) (y / 2 ^ k)))
-
-or-test : (a b : ℕ) → a < 2 → b < 2 → eqb (max a b) 1 ≡ (eqb a 1 || eqb b 1)
-or-test zero zero p q = refl
-or-test zero (suc zero) p q = refl
-or-test (suc zero) zero p q = refl
-or-test (suc zero) (suc zero) p q = refl
-or-test zero (suc (suc b)) p q = absurd (omega arith)
-or-test (suc zero) (suc (suc b)) p q = absurd (omega arith)
-or-test (suc (suc a)) b p q = absurd (omega arith)
-
-and-test : (a b : ℕ) → a < 2 → b < 2 → eqb (min a b) 1 ≡ (eqb a 1 && eqb b 1)
-and-test zero zero p q = refl
-and-test zero (suc zero) p q = refl
-and-test (suc zero) zero p q = refl
-and-test (suc zero) (suc zero) p q = refl
-and-test zero (suc (suc b)) p q = absurd (omega arith)
-and-test (suc zero) (suc (suc b)) p q = absurd (omega arith)
-and-test (suc (suc a)) b p q = absurd (omega arith)
-
-pub or-bit : (x y k : ℕ) → bit (bitOr x y) k ≡ (bit x k || bit y k)
-unfolding bit
-or-bit x y k = ap (λ (n : ℕ). eqb n 1) (or-digit x y k) ∙ or-test (digit x k) (digit y k) (omega arith) (omega arith)
-
-pub and-bit : (x y k : ℕ) → bit (bitAnd x y) k ≡ (bit x k && bit y k)
-unfolding bit
-and-bit x y k = ap (λ (n : ℕ). eqb n 1) (and-digit x y k) ∙ and-test (digit x k) (digit y k) (omega arith) (omega arith)
+use lib.Pow.{shl-exact, shr-shr}
+use lib.Bits.{bitAnd, bitOr, and-mask, or-zero-r}
+use Rattle.formula.specs.Bits.{one, digit, bit, or-bit, one-bit}
 
 -- the digit that the code reads: (w >> s) & 1
 pub read-digit : (w s : ℕ) → bitAnd (w / 2 ^ s) 1 ≡ digit w s
 read-digit w s = and-mask (w / 2 ^ s) 1
-
--- the one bit of 2 ^ s
-one-same : (s : ℕ) → digit (1 * 2 ^ s) s ≡ 1
-one-same s = ap (λ (n : ℕ). n % 2) (shl-shr 1 s)
-
-one-below : (d k : ℕ) → digit (1 * 2 ^ (d + 1 + k)) k ≡ 0
-one-below d k =
-    ap (λ (n : ℕ). n % 2)
-    (ap (λ (n : ℕ). n / 2 ^ k) (omega (arith, pow-add 2 (d + 1) k)) ∙ shl-shr (2 ^ (d + 1)) k)
-    ∙ omega (arith, pow-add 2 d 1)
-
-one-above : (s k : ℕ) → s < k → digit (1 * 2 ^ s) k ≡ 0
-one-above s k h = ap (λ (n : ℕ). n % 2) (div-eq-of-lt (omega (arith, pow-lt h)))
-
-one-other : (s k : ℕ) → (k ≡ s → ⊥) → digit (1 * 2 ^ s) k ≡ 0
-one-other s k ne = go (decLt k s)
-  where
-    go : Dec (k < s) → digit (1 * 2 ^ s) k ≡ 0
-    go (yes h) = subst (λ (n : ℕ). digit (1 * 2 ^ n) k ≡ 0) (omega arith) (one-below (s - k - 1) k)
-    go (no h) = one-above s k (omega arith)
-
-one-bit : (s k : ℕ) → bit (1 * 2 ^ s) k ≡ eqb k s
-unfolding bit
-one-bit s k = go (ℕ-discrete k s)
-  where
-    go : Dec (k ≡ s) → eqb (digit (1 * 2 ^ s) k) 1 ≡ eqb k s
-    go (yes e) = subst (λ (n : ℕ). eqb (digit (1 * 2 ^ s) n) 1 ≡ eqb n s) (sym e) (ap (λ (n : ℕ). eqb n 1) (one-same s) ∙ sym (eq-eqb s s refl))
-    go (no ne) = ap (λ (n : ℕ). eqb n 1) (one-other s k ne) ∙ sym (ne-eqb k s ne)
-
-pub no-bit : (k : ℕ) → bit 0 k ≡ false
-unfolding bit
-no-bit k = ap (λ (n : ℕ). eqb n 1) (ap (λ (n : ℕ). n % 2) (div-eq-of-lt (pow-pos k)))
 
 and-true : (b : Bool) → (b && true) ≡ b
 and-true true = refl

@@ -10,14 +10,13 @@ use lib.ListN.{length, getD, replicate}
 use borrow.Author.Tests.{lt-ltb, le-ltb}
 use Rattle.formula.specs.Table.{Table}
 use Rattle.formula.specs.States.{Model}
-use Rattle.model.specs.Bits.{one, bit}
+use Rattle.formula.specs.Bits.{one, bit, no-bit}
 use Rattle.model.specs.ModelFile.{State, FitModel}
 use Rattle.model.specs.Described.{state, modelOf, successorTable}
 use Rattle.model.specs.DescribedLaws.{cell, cell-is, successor-from, successor-inside, size-counts}
 use Rattle.states.specs.Words.{word, words}
 use Rattle.states.specs.WordLaws.{word-past}
 use Rattle.states.specs.StateWords.{Inside, word-is}
-use Rattle.states.specs.BitLaws.{no-bit}
 use Rattle.states.specs.Fill.{Filled, zeros-at}
 
 -- u is marked in row s; only rows and marks of states count

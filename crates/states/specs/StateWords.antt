@@ -11,10 +11,10 @@ use lib.ListN.{getD}
 use borrow.Author.Tests.{eq-eqb, ne-eqb, eqb-true, eqb-false, lt-ltb, le-ltb}
 use Rattle.formula.specs.Truth.{some, every, some-false, none-some, every-true, all-every, fails-every}
 use Rattle.formula.specs.States.{Set, Same}
-use Rattle.model.specs.Bits.{bit}
+use Rattle.formula.specs.Bits.{bit, no-bit, and-bit}
 use Rattle.states.specs.Words.{word}
 use Rattle.states.specs.WordLaws.{word-inside, word-past}
-use Rattle.states.specs.BitLaws.{no-bit, and-bit, bits-same}
+use Rattle.states.specs.BitLaws.{bits-same}
 
 -- bit k of w for state k below n, and all further bits zero
 abbrev pub IsWord : ℕ → Set → ℕ → Type 0

@@ -11,7 +11,7 @@ use Rattle.verdict.specs.Lists.{valuesFrom-length, valuesFrom-at}
 use Rattle.formula.specs.Table.{Table}
 use Rattle.formula.specs.States.{Model, Set}
 use Rattle.formula.specs.Meaning.{own}
-use Rattle.model.specs.Bits.{one, digit, bit}
+use Rattle.formula.specs.Bits.{one, digit, bit}
 use Rattle.states.specs.Words.{word, words}
 
 digit-first : (a w : ℕ) → a < 2 → digit (a + 2 * w) 0 ≡ a

@@ -10,7 +10,7 @@ use Rattle.formula.specs.Chain.{iter}
 use Rattle.formula.specs.Below.{recur}
 use Rattle.formula.specs.States.{Model, Set, leafSet, twoSet, stepSet, start}
 use Rattle.formula.specs.Meaning.{put, meaning, owns, own}
-use Rattle.model.specs.Bits.{one}
+use Rattle.formula.specs.Bits.{one}
 
 -- a set of the states below n as a number
 unfoldable pub word : ℕ → Set → ℕ

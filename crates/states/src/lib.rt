@@ -7,7 +7,7 @@ ghost use lib.ListN.{getD};
 ghost use Rattle.formula.specs.Truth.{some, every};
 ghost use Rattle.formula.specs.Shape.{nu};
 ghost use Rattle.formula.specs.States.{start};
-ghost use Rattle.model.specs.Bits.{one, digit, bit};
+ghost use Rattle.formula.specs.Bits.{one, digit, bit};
 ghost use Rattle.model.specs.DescribedLaws.{cell};
 ghost use Rattle.states.specs.Words.{word};
 ghost use Rattle.states.specs.StateWords.{Inside};

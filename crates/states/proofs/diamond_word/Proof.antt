@@ -7,7 +7,7 @@ use lib.ListN.{getD}
 use Rattle.states.specs.StateWords.{IsWord, is-word, word-none, word-next, diamond-test}
 use mathlib.Core.Bool.{_&&_}
 use Rattle.formula.specs.Truth.{some}
-use Rattle.model.specs.Bits.{bit}
+use Rattle.formula.specs.Bits.{bit}
 use Rattle.states.proofs.diamond_word.Statement.{statement}
 use Rattle.states.proofs.diamond_word.Tie as tie
 
