@@ -16,7 +16,7 @@ pub const CLAIM_OPENING: [u8; 4] = *b"CLM1";
 pub const PROOF_OPENING: [u8; 4] = *b"PRF1";
 
 // Whether the bytes open as a claim file does.
-pub fn opens_claim(bytes: &[u8]) -> bool
+fn opens_claim(bytes: &[u8]) -> bool
     ensures { λ r. ⌜ r ≡ opens claimOpening (now (bytes .entry)) ⌝ }
 {
     opens(
@@ -29,7 +29,7 @@ pub fn opens_claim(bytes: &[u8]) -> bool
 }
 
 // Whether the bytes open as a proof file does.
-pub fn opens_proof(bytes: &[u8]) -> bool
+fn opens_proof(bytes: &[u8]) -> bool
     ensures { λ r. ⌜ r ≡ opens proofOpening (now (bytes .entry)) ⌝ }
 {
     opens(
