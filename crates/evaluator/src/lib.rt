@@ -1,21 +1,19 @@
-// The evaluator: the word of every entry of a claim in a model. What it writes is defined in specs/Words, why its strategy is right in specs/StrategyLaws and specs/LoopLaws.
+// The evaluator: the word of every entry of a claim in a model. What it writes is defined in the crate states (specs/Words), why its strategy is right in specs/StrategyLaws and specs/LoopLaws.
 ghost use mathlib.Core.Path.{_≡_};
-ghost use mathlib.Core.Bool.{true, _||_, _&&_, not};
-ghost use Prim.Native.Nat.{ℕ, max, _+_, _*_, _<_, _≤_};
-ghost use lib.Dec.{eqb};
+ghost use mathlib.Core.Bool.{true, not};
+ghost use Prim.Native.Nat.{max, _+_, _<_, _≤_};
 ghost use lib.ListN.{length, getD, set, replicate};
 ghost use Rattle.formula.specs.Shape.{nu};
 ghost use Rattle.formula.specs.States.{start};
-ghost use Rattle.evaluator.specs.Top.{alone};
-ghost use Rattle.formula.specs.Bits.{one, digit, bit};
+ghost use Rattle.formula.specs.Bits.{one, bit};
 ghost use Rattle.states.specs.Words.{word};
-ghost use Rattle.states.specs.PlainModel.{RowWords, wordsIn};
+ghost use Rattle.states.specs.PlainModel.{wordsIn};
 ghost use Rattle.states.specs.Fill.{Filled};
 ghost use Rattle.evaluator.specs.Ready.{Ready, leafWord, formedWord};
 ghost use Rattle.evaluator.specs.Pass.{startWord, begunWord, Visited, Passed};
 ghost use Rattle.evaluator.specs.Solve.{Solved};
 ghost use Rattle.evaluator.specs.Tops.{topFrom, Tops};
-ghost use Rattle.evaluator.specs.Marks.{doneOf, Opened, Spread, Reached};
+ghost use Rattle.evaluator.specs.Marks.{Opened, Spread, Reached};
 ghost use Rattle.evaluator.specs.Claim.{tableFrom, Claim, Given};
 ghost use Rattle.verdict.specs.Lists.{written};
 ghost use Rattle.formula.specs.Plain.{tableOf};

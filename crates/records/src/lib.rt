@@ -25,28 +25,28 @@ pub struct Node {
     pub count: u8,
 }
 
-pub fn entry_at(entries: &[Entry], i: usize) -> Entry
+fn entry_at(entries: &[Entry], i: usize) -> Entry
     requires { ⌜ i < length (now entries) ⌝ }
     ensures { λ r. ⌜ r ≡ getD (now (entries .entry)) i blankEntry ⌝ }
 {
     entries[i]
 }
 
-pub fn put_entry(entries: &mut [Entry], i: usize, entry: Entry)
+fn put_entry(entries: &mut [Entry], i: usize, entry: Entry)
     requires { ⌜ i < length (now entries) ⌝ }
     ensures { λ _. ⌜ now (entries .exit) ≡ set (now (entries .entry)) i entry ⌝ }
 {
     entries[i] = entry;
 }
 
-pub fn node_at(nodes: &[Node], i: usize) -> Node
+fn node_at(nodes: &[Node], i: usize) -> Node
     requires { ⌜ i < length (now nodes) ⌝ }
     ensures { λ r. ⌜ r ≡ getD (now (nodes .entry)) i blankNode ⌝ }
 {
     nodes[i]
 }
 
-pub fn put_node(nodes: &mut [Node], i: usize, node: Node)
+fn put_node(nodes: &mut [Node], i: usize, node: Node)
     requires { ⌜ i < length (now nodes) ⌝ }
     ensures { λ _. ⌜ now (nodes .exit) ≡ set (now (nodes .entry)) i node ⌝ }
 {
