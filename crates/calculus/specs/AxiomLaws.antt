@@ -6,7 +6,7 @@ use mathlib.Core.Bool.{false≢true}
 use Prim.Native.Nat.{ℕ, _<_}
 use native.Mathlib.Omega.{arith}
 use Rattle.formula.specs.Kind
-use Rattle.verdict.specs.Sets.{Set, Same, _plus_, none, elements}
+use Rattle.verdict.specs.Sets.{Set, Same, none, elements, _plus_}
 use Rattle.formula.specs.Table.{Table, entry, kind}
 use Rattle.formula.specs.Codes.{entryOf}
 use Rattle.calculus.specs.Judge.{opposite, clash, truth}

@@ -1,9 +1,9 @@
 -- what soundness asks of a model: where entries by themselves are false, and how many modal steps refute them there
 use mathlib.Core.Path.{_≡_}
 use mathlib.Core.Logic.{_⊎_}
-use mathlib.Core.Bool.{Bool, true, false}
+use mathlib.Core.Bool.{true, false}
 use Prim.Native.Nat.{ℕ, suc, _<_}
-use Rattle.formula.specs.States.{Model, Successor}
+use Rattle.meaning.specs.States.{Model, Successor}
 use Rattle.formula.specs.Kind
 use Rattle.formula.specs.Table.{Table, entry, kind}
 use Rattle.formula.specs.Codes.{Formula}
@@ -22,15 +22,15 @@ pub record Passes (t : Table) (m : Model) (Here Next : Family) : Type 0 where
   pub diamond : (e s : ℕ) → s < m .size → kind t e ≡ Kind.DIAMOND → Here e s → (u : ℕ) → Successor m s u → Next (targetA t e) u
 
 -- refuted with one step less
-abbrev pub Before : (ℕ → Family) → ℕ → Family
-Before Refuted j e s = (i : ℕ) × (j ≡ suc i) × Refuted i e s
+abbrev pub OneLess : (ℕ → Family) → ℕ → Family
+OneLess Refuted j e s = (i : ℕ) × (j ≡ suc i) × Refuted i e s
 
 -- laws of false-at (an entry by itself is false at a state) and of Refuted (so many modal steps refute it there)
 pub record Falsity (t : Table) (m : Model) : Type 1 where
   pub false-at : Family
   pub Refuted : ℕ → Family
   pub false-passes : Passes t m false-at false-at
-  pub refuted-passes : (j : ℕ) → Passes t m (Refuted j) (Before Refuted j)
+  pub refuted-passes : (j : ℕ) → Passes t m (Refuted j) (OneLess Refuted j)
   pub true-false : (e s : ℕ) → s < m .size → kind t e ≡ Kind.TRUE → false-at e s → ⊥
   pub letter-false : (e s : ℕ) → s < m .size → kind t e ≡ Kind.LETTER → false-at e s → m .letter s (entry t e .a) ≡ false
   pub negated-false : (e s : ℕ) → s < m .size → kind t e ≡ Kind.NEGATED → false-at e s → m .letter s (entry t e .a) ≡ true

@@ -14,7 +14,7 @@ use Rattle.formula.specs.Nodes.{Proof}
 use Rattle.calculus.specs.Tree.{Tree}
 use Rattle.calculus.specs.Sequents.{rule}
 use Rattle.calculus.specs.Rules.{Keeps, back}
-use Rattle.calculus.specs.Correct.{Correct}
+use Rattle.calculus.specs.CorrectNodes.{CorrectNodes}
 use Rattle.verdict.specs.Verdict.{Verdict, accepted, refused, pick, scan}
 use Rattle.calculus.specs.View.{plain}
 use Rattle.calculus.specs.Judge.{children-fit, adopted, root, keeps, loop, rule-number, judge}
@@ -166,10 +166,10 @@ module _ (t : Table) (claim : List ℕ) (p : Proof) (G : Given t p) where
   exact-refusal = (refused-earned, earned-refused)
 
   -- every proof of tables is correct or earns one refusal
-  pub outcome : (Correct t p × Claimed claim p) ⊎ ((k : ℕ) × (q : ℕ) × Earns t claim p k q)
+  pub outcome : (CorrectNodes t p × Claimed claim p) ⊎ ((k : ℕ) × (q : ℕ) × Earns t claim p k q)
   outcome = go (judge t claim p) refl
     where
-      go : (x : Verdict) → judge t claim p ≡ x → (Correct t p × Claimed claim p) ⊎ ((k : ℕ) × (q : ℕ) × Earns t claim p k q)
+      go : (x : Verdict) → judge t claim p ≡ x → (CorrectNodes t p × Claimed claim p) ⊎ ((k : ℕ) × (q : ℕ) × Earns t claim p k q)
       go accepted h = inl (accepted-correct t claim p G h)
       go (refused k q) h = inr (k, q, refused-earned h)
 
@@ -178,5 +178,5 @@ module _ (t : Table) (claim : List ℕ) (p : Proof) (G : Given t p) where
       let h : refused k q ≡ refused m r = sym (earned-refused x) ∙ earned-refused y in
       ((cc), (cc))
 
-  pub correct-earns-nothing : {k q : ℕ} → Correct t p → Claimed claim p → Earns t claim p k q → ⊥
+  pub correct-earns-nothing : {k q : ℕ} → CorrectNodes t p → Claimed claim p → Earns t claim p k q → ⊥
   correct-earns-nothing C R x = accepted-not-refused (sym (earned-refused x) ∙ correct-accepted t claim p G C R)

@@ -20,14 +20,14 @@ module _ (p : Proof) where
   HasFirst v = (Rule.OR ≤ rule p v) × (rule p v ≤ Rule.D)
 
   -- child number w of v lies above v, is a node, and is used by no earlier parent
-  pub record Fits (v w : ℕ) : Type 0 where
+  pub record FitChild (v w : ℕ) : Type 0 where
     pub above : v < w
     pub inside : w < length p
     pub unused : (u : ℕ) → u < v → Child p u w → ⊥
 
   pub record ChildrenFit (v : ℕ) : Type 0 where
-    pub first-fits : HasFirst v → Fits v (node p v .first)
-    pub second-fits : rule p v ≡ Rule.AND → Fits v (node p v .second)
+    pub first-fits : HasFirst v → FitChild v (node p v .first)
+    pub second-fits : rule p v ≡ Rule.AND → FitChild v (node p v .second)
     pub differ : rule p v ≡ Rule.AND → node p v .first ≢ node p v .second
 
   abbrev pub Adopted : ℕ → Type 0

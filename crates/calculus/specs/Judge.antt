@@ -192,9 +192,9 @@ unfolding each
 root claim q = q .same (codes q 0) (each (λ e. code e 1) claim)
 
 -- what a view earns
-unfoldable pub verdict : Table → List ℕ → View → Verdict
+unfoldable pub judgeView : Table → List ℕ → View → Verdict
 unfolding scan children-fit adopted root keeps loop rule-number
-verdict t claim q =
+judgeView t claim q =
     let n = q .size in
     let loops = scan (loop q) (λ _. 39) n 0 accepted in
     let rules = scan (keeps t q) (rule-number q) n 0 loops in
@@ -203,5 +203,5 @@ verdict t claim q =
     scan (children-fit q) (λ _. 35) n 0 orphans
 
 unfoldable pub judge : Table → List ℕ → Proof → Verdict
-unfolding verdict quick
-judge t claim p = verdict t claim (quick p)
+unfolding judgeView quick
+judge t claim p = judgeView t claim (quick p)

@@ -13,11 +13,11 @@ use Rattle.formula.specs.Nodes.{Proof}
 use Rattle.calculus.specs.Tree.{Tree}
 use Rattle.calculus.specs.Sequents.{rule}
 use Rattle.calculus.specs.Rules.{BackLeaf, Keeps, ax1, ax2, or, and, box, mu, nu, weaken, into-focus, out-of-focus, discharge, back}
-use Rattle.calculus.specs.Correct.{Correct}
+use Rattle.calculus.specs.CorrectNodes.{CorrectNodes}
 use Rattle.verdict.specs.Verdict.{Verdict, accepted, refused, pick, scan}
 use Rattle.calculus.specs.View.{plain}
 use Rattle.calculus.specs.ViewLaws.{quick-plain}
-use Rattle.calculus.specs.Judge.{codes, children-fit, adopted, root, keeps, loop, rule-number, verdict, judge}
+use Rattle.calculus.specs.Judge.{codes, children-fit, adopted, root, keeps, loop, rule-number, judgeView, judge}
 use Rattle.calculus.specs.Faults.{Claimed, GoodLeaf}
 use Rattle.calculus.specs.Given.{Given}
 use Rattle.verdict.specs.Tells.{Tells}
@@ -43,8 +43,8 @@ module _ (t : Table) (claim : List ℕ) (p : Proof) where
   orphans-stage = scan (adopted (plain p)) (λ _. 35) (length p) 0 claim-stage
 
   pub judge-is : judge t claim p ≡ scan (children-fit (plain p)) (λ _. 35) (length p) 0 orphans-stage
-  unfolding judge verdict
-  judge-is = ap (verdict t claim) (quick-plain p)
+  unfolding judge judgeView
+  judge-is = ap (judgeView t claim) (quick-plain p)
 
 pub root-tells : (claim : List ℕ) (p : Proof) → Tells (root claim (plain p)) (Claimed claim p)
 unfolding root
@@ -76,7 +76,7 @@ pick-says true x k q h = (refl, h)
 pick-says false x k q h = absurd (accepted-not-refused h)
 
 module _ (t : Table) (claim : List ℕ) (p : Proof) (G : Given t p) where
-  pub accepted-correct : judge t claim p ≡ accepted → Correct t p × Claimed claim p
+  pub accepted-correct : judge t claim p ≡ accepted → CorrectNodes t p × Claimed claim p
   accepted-correct h =
       let (fit, h₁) = scan-says (children-fit (plain p)) (λ _. 35) (length p) 0 (orphans-stage t claim p) (rw (judge-is t claim p) at h) in
       let (adopt, h₂) = scan-says (adopted (plain p)) (λ _. 35) (length p) 0 (claim-stage t claim p) h₁ in
@@ -94,7 +94,7 @@ module _ (t : Table) (claim : List ℕ) (p : Proof) (G : Given t p) where
         root-tells claim p .says r,
       )
 
-  pub correct-accepted : Correct t p → Claimed claim p → judge t claim p ≡ accepted
+  pub correct-accepted : CorrectNodes t p → Claimed claim p → judge t claim p ≡ accepted
   correct-accepted C R =
       judge-is t claim p
       ∙ scan-holds (children-fit (plain p)) (λ _. 35) (length p) 0 (orphans-stage t claim p) (λ w _ k. children-fit-tells p w (omega arith) .holds (tree-children p (C .tree) w (omega arith)))
@@ -106,5 +106,5 @@ module _ (t : Table) (claim : List ℕ) (p : Proof) (G : Given t p) where
       picked : claim-stage t claim p ≡ rules-stage t claim p
       picked = rw (root-tells claim p .holds R) refl
 
-  pub exact : (judge t claim p ≡ accepted) ↔ (Correct t p × Claimed claim p)
+  pub exact : (judge t claim p ≡ accepted) ↔ (CorrectNodes t p × Claimed claim p)
   exact = (accepted-correct, λ (C, R). correct-accepted C R)

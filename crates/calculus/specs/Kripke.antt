@@ -1,23 +1,21 @@
 -- Kripke meaning is such a falsity: an entry by itself is false where its own meaning does not hold
-use mathlib.Core.Path.{_≡_, refl, sym, _∙_, ap}
-use mathlib.Core.Bool.{Bool, true, false, not, true≢false}
+use mathlib.Core.Path.{_≡_, refl, sym, _∙_}
+use mathlib.Core.Bool.{false, true≢false}
 use Prim.Native.Nat.{ℕ, _<_}
 use borrow.Author.Tests.{not-false}
 use Rattle.formula.specs.Kind
-use Rattle.formula.specs.Table.{Table, entry, kind}
-use Rattle.formula.specs.Codes.{Formula}
+use Rattle.formula.specs.Table.{Table, entry}
 use Rattle.formula.specs.Shape.{Shape, shape, or, and, diamond, box}
-use Rattle.formula.specs.Target.{target, targetA, targetB}
 use Rattle.formula.specs.ShapeLaws.{true-shape, letter-shape, negated-shape, or-shape, and-shape, diamond-shape, box-shape, mu-shape, nu-shape, target-other}
-use Rattle.formula.specs.WellFormed.{WellFormed}
-use Rattle.formula.specs.States.{Model, Successor, leafSet}
-use Rattle.formula.specs.FalseSets.{two-false, step-false}
-use Rattle.formula.specs.Meaning.{own}
-use Rattle.formula.specs.OwnLaws.{closed, own-law}
-use Rattle.formula.specs.Rank.{Refuted, refuted-as, refuted-more, refuted-false, or-refuted, and-refuted, diamond-refuted, box-refuted, nu-refuted}
-use Rattle.formula.specs.Stages.{rank}
-use Rattle.formula.specs.Complete.{false-refuted}
-use Rattle.calculus.specs.Falsity.{Falsity, Family, Passes, Before}
+use Rattle.conditions.specs.WellFormed.{WellFormed}
+use Rattle.meaning.specs.States.{Model, leafSet}
+use Rattle.rank.specs.FalseSets.{two-false, step-false}
+use Rattle.meaning.specs.Meaning.{own}
+use Rattle.meaning.specs.OwnLaws.{closed, own-law}
+use Rattle.rank.specs.Rank.{Refuted, refuted-as, refuted-more, refuted-false, or-refuted, and-refuted, diamond-refuted, box-refuted, nu-refuted}
+use Rattle.rank.specs.Stages.{rank}
+use Rattle.rank.specs.Complete.{false-refuted}
+use Rattle.calculus.specs.Falsity.{Falsity, Family, Passes, OneLess}
 
 module _ (t : Table) (wf : WellFormed t) (M : Model) where
   abbrev pub FalseAt : Family
@@ -37,7 +35,7 @@ module _ (t : Table) (wf : WellFormed t) (M : Model) where
     diamond = λ e s l q f u h. step-false M diamond _ s .0 (by-shape e s l (diamond-shape t e q) f) u (h .0) (h .1);
   }
 
-  pub refuted-passes : (j : ℕ) → Passes t M (Refuted M t j) (Before (Refuted M t) j)
+  pub refuted-passes : (j : ℕ) → Passes t M (Refuted M t j) (OneLess (Refuted M t) j)
   refuted-passes j = record {
     or = λ e s l q r. or-refuted M t (refuted-as M t (or-shape t e q) r);
     and = λ e s l q r. and-refuted M t (refuted-as M t (and-shape t e q) r);

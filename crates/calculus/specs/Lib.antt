@@ -4,7 +4,7 @@ pub mod Tree
 pub mod Paths
 pub mod Rules
 pub mod Loops
-pub mod Correct
+pub mod CorrectNodes
 -- refusals 35 to 39: what each means, and the first one computed
 pub mod Given
 pub mod Faults

@@ -7,7 +7,7 @@ use native.Mathlib.Omega.{arith}
 use lib.ListN.{length}
 use Rattle.formula.specs.Kind
 use Rattle.formula.specs.Rule
-use Rattle.verdict.specs.Sets.{Set, _⊆_, _plus_, image, ⊆-trans, plus-⊆, image-⊆}
+use Rattle.verdict.specs.Sets.{Set, _⊆_, image, ⊆-trans, plus-⊆, image-⊆, _plus_}
 use Rattle.formula.specs.Table.{Table, kind}
 use Rattle.formula.specs.Codes.{Formula, code, entryOf, focusOf}
 use Rattle.formula.specs.Target.{targetA}
@@ -16,7 +16,7 @@ use Rattle.calculus.specs.Tree.{Child, first, second}
 use Rattle.calculus.specs.Sequents.{rule, sequent, firstSequent, principal, formula, focus, side, Belongs}
 use Rattle.calculus.specs.Rules.{stepped, A, B, Principal, Clash, Truth, BackLeaf, Keeps, ax1, ax2, or, and, box, mu, nu, weaken, into-focus, out-of-focus, discharge, back}
 use Rattle.calculus.specs.Loops.{OnLoop}
-use Rattle.formula.specs.States.{Model, Successor}
+use Rattle.meaning.specs.States.{Model, Successor}
 use Rattle.calculus.specs.Falsity.{Falsity, Passes}
 use Rattle.calculus.specs.Refutes.{Owed, OwedNext, Fails, RefutesWithin, owed-passes, owed-false, owed-next, focused-next, owed-more, fails-code}
 

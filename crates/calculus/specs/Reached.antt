@@ -12,8 +12,8 @@ use Rattle.calculus.specs.Sequents.{rule, sequent}
 use Rattle.calculus.specs.Paths.{Path, stop, down, On, join, on-start, on-middle, on-join, ends, Ancestor}
 use Rattle.calculus.specs.Rules.{BackLeaf}
 use Rattle.calculus.specs.Loops.{OnLoop, GoodLoop}
-use Rattle.calculus.specs.Correct.{Correct}
-use Rattle.formula.specs.States.{Model}
+use Rattle.calculus.specs.CorrectNodes.{CorrectNodes}
+use Rattle.meaning.specs.States.{Model}
 use Rattle.calculus.specs.Falsity.{Falsity}
 use Rattle.calculus.specs.Refutes.{RefutesWithin}
 use Rattle.calculus.specs.NodeStep.{Stepped, node-step}
@@ -70,7 +70,7 @@ module _ {t : Table} {m : Model} (M : Falsity t m) (p : Proof) where
   companion-refuted l = record { inside = l .refuted .inside; all = ⊆-trans (l .keeps .same .from) (l .refuted .all) }
 
   -- from a child's leaf to the node's own
-  module _ (ok : Correct t p) {v j : ℕ} (σ : Stepped M p v j) (ρ : Reached M p (σ .child) (σ .rank)) where
+  module _ (ok : CorrectNodes t p) {v j : ℕ} (σ : Stepped M p v j) (ρ : Reached M p (σ .child) (σ .rank)) where
     abbrev l : RefutedLeaf M p
     l = ρ .to
 
@@ -116,7 +116,7 @@ module _ {t : Table} {m : Model} (M : Falsity t m) (p : Proof) where
     from-child : Again M p v j ⊎ Reached M p v j
     from-child = ⊎-elim (λ n. inl (again n)) (λ a. inr (reached a)) (ends up)
 
-  module _ (ok : Correct t p) where
+  module _ (ok : CorrectNodes t p) where
     -- S(v)
     abbrev pub Statement : ℕ → Type 0
     Statement v = (j s : ℕ) → RefutesWithin M j s (sequent p v) → Reached M p v j

@@ -8,8 +8,8 @@ use native.Mathlib.Omega.{arith}
 use Rattle.verdict.specs.Sets.{Set, _⊆_, elements}
 use Rattle.formula.specs.Table.{Table}
 use Rattle.formula.specs.Codes.{Formula, code, entryOf, focusOf, code-entry, code-focus}
-use Rattle.formula.specs.States.{Model}
-use Rattle.calculus.specs.Falsity.{Falsity, Family, Passes, Before}
+use Rattle.meaning.specs.States.{Model}
+use Rattle.calculus.specs.Falsity.{Falsity, Family, Passes, OneLess}
 
 module _ {t : Table} {m : Model} (M : Falsity t m) where
   -- each member, by itself, is false at s
@@ -25,7 +25,7 @@ module _ {t : Table} {m : Model} (M : Falsity t m) where
   -- the same after a modal step
   abbrev pub OwedNext : ℕ → ℕ → Family
   OwedNext j zero = M .false-at
-  OwedNext j (suc f) = Before (M .Refuted) j
+  OwedNext j (suc f) = OneLess (M .Refuted) j
 
   abbrev pub Fails : ℕ → ℕ → Set
   Fails j s c = Owed j (focusOf c) (entryOf c) s

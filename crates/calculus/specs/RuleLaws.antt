@@ -5,7 +5,7 @@ use Prim.Native.Nat.{ℕ, zero, suc, _<_}
 use lib.ListN.{length, getD}
 use Rattle.formula.specs.Kind
 use Rattle.formula.specs.Rule
-use Rattle.verdict.specs.Sets.{Same, _⊆_, _plus_, image}
+use Rattle.verdict.specs.Sets.{Same, _⊆_, image, _plus_}
 use Rattle.formula.specs.Table.{Table, kind}
 use Rattle.formula.specs.Codes.{code, entryOf}
 use Rattle.formula.specs.Nodes.{Proof, node}

@@ -3,7 +3,7 @@ use mathlib.Core.Path.{_≡_}
 use Prim.Native.Nat.{ℕ}
 use Rattle.formula.specs.Kind
 use Rattle.formula.specs.Rule
-use Rattle.verdict.specs.Sets.{Same, _⊆_, _plus_, none, image}
+use Rattle.verdict.specs.Sets.{Same, _⊆_, none, image, _plus_}
 use Rattle.formula.specs.Table.{Table, entry, kind}
 use Rattle.formula.specs.Target.{targetA, targetB}
 use Rattle.formula.specs.Codes.{code, entryOf, focusOf}

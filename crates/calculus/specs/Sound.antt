@@ -11,8 +11,8 @@ use Rattle.formula.specs.Codes.{code, entryOf, code-entry}
 use Rattle.formula.specs.Nodes.{Proof, node}
 use Rattle.calculus.specs.Sequents.{sequent}
 use Rattle.calculus.specs.Paths.{ancestor-below}
-use Rattle.calculus.specs.Correct.{Correct}
-use Rattle.formula.specs.States.{Model}
+use Rattle.calculus.specs.CorrectNodes.{CorrectNodes}
+use Rattle.meaning.specs.States.{Model}
 use Rattle.calculus.specs.Falsity.{Falsity}
 use Rattle.calculus.specs.Refutes.{Refutes, RefutesWithin, all-within}
 use Rattle.calculus.specs.Reached.{companion, companion-refuted, every-node}
@@ -26,7 +26,7 @@ all-or-some {P} d (x ∷ l) = go (d x) (all-or-some d l)
     go (yes q) (inl f) = inl (λ c n. ⊎-elim (λ (e : c ≡ x). subst P (sym e) q) (λ (k : List·Memᴰ c l). f c k) (List·Memᴰ·cases-cons n))
     go (yes q) (inr (c, n, k)) = inr (c, List·Memᴰ·tail n, k)
 
-module _ {t : Table} {m : Model} (M : Falsity t m) (p : Proof) (ok : Correct t p) where
+module _ {t : Table} {m : Model} (M : Falsity t m) (p : Proof) (ok : CorrectNodes t p) where
   -- a refuted node has a refuted companion with a smaller number
   none-below : (n v : ℕ) → v < n → v < length p → (j s : ℕ) → RefutesWithin M j s (sequent p v) → ⊥
   none-below zero v h real j s r = omega arith
@@ -56,10 +56,3 @@ module _ {t : Table} {m : Model} (M : Falsity t m) (p : Proof) (ok : Correct t p
     inside = h;
     all = ⊆-trans (same .into) (image-⊆ (λ c. M .false-at (entryOf c) s) (λ e. code e 1) (λ e n. rw (code-entry e 1 (omega arith)) (f e n)));
   })
-
-  -- where falsity is decided, some member of each node is true at every state
-  pub some-member-true : ((e s : ℕ) → Dec (M .false-at e s)) → (v : ℕ) → v < length p → (s : ℕ) → s < m .size → (c : ℕ) × sequent p v c × (¬ M .false-at (entryOf c) s)
-  some-member-true dec v real s h = ⊎-elim
-      (λ r. absurd (no-node-refuted v real s (record { inside = h; all = r })))
-      (λ x. x)
-      (all-or-some (λ c. dec (entryOf c) s) (node p v .codes))

@@ -4,7 +4,7 @@
 --     ended        [β] ∗ the lender's part  ⊢ ⇛ the room of the cell
 --     zeros-typed  what `[0; n]` evaluates to is an array of n numbers
 --     three-made, three-turned, three-ended        the same three steps, of three arrays at once
-use mathlib.Core.Path.{_≡_, refl}
+use mathlib.Core.Path.{refl}
 use Prim.Native.Nat.{ℕ, zero, suc, _<_, _^_}
 use mathlib.Core.List.{List, [], _∷_}
 use lib.Dec.{T}

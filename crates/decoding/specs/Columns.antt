@@ -9,8 +9,8 @@ use Rattle.formula.specs.Table.{Table}
 use Rattle.formula.specs.Nodes.{Proof}
 use Rattle.formula.specs.Records.{nodeRecords, allCodes}
 use Rattle.formula.specs.NodeColumns.{rulesOf, linksOf, startsOf}
-use Rattle.reader.specs.ClaimWalk.{kindsAfter, aAfter, bAfter}
-use Rattle.reader.specs.ProofDecode.{proofIn, Decodes}
+use Rattle.claims.specs.ClaimWalk.{kindsAfter, aAfter, bAfter}
+use Rattle.proofs.specs.ProofDecode.{proofIn, Decodes}
 use Rattle.records.specs.Records.{shownNodes}
 use Rattle.records.specs.declared.Node.{Node}
 

@@ -1,7 +1,4 @@
--- claim and proof by bytes, before the rules
-pub mod Files
-pub mod Found
-pub mod FilesLaws
+pub mod ReadableLaws
 -- the decoding on its way to lent records
 pub mod Columns
 pub mod ColumnsLaws

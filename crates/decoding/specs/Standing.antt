@@ -3,19 +3,19 @@ use mathlib.Core.Path.{_≡_}
 use mathlib.Core.List.{List, [], _∷_}
 use Prim.Native.Nat.{ℕ, _≤_}
 use lib.ListN.{length, take, drop}
-use Rattle.verdict.specs.Verdict.{Verdict, accepted}
+use Rattle.verdict.specs.Verdict.{accepted}
 use Rattle.verdict.specs.Shown.{shown}
 use Rattle.formula.specs.Table.{Table}
 use Rattle.formula.specs.Nodes.{Proof}
 use Rattle.formula.specs.Records.{NodeRecord}
-use Rattle.formula.specs.WellFormed.{WellFormed}
+use Rattle.conditions.specs.WellFormed.{WellFormed}
 use Rattle.calculus.specs.Given.{Given}
-use Rattle.kept.specs.Placed.{Members}
+use Rattle.sequents.specs.Placed.{Members}
 use Rattle.rules.specs.JudgeStages.{Laid}
 use Rattle.records.specs.Records.{firstNodes, total}
 use Rattle.records.specs.declared.Entry.{Entry}
 use Rattle.records.specs.declared.Node.{Node}
-use Rattle.decoding.specs.declared.Found.{Found}
+use Rattle.reader.specs.declared.Found.{Found}
 
 -- "codes follow each other in file order, from the start of their slice without gaps"
 unfoldable pub standing : List NodeRecord → List ℕ → Proof

@@ -21,9 +21,9 @@ use Rattle.records.specs.Records.{shownNode, firstEntries, firstNodes, startCol
 use Rattle.records.specs.Shown.{loaded-table, loaded-proof}
 use Rattle.records.specs.declared.Entry.{Entry}
 use Rattle.records.specs.declared.Node.{Node}
-use Rattle.decoding.specs.Found.{ruled}
+use Rattle.reader.specs.Found.{ruled}
 use Rattle.decoding.specs.Standing.{standing, FitsEntries, FitsNodes, Judgeable, LaidOut}
-use Rattle.decoding.specs.declared.Found.{Found}
+use Rattle.reader.specs.declared.Found.{Found}
 
 -- ---- what stands, taken apart again
 pub standing-records : (vs : List NodeRecord) (cs : List ℕ) → total vs ≤ length cs → nodeRecords (standing vs cs) ≡ vs

@@ -1,5 +1,5 @@
 -- what the stores of a claim's entries and of a proof's nodes leave in lent records
-use mathlib.Core.Path.{_≡_, refl, sym, ap, _∙_}
+use mathlib.Core.Path.{_≡_, refl, ap, _∙_}
 use mathlib.Core.List.{List, [], _∷_}
 use Prim.Native.Nat.{ℕ, zero, suc, _+_, _<_, _≤_}
 use native.Mathlib.Nat.{le-of-suc-le-suc}
@@ -17,13 +17,13 @@ use Rattle.formula.specs.Records.{NodeRecord, nodeRecords, allCodes}
 use Rattle.formula.specs.CodeCounts.{few-codes}
 use Rattle.encoding.specs.Places.{wordAt}
 use Rattle.formula.specs.NodeColumns.{start-stands, proof-of-columns}
-use Rattle.reader.specs.ReadClaim.{readClaim}
-use Rattle.reader.specs.ProofDecode.{wordsAt-length, codesPlace, codeCount, nodeEnd, nodeAt, nodesAt, NodesFit, one-more, proofIn}
+use Rattle.claims.specs.ReadClaim.{readClaim}
+use Rattle.proofs.specs.ProofDecode.{wordsAt-length, codesPlace, codeCount, nodeEnd, nodeAt, nodesAt, NodesFit, one-more, proofIn}
 use Rattle.records.specs.Records.{shownEntry, shownNode, shownEntries, shownNodes, entriesOf, nodesOf, CountsFit}
 use Rattle.records.specs.Shown.{map-written, entries-shown, nodes-shown}
 use Rattle.records.specs.declared.Entry.{Entry}
 use Rattle.records.specs.declared.Node as declared-node
-use Rattle.decoding.specs.Files.{tableRead, tableIn}
+use Rattle.reader.specs.Files.{tableRead, tableIn}
 use Rattle.decoding.specs.Columns.{ClaimColumns, nodesIf, Counted, CodesRoom, ProofColumns, ProofStored}
 
 take-values : {A : Type 0} (f : ℕ → A) (e n k : ℕ) → n ≤ k → valuesFrom f e n ≡ take n (valuesFrom f e k)

@@ -7,16 +7,17 @@ ghost use Rattle.verdict.specs.Verdict.{accepted};
 ghost use Rattle.verdict.specs.Shown.{shown};
 ghost use Rattle.formula.specs.Plain.{tableOf};
 ghost use Rattle.formula.specs.PlainNodes.{proofOf};
-ghost use Rattle.reader.specs.ClaimEntries.{EntryArrays};
-ghost use Rattle.reader.specs.ReadClaim.{readClaim};
+ghost use Rattle.claims.specs.ClaimEntries.{EntryArrays};
+ghost use Rattle.claims.specs.ReadClaim.{readClaim};
 ghost use Rattle.calculus.specs.Judge.{judge as judged};
 ghost use Rattle.records.specs.Records.{shownEntries, firstEntries, firstNodes};
-ghost use Rattle.decoding.specs.Files.{tableIn};
-ghost use Rattle.decoding.specs.Found.{ruled};
+ghost use Rattle.reader.specs.Files.{tableIn};
+ghost use Rattle.reader.specs.Found.{ruled};
 ghost use Rattle.decoding.specs.Columns.{ClaimColumns, NodeColumns, nodesIf, Counted, CodesRoom, ProofColumns, ProofStored};
 ghost use Rattle.decoding.specs.Standing.{standing, FitsEntries, FitsNodes, Judgeable, LaidOut};
-use reader::claim::read_claim;
-use reader::proof::decode_proof;
+use claims::read_claim;
+use proofs::decode_proof;
+use reader::Found;
 use records::Entry;
 use records::Node;
 use records::load_entries;
@@ -24,17 +25,6 @@ use records::load_nodes;
 use records::store_entries;
 use records::store_nodes;
 use verdict::Verdict;
-
-pub mod files;
-
-// What was found of a claim and a proof: a refusal, or how many entries, members and nodes there are, and the members.
-pub struct Found {
-    pub verdict: Verdict,
-    pub entries: usize,
-    pub listed: usize,
-    pub nodes: usize,
-    pub members: [u16; 24],
-}
 
 // The table of a claim in columns.
 fn claim_columns(claim: &[u8], kinds: &mut [u8; 256], a: &mut [u16; 256], b: &mut [u16; 256])

@@ -1,4 +1,5 @@
 -- the bytes that stand for numbers, for fields that may be absent, and for lists with their count
+use mathlib.Core.Path.{_≡_}
 use mathlib.Core.List.{List, [], _∷_, _++_}
 use mathlib.Core.Bool.{Bool, true, false}
 use Prim.Native.Nat.{ℕ, _/_, _%_, _<_, _≤_}
@@ -38,6 +39,11 @@ encodePart false enc x = []
 
 abbrev pub encodeField : Bool → ℕ → List ℕ
 encodeField b n = encodePart b encodeTwo n
+
+-- a field is two bytes, or 0 in its record where the kind or rule lacks it
+abbrev pub FitField : Bool → ℕ → Type 0
+FitField true n = n < 65536
+FitField false n = n ≡ 0
 
 -- one after the other
 unfoldable pub encodeAll : {A : Type 0} → (A → List ℕ) → List A → List ℕ

@@ -32,7 +32,7 @@ pub record Renames (X Y : Stages) : Type 0 where
   pub wrong : (σ : X .Stage) (w : List ℕ) (n : ℕ) → X .Reached σ → X .Wrong σ w n → WrongIn Y (X .done σ) w n
 
 -- a stage of Y for one of X
-pub record Found (X Y : Stages) (σ : X .Stage) : Type 0 where
+pub record StageOf (X Y : Stages) (σ : X .Stage) : Type 0 where
   pub stage : Y .Stage
   pub reached : Y .Reached stage
   pub same : Y .done stage ≡ X .done σ
@@ -41,7 +41,7 @@ pub record Found (X Y : Stages) (σ : X .Stage) : Type 0 where
 
 -- each stage of X is one of Y
 abbrev pub Stands : Stages → Stages → Type 0
-Stands X Y = (σ : X .Stage) → X .Reached σ → Found X Y σ
+Stands X Y = (σ : X .Stage) → X .Reached σ → StageOf X Y σ
 
 pub renames-each : {X Y : Stages} → Stands X Y → Renames X Y
 renames-each {X} {Y} f = record {

@@ -51,14 +51,14 @@ unfolding place-of
 same-place h = ap place-of h
 
 -- what was got before
-pub record Before {A B : Type 0} (g : Got A) (f : A → List ℕ → ℕ → Got B) (y : B) (r : List ℕ) (o : ℕ) : Type 0 where
+pub record FirstPart {A B : Type 0} (g : Got A) (f : A → List ℕ → ℕ → Got B) (y : B) (r : List ℕ) (o : ℕ) : Type 0 where
   pub first : A
   pub rest : List ℕ
   pub place : ℕ
   pub was : g ≡ got first rest place
   pub then : f first rest place ≡ got y r o
 
-pub bind-got : {A B : Type 0} (g : Got A) (f : A → List ℕ → ℕ → Got B) {y : B} {r : List ℕ} {o : ℕ} → bind g f ≡ got y r o → Before g f y r o
+pub bind-got : {A B : Type 0} (g : Got A) (f : A → List ℕ → ℕ → Got B) {y : B} {r : List ℕ} {o : ℕ} → bind g f ≡ got y r o → FirstPart g f y r o
 bind-got (fault n q) f h = absurd (fault-not-got h)
 bind-got (got x t z) f h = record { first = x; rest = t; place = z; was = refl; then = h }
 

@@ -15,6 +15,7 @@ pub mod ChainLaws
 pub mod ListFaults
 pub mod FileLaws
 pub mod ByteLaws
+pub mod FieldLaws
 pub mod Places
 pub mod Known
 -- a program's walk over a file that it indexes

@@ -1,13 +1,13 @@
 -- parsers at a place of a file that is indexed: what they get there, and where the file ends early
 use mathlib.Core.Path.{_≡_, refl, ap, _∙_}
 use mathlib.Core.List.{List, [], _∷_}
-use mathlib.Core.Bool.{Bool, true, false}
+use mathlib.Core.Bool.{true}
 use Prim.Native.Nat.{ℕ, zero, suc, _+_, _<_, _≤_}
 use native.Mathlib.Nat.{le-of-suc-le-suc}
 use native.Mathlib.Decide.{ℕ-discrete}
 use native.Mathlib.Omega.{arith}
 use lib.ListN.{length, getD, drop}
-use Rattle.encoding.specs.Parse.{Got, fault, got, bind, seq, via, part, word, byte, bytes, two, field}
+use Rattle.encoding.specs.Parse.{Got, fault, got, bind, word, byte, bytes, two, field}
 
 drop-here : (s : List ℕ) (at : ℕ) → at < length s → drop at s ≡ getD s at 0 ∷ drop (suc at) s
 drop-here [] at h = absurd (omega arith)
@@ -76,9 +76,3 @@ module _ (early : ℕ) (s : List ℕ) (at : ℕ) where
   -- a field that stands, and one that does not
   pub field-at : at + 1 < length s → field early true (drop at s) at ≡ got (wordAt s at) (drop (at + 2) s) (at + 2)
   field-at h = two-at h
-
-  pub field-end : at ≤ length s → length s < at + 2 → field early true (drop at s) at ≡ fault early (length s)
-  field-end l h = two-end l h
-
-  pub field-none : field early false (drop at s) at ≡ got 0 (drop at s) at
-  field-none = refl

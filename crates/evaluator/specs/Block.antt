@@ -1,13 +1,13 @@
 -- iteration of a block of entries at once: mu from no state and nu from all, a fixpoint taking its body's set in one step
-use mathlib.Core.Bool.{Bool, true, false, not, _&&_, _||_, cond}
+use mathlib.Core.Bool.{Bool, true, false, not, cond}
 use Prim.Native.Nat.{ℕ, zero, suc}
 use lib.ListN.{length}
-use Rattle.formula.specs.Truth.{every}
+use Rattle.meaning.specs.Truth.{every}
 use Rattle.formula.specs.Table.{Table}
 use Rattle.formula.specs.Shape.{Shape, leaf, two, step, fix, name, mu, shape}
-use Rattle.formula.specs.States.{Model, Set, start}
+use Rattle.meaning.specs.States.{Model, StateSet, start}
 use Rattle.formula.specs.Below.{recur}
-use Rattle.formula.specs.Bounds.{sum}
+use Rattle.meaning.specs.Bounds.{sum}
 use Rattle.evaluator.specs.Settled.{formed}
 
 unfoldable pub agree : Bool → Bool → Bool
@@ -15,7 +15,7 @@ agree true b = b
 agree false b = not b
 
 -- a fixpoint's start, any other set as it is
-unfoldable pub startOf : Shape → Set → Set
+unfoldable pub startOf : Shape → StateSet → StateSet
 startOf (leaf l) A = A
 startOf (two o a b) A = A
 startOf (step m a) A = A
@@ -23,7 +23,7 @@ startOf (fix σ a) A = start σ
 startOf (name x) A = A
 
 -- is a fixpoint's set the same
-unfoldable pub keepsOf : ℕ → Shape → Set → Set → Bool
+unfoldable pub keepsOf : ℕ → Shape → StateSet → StateSet → Bool
 keepsOf n (leaf l) A B = true
 keepsOf n (two o a b) A B = true
 keepsOf n (step m a) A B = true
@@ -40,27 +40,27 @@ changesOf n (name x) = 0
 
 -- b says which entries are in the block
 module _ (M : Model) (t : Table) (b : ℕ → Bool) where
-  unfoldable pub begin : (ℕ → Set) → ℕ → Set
+  unfoldable pub begin : (ℕ → StateSet) → ℕ → StateSet
   begin W e = cond (b e) (startOf (shape t e) (W e)) (W e)
 
   -- one pass upwards: an operand as this pass leaves it, a name's fixpoint as the last one did
-  unfoldable pub passAt : (ℕ → Set) → (ℕ → Set) → ℕ → Set
+  unfoldable pub passAt : (ℕ → StateSet) → (ℕ → StateSet) → ℕ → StateSet
   passAt W f e = cond (b e) (formed M W f (shape t e)) (W e)
 
-  unfoldable pub pass : (ℕ → Set) → ℕ → Set
+  unfoldable pub pass : (ℕ → StateSet) → ℕ → StateSet
   unfolding passAt
   pass W = recur (start mu) (passAt W)
 
-  unfoldable pub keeps : (ℕ → Set) → (ℕ → Set) → Bool
+  unfoldable pub keeps : (ℕ → StateSet) → (ℕ → StateSet) → Bool
   keeps W U = every (length t) (λ e. cond (b e) (keepsOf (M .size) (shape t e) (W e) (U e)) true)
 
   -- passes until no fixpoint changes
-  unfoldable pub rounds : ℕ → (ℕ → Set) → ℕ → Set
+  unfoldable pub rounds : ℕ → (ℕ → StateSet) → ℕ → StateSet
   rounds zero W = W
   rounds (suc k) W = cond (keeps W (pass W)) (pass W) (rounds k (pass W))
 
   -- how many passes that takes
-  unfoldable pub passes : ℕ → (ℕ → Set) → ℕ
+  unfoldable pub passes : ℕ → (ℕ → StateSet) → ℕ
   passes zero W = 0
   passes (suc k) W = suc (cond (keeps W (pass W)) 0 (passes k (pass W)))
 
@@ -69,7 +69,7 @@ module _ (M : Model) (t : Table) (b : ℕ → Bool) where
   changes = sum (length t) (λ e. cond (b e) (changesOf (M .size) (shape t e)) 0)
 
   -- with at most k passes
-  unfoldable pub solve : ℕ → (ℕ → Set) → ℕ → Set
+  unfoldable pub solve : ℕ → (ℕ → StateSet) → ℕ → StateSet
   solve k W = rounds k (begin W)
 
 -- states times fixpoints

@@ -1,24 +1,25 @@
 -- the iteration of a block ends at the own meanings, within as many rounds as its fixpoints' sets can change, and one
-use mathlib.Core.Path.{_≡_, refl, sym, _∙_, ap, subst, subst⁻¹}
-use mathlib.Core.Bool.{Bool, true, false, not, cond, true≢false, false≢true}
+use mathlib.Core.Path.{_≡_, refl, sym, _∙_, ap, subst⁻¹}
+use mathlib.Core.Bool.{Bool, true, false, cond, true≢false, false≢true}
 use mathlib.Core.Logic.{_⊎_, inl, inr, ⊎-elim}
 use Prim.Native.Nat.{ℕ, zero, suc, _+_, _<_, _≤_}
 use native.Mathlib.Omega.{arith}
 use native.Mathlib.Decide.{decLe, ℕ-discrete}
 use lib.ListN.{length}
-use Rattle.formula.specs.Truth.{every, every-true, all-every}
+use Rattle.meaning.specs.Truth.{every-true, all-every}
 use Rattle.formula.specs.Table.{Table}
-use Rattle.formula.specs.Shape.{Shape, leaf, two, step, fix, name, Fix, mu, nu, shape, Operand, Fixpoint}
-use Rattle.formula.specs.Free.{Free, named, inside}
-use Rattle.formula.specs.WellFormed.{WellFormed}
-use Rattle.formula.specs.States.{Model, Set, Same, leafSet, twoSet, stepSet, start}
-use Rattle.formula.specs.StateLaws.{same-sym, same-trans, path-same, two-same, step-same, Toward, toward-bounded, toward-both, start-first}
+use Rattle.formula.specs.Shape.{Shape, leaf, two, step, fix, name, Fix, mu, shape, Operand}
+use Rattle.conditions.specs.Free.{Free, named, inside}
+use Rattle.conditions.specs.WellFormed.{WellFormed}
+use Rattle.meaning.specs.States.{Model, StateSet, SameStates, leafSet, twoSet, stepSet, start}
+use Rattle.meaning.specs.StateLaws.{same-sym, same-trans, path-same, two-same, step-same, Toward, toward-bounded, toward-both, start-first}
 use Rattle.evaluator.specs.TowardLaws.{toward-refl, toward-trans, same-toward, toward-two, toward-step}
 use Rattle.formula.specs.Below.{recur-eq, by-smaller}
-use Rattle.formula.specs.Bounds.{sum, sum-mono, sum-back}
-use Rattle.formula.specs.Meaning.{own}
-use Rattle.formula.specs.OwnLaws.{closed, own-law, own-target}
-use Rattle.formula.specs.TableLaws.{fix-in, free-fix, name-fix}
+use Rattle.meaning.specs.Bounds.{sum, sum-mono, sum-back}
+use Rattle.meaning.specs.Meaning.{own}
+use Rattle.meaning.specs.OwnLaws.{closed, own-law, own-target}
+use Rattle.formula.specs.TableLaws.{fix-in}
+use Rattle.conditions.specs.WellFormedLaws.{free-fix, name-fix}
 use Rattle.evaluator.specs.Settled.{formed, Closes, closes-own}
 use Rattle.evaluator.specs.Block.{agree, startOf, keepsOf, changesOf, begin, passAt, pass, keeps, rounds, passes, changes, solve, room}
 
@@ -41,7 +42,7 @@ same-agree true b h = sym h
 same-agree false true h = h
 same-agree false false h = refl
 
-formed-local : (M : Model) (W f g : ℕ → Set) (v : Shape) → ((c : ℕ) → Operand v c → f c ≡ g c) → formed M W f v ≡ formed M W g v
+formed-local : (M : Model) (W f g : ℕ → StateSet) (v : Shape) → ((c : ℕ) → Operand v c → f c ≡ g c) → formed M W f v ≡ formed M W g v
 unfolding formed
 formed-local M W f g (leaf l) h = refl
 formed-local M W f g (two o a b) h = λ i. twoSet o (h a (inl refl) i) (h b (inr refl) i)
@@ -49,8 +50,8 @@ formed-local M W f g (step m a) h = λ i. stepSet M m (h a refl i)
 formed-local M W f g (fix σ a) h = h a refl
 formed-local M W f g (name x) h = refl
 
-pub formed-same : (M : Model) (W U f g : ℕ → Set) (v : Shape) → ((c : ℕ) → Operand v c → Same (M .size) (f c) (g c))
-    → ((x : ℕ) → v ≡ name x → Same (M .size) (W x) (U x)) → Same (M .size) (formed M W f v) (formed M U g v)
+pub formed-same : (M : Model) (W U f g : ℕ → StateSet) (v : Shape) → ((c : ℕ) → Operand v c → SameStates (M .size) (f c) (g c))
+    → ((x : ℕ) → v ≡ name x → SameStates (M .size) (W x) (U x)) → SameStates (M .size) (formed M W f v) (formed M U g v)
 unfolding formed
 formed-same M W U f g (leaf l) h k = λ s m. refl
 formed-same M W U f g (two o a b) h k = two-same o (h a (inl refl)) (h b (inr refl))
@@ -59,7 +60,7 @@ formed-same M W U f g (fix σ a) h k = h a refl
 formed-same M W U f g (name x) h k = k x refl
 
 module _ (M : Model) (t : Table) (wf : WellFormed t) where
-  pub formed-own : (e : ℕ) (v : Shape) → shape t e ≡ v → Same (M .size) (own M t e) (formed M (own M t) (own M t) v)
+  pub formed-own : (e : ℕ) (v : Shape) → shape t e ≡ v → SameStates (M .size) (own M t e) (formed M (own M t) (own M t) v)
   unfolding formed closed
   formed-own e (leaf l) q = own-law M t wf e (leaf l) q
   formed-own e (two o a b) q = same-trans (own-law M t wf e (two o a b) q) (two-same o (same-sym (own-target M t wf a)) (same-sym (own-target M t wf b)))
@@ -68,26 +69,26 @@ module _ (M : Model) (t : Table) (wf : WellFormed t) where
   formed-own e (name x) q = own-law M t wf e (name x) q
 
   module _ (b : ℕ → Bool) where
-    pass-eq : (W : ℕ → Set) (e : ℕ) → pass M t b W e ≡ passAt M t b W (pass M t b W) e
+    pass-eq : (W : ℕ → StateSet) (e : ℕ) → pass M t b W e ≡ passAt M t b W (pass M t b W) e
     unfolding pass passAt
     pass-eq W e =
         recur-eq (start mu) (passAt M t b W)
-        (λ f g e h. ap (λ (A : Set). cond (b e) A (W e)) (formed-local M W f g (shape t e) (λ c o. h c (wf .operands-below e c o)))) e
+        (λ f g e h. ap (λ (A : StateSet). cond (b e) A (W e)) (formed-local M W f g (shape t e) (λ c o. h c (wf .operands-below e c o)))) e
 
-    pub pass-in : (W : ℕ → Set) (e : ℕ) {v : Shape} → b e ≡ true → shape t e ≡ v → pass M t b W e ≡ formed M W (pass M t b W) v
+    pub pass-in : (W : ℕ → StateSet) (e : ℕ) {v : Shape} → b e ≡ true → shape t e ≡ v → pass M t b W e ≡ formed M W (pass M t b W) v
     unfolding passAt
     pass-in W e i q = pass-eq W e ∙ rw i (ap (formed M W (pass M t b W)) q)
 
-    pub pass-out : (W : ℕ → Set) (e : ℕ) → b e ≡ false → pass M t b W e ≡ W e
+    pub pass-out : (W : ℕ → StateSet) (e : ℕ) → b e ≡ false → pass M t b W e ≡ W e
     unfolding passAt
     pass-out W e i = pass-eq W e ∙ rw i refl
 
     -- the own meanings stay in a pass
-    pass-own : (e : ℕ) → Same (M .size) (pass M t b (own M t) e) (own M t e)
-    pass-own = by-smaller (λ e. Same (M .size) (pass M t b (own M t) e) (own M t e)) (λ e ih. go e ih (b e) refl)
+    pass-own : (e : ℕ) → SameStates (M .size) (pass M t b (own M t) e) (own M t e)
+    pass-own = by-smaller (λ e. SameStates (M .size) (pass M t b (own M t) e) (own M t e)) (λ e ih. go e ih (b e) refl)
       where
-        go : (e : ℕ) → ((a : ℕ) → a < e → Same (M .size) (pass M t b (own M t) a) (own M t a)) → (i : Bool) → b e ≡ i
-            → Same (M .size) (pass M t b (own M t) e) (own M t e)
+        go : (e : ℕ) → ((a : ℕ) → a < e → SameStates (M .size) (pass M t b (own M t) a) (own M t a)) → (i : Bool) → b e ≡ i
+            → SameStates (M .size) (pass M t b (own M t) e) (own M t e)
         go e ih true i =
             same-trans (path-same (pass-in (own M t) e i refl))
             (same-trans (formed-same M _ _ _ _ (shape t e) (λ c o. ih c (wf .operands-below e c o)) (λ x q s m. refl))
@@ -95,11 +96,11 @@ module _ (M : Model) (t : Table) (wf : WellFormed t) where
         go e ih false i = path-same (pass-out (own M t) e i)
 
     -- passes over the same sets give the same
-    pub pass-same : (W U : ℕ → Set) → ((e : ℕ) → Same (M .size) (W e) (U e)) → (e : ℕ) → Same (M .size) (pass M t b W e) (pass M t b U e)
-    pass-same W U h = by-smaller (λ e. Same (M .size) (pass M t b W e) (pass M t b U e)) (λ e ih. go e ih (b e) refl)
+    pub pass-same : (W U : ℕ → StateSet) → ((e : ℕ) → SameStates (M .size) (W e) (U e)) → (e : ℕ) → SameStates (M .size) (pass M t b W e) (pass M t b U e)
+    pass-same W U h = by-smaller (λ e. SameStates (M .size) (pass M t b W e) (pass M t b U e)) (λ e ih. go e ih (b e) refl)
       where
-        go : (e : ℕ) → ((a : ℕ) → a < e → Same (M .size) (pass M t b W a) (pass M t b U a)) → (i : Bool) → b e ≡ i
-            → Same (M .size) (pass M t b W e) (pass M t b U e)
+        go : (e : ℕ) → ((a : ℕ) → a < e → SameStates (M .size) (pass M t b W a) (pass M t b U a)) → (i : Bool) → b e ≡ i
+            → SameStates (M .size) (pass M t b W e) (pass M t b U e)
         go e ih true i =
             same-trans (path-same (pass-in W e i refl))
             (same-trans (formed-same M _ _ _ _ (shape t e) (λ c o. ih c (wf .operands-below e c o)) (λ x q. h x))
@@ -108,8 +109,8 @@ module _ (M : Model) (t : Table) (wf : WellFormed t) where
 
     module _ (done : ℕ → Bool) (K : Block t done b) where
       -- settled sets stay, and each fixpoint of the block goes its way
-      pub record Onward (W U : ℕ → Set) : Type 0 where
-        pub kept : (e : ℕ) → done e ≡ true → Same (M .size) (W e) (U e)
+      pub record Onward (W U : ℕ → StateSet) : Type 0 where
+        pub kept : (e : ℕ) → done e ≡ true → SameStates (M .size) (W e) (U e)
         pub moved : (e a : ℕ) (σ : Fix) → b e ≡ true → shape t e ≡ fix σ a → Toward (M .size) σ (W e) (U e)
 
       pub out : (e : ℕ) → done e ≡ true → b e ≡ false
@@ -150,7 +151,7 @@ module _ (M : Model) (t : Table) (wf : WellFormed t) where
               wf .no-alternation c z a d τ υ (ap (shape t) (sym p) ∙ r) g u ∙ free z d υ g u
           go (inr f) = free y a τ f r
 
-      module _ (W U : ℕ → Set) (O : Onward W U) where
+      module _ (W U : ℕ → StateSet) (O : Onward W U) where
         abbrev Goes : Fix → ℕ → Type 0
         Goes σ e = b e ≡ true → Kin σ e → Toward (M .size) σ (pass M t b W e) (pass M t b U e)
 
@@ -170,7 +171,7 @@ module _ (M : Model) (t : Table) (wf : WellFormed t) where
                 O .moved x a σ j (r ∙ ap (λ (h : Fix). fix h a) (k x a τ (inr (named q)) r))
             go (inr d) = same-toward (M .size) σ _ _ (O .kept x d)
 
-        kept-pass : (e : ℕ) → done e ≡ true → Same (M .size) (pass M t b W e) (pass M t b U e)
+        kept-pass : (e : ℕ) → done e ≡ true → SameStates (M .size) (pass M t b W e) (pass M t b U e)
         kept-pass e d = rw (pass-out W e (out e d), pass-out U e (out e d)) (O .kept e d)
 
         goes : (σ : Fix) (e : ℕ) → Goes σ e
@@ -186,7 +187,7 @@ module _ (M : Model) (t : Table) (wf : WellFormed t) where
         pub pass-onward : Onward (pass M t b W) (pass M t b U)
         pass-onward = record { kept = kept-pass; moved = λ e a σ i q. goes σ e i (kin-fix e a σ q) }
 
-      pub onward-join : (W U X : ℕ → Set) → Onward W U → Onward U X → Onward W X
+      pub onward-join : (W U X : ℕ → StateSet) → Onward W U → Onward U X → Onward W X
       onward-join W U X O P =
           record {
             kept = λ e d. same-trans (O .kept e d) (P .kept e d);
@@ -194,7 +195,7 @@ module _ (M : Model) (t : Table) (wf : WellFormed t) where
           }
 
       -- in the direction of the own meanings
-      pub pass-own-onward : (W : ℕ → Set) → Onward W (own M t) → Onward (pass M t b W) (own M t)
+      pub pass-own-onward : (W : ℕ → StateSet) → Onward W (own M t) → Onward (pass M t b W) (own M t)
       pass-own-onward W O =
           let P = pass-onward W (own M t) O in
           record {
@@ -203,20 +204,20 @@ module _ (M : Model) (t : Table) (wf : WellFormed t) where
           }
 
       -- weights
-      unfoldable pub weightOf : Shape → Set → ℕ
+      unfoldable pub weightOf : Shape → StateSet → ℕ
       weightOf (leaf l) A = 0
       weightOf (two o a b) A = 0
       weightOf (step m a) A = 0
       weightOf (fix σ a) A = toward-bounded (M .size) σ .weight A
       weightOf (name x) A = 0
 
-      unfoldable pub weightAt : (ℕ → Set) → ℕ → ℕ
+      unfoldable pub weightAt : (ℕ → StateSet) → ℕ → ℕ
       weightAt W e = cond (b e) (weightOf (shape t e) (W e)) 0
 
-      unfoldable pub weight : (ℕ → Set) → ℕ
+      unfoldable pub weight : (ℕ → StateSet) → ℕ
       weight W = sum (length t) (weightAt W)
 
-      most-of : (v : Shape) (A : Set) → weightOf v A ≤ changesOf (M .size) v
+      most-of : (v : Shape) (A : StateSet) → weightOf v A ≤ changesOf (M .size) v
       unfolding weightOf changesOf
       most-of (leaf l) A = omega arith
       most-of (two o a b) A = omega arith
@@ -224,7 +225,7 @@ module _ (M : Model) (t : Table) (wf : WellFormed t) where
       most-of (fix σ a) A = toward-bounded (M .size) σ .most A
       most-of (name x) A = omega arith
 
-      pub most : (W : ℕ → Set) → weight W ≤ changes M t b
+      pub most : (W : ℕ → StateSet) → weight W ≤ changes M t b
       unfolding weight weightAt changes
       most W = sum-mono (length t) _ _ (λ e l. go e (b e))
         where
@@ -232,7 +233,7 @@ module _ (M : Model) (t : Table) (wf : WellFormed t) where
           go e true = most-of (shape t e) (W e)
           go e false = omega arith
 
-      heavier-of : (v : Shape) (A B : Set) → ((σ : Fix) (a : ℕ) → v ≡ fix σ a → Toward (M .size) σ A B) → weightOf v A ≤ weightOf v B
+      heavier-of : (v : Shape) (A B : StateSet) → ((σ : Fix) (a : ℕ) → v ≡ fix σ a → Toward (M .size) σ A B) → weightOf v A ≤ weightOf v B
       unfolding weightOf
       heavier-of (leaf l) A B h = omega arith
       heavier-of (two o a b) A B h = omega arith
@@ -240,7 +241,7 @@ module _ (M : Model) (t : Table) (wf : WellFormed t) where
       heavier-of (fix σ a) A B h = toward-bounded (M .size) σ .heavier A B (h σ a refl)
       heavier-of (name x) A B h = omega arith
 
-      module _ (W U : ℕ → Set) (O : Onward W U) where
+      module _ (W U : ℕ → StateSet) (O : Onward W U) where
         pub heavier-at : (e : ℕ) → weightAt W e ≤ weightAt U e
         unfolding weightAt
         heavier-at e = go (b e) refl
@@ -258,19 +259,19 @@ module _ (M : Model) (t : Table) (wf : WellFormed t) where
         back-at w e l = sum-back (length t) (weightAt W) (weightAt U) (λ i l. heavier-at i) w e l
 
         -- no fixpoint of the block changes where the weight does not rise
-        still : weight U ≤ weight W → (e a : ℕ) (σ : Fix) → b e ≡ true → shape t e ≡ fix σ a → Same (M .size) (W e) (U e)
+        still : weight U ≤ weight W → (e a : ℕ) (σ : Fix) → b e ≡ true → shape t e ≡ fix σ a → SameStates (M .size) (W e) (U e)
         unfolding weightAt weightOf
         still w e a σ i q =
             toward-both (M .size) σ _ _ (O .moved e a σ i q)
             (toward-bounded (M .size) σ .back _ _ (O .moved e a σ i q) (rw (i, q) at (back-at w e (fix-in t e a σ q))))
 
       -- where the test says that nothing changes, nothing does
-      keeps-of : (v : Shape) (A B : Set) → keepsOf (M .size) v A B ≡ true → (σ : Fix) (a : ℕ) → v ≡ fix σ a → Same (M .size) A B
+      keeps-of : (v : Shape) (A B : StateSet) → keepsOf (M .size) v A B ≡ true → (σ : Fix) (a : ℕ) → v ≡ fix σ a → SameStates (M .size) A B
       unfolding keepsOf
       keeps-of v A B h σ a q s l =
           agree-same (A s) (B s) (every-true (M .size) _ (rw q at h) s l)
 
-      of-keeps : (v : Shape) (A B : Set) → ((σ : Fix) (a : ℕ) → v ≡ fix σ a → Same (M .size) A B) → keepsOf (M .size) v A B ≡ true
+      of-keeps : (v : Shape) (A B : StateSet) → ((σ : Fix) (a : ℕ) → v ≡ fix σ a → SameStates (M .size) A B) → keepsOf (M .size) v A B ≡ true
       unfolding keepsOf
       of-keeps (leaf l) A B h = refl
       of-keeps (two o a b) A B h = refl
@@ -278,15 +279,15 @@ module _ (M : Model) (t : Table) (wf : WellFormed t) where
       of-keeps (fix σ a) A B h = all-every (M .size) _ (λ s l. same-agree (A s) (B s) (h σ a refl s l))
       of-keeps (name x) A B h = refl
 
-      abbrev pub Still : (ℕ → Set) → (ℕ → Set) → Type 0
-      Still W U = (e a : ℕ) (σ : Fix) → b e ≡ true → shape t e ≡ fix σ a → Same (M .size) (W e) (U e)
+      abbrev pub Still : (ℕ → StateSet) → (ℕ → StateSet) → Type 0
+      Still W U = (e a : ℕ) (σ : Fix) → b e ≡ true → shape t e ≡ fix σ a → SameStates (M .size) (W e) (U e)
 
-      keeps-still : (W U : ℕ → Set) → keeps M t b W U ≡ true → Still W U
+      keeps-still : (W U : ℕ → StateSet) → keeps M t b W U ≡ true → Still W U
       unfolding keeps
       keeps-still W U h e a σ i q =
           keeps-of (shape t e) (W e) (U e) (rw i at (every-true (length t) _ h e (fix-in t e a σ q))) σ a q
 
-      still-keeps : (W U : ℕ → Set) → Still W U → keeps M t b W U ≡ true
+      still-keeps : (W U : ℕ → StateSet) → Still W U → keeps M t b W U ≡ true
       unfolding keeps
       still-keeps W U h = all-every (length t) _ (λ e l. go e (b e) refl)
         where
@@ -295,14 +296,14 @@ module _ (M : Model) (t : Table) (wf : WellFormed t) where
           go e false i = refl
 
       -- a pass that changes no fixpoint ends at the own meanings
-      module _ (W : ℕ → Set) (O : Onward W (own M t)) (S : Still W (pass M t b W)) where
+      module _ (W : ℕ → StateSet) (O : Onward W (own M t)) (S : Still W (pass M t b W)) where
         P : Onward (pass M t b W) (own M t)
         P = pass-own-onward W O
 
-        name-still : (e x : ℕ) → b e ≡ true → shape t e ≡ name x → Same (M .size) (W x) (pass M t b W x)
+        name-still : (e x : ℕ) → b e ≡ true → shape t e ≡ name x → SameStates (M .size) (W x) (pass M t b W x)
         name-still e x i q = go (K .names e x i q)
           where
-            go : (b x ≡ true) ⊎ (done x ≡ true) → Same (M .size) (W x) (pass M t b W x)
+            go : (b x ≡ true) ⊎ (done x ≡ true) → SameStates (M .size) (W x) (pass M t b W x)
             go (inl j) = let (τ, a, r) = name-fix t wf e x q in S x a τ j r
             go (inr d) = path-same (sym (pass-out W x (out x d)))
 
@@ -317,25 +318,25 @@ module _ (M : Model) (t : Table) (wf : WellFormed t) where
               names = λ e x i q. ⊎-elim (λ j. inl j) (λ d. inr (P .kept x d)) (K .names e x i q);
             }
 
-      abbrev pub Right : (ℕ → Set) → Type 0
-      Right W = (e : ℕ) → (b e ≡ true) ⊎ (done e ≡ true) → Same (M .size) (W e) (own M t e)
+      abbrev pub Right : (ℕ → StateSet) → Type 0
+      Right W = (e : ℕ) → (b e ≡ true) ⊎ (done e ≡ true) → SameStates (M .size) (W e) (own M t e)
 
-      pub right : (W : ℕ → Set) → Onward W (own M t) → Still W (pass M t b W) → Right (pass M t b W)
+      pub right : (W : ℕ → StateSet) → Onward W (own M t) → Still W (pass M t b W) → Right (pass M t b W)
       right W O S e (inl i) = closes-own M t wf _ _ (closes W O S) e i
       right W O S e (inr d) = pass-own-onward W O .kept e d
 
       -- a pass that changes a fixpoint brings weight
-      pub more-weight : (W : ℕ → Set) → Onward W (pass M t b W) → (Still W (pass M t b W) → ⊥) → weight W < weight (pass M t b W)
+      pub more-weight : (W : ℕ → StateSet) → Onward W (pass M t b W) → (Still W (pass M t b W) → ⊥) → weight W < weight (pass M t b W)
       more-weight W U r = go (decLe (weight (pass M t b W)) (weight W))
         where
           go : Dec (weight (pass M t b W) ≤ weight W) → weight W < weight (pass M t b W)
           go (yes w) = absurd (r (still W _ U w))
           go (no w) = omega arith
 
-      more : (W : ℕ → Set) → Onward W (pass M t b W) → keeps M t b W (pass M t b W) ≡ false → weight W < weight (pass M t b W)
+      more : (W : ℕ → StateSet) → Onward W (pass M t b W) → keeps M t b W (pass M t b W) ≡ false → weight W < weight (pass M t b W)
       more W U r = more-weight W U (λ z. true≢false (sym (still-keeps W _ z) ∙ r))
 
-      rounds-right : (k : ℕ) (W : ℕ → Set) → Onward W (pass M t b W) → Onward W (own M t) → changes M t b < weight W + k → Right (rounds M t b k W)
+      rounds-right : (k : ℕ) (W : ℕ → StateSet) → Onward W (pass M t b W) → Onward W (own M t) → changes M t b < weight W + k → Right (rounds M t b k W)
       unfolding rounds
       rounds-right zero W U O h = absurd (omega (arith, most W))
       rounds-right (suc k) W U O h = go (keeps M t b W (pass M t b W)) refl (rounds-right k (pass M t b W) (pass-onward W _ U) (pass-own-onward W O))
@@ -345,7 +346,7 @@ module _ (M : Model) (t : Table) (wf : WellFormed t) where
           go true r ih = right W O (keeps-still W _ r)
           go false r ih = ih (omega (arith, more W U r))
 
-      passes-few : (k j : ℕ) (W : ℕ → Set) → Onward W (pass M t b W) → changes M t b < weight W + j → passes M t b k W ≤ j
+      passes-few : (k j : ℕ) (W : ℕ → StateSet) → Onward W (pass M t b W) → changes M t b < weight W + j → passes M t b k W ≤ j
       unfolding passes
       passes-few zero j W U h = omega arith
       passes-few (suc k) zero W U h = absurd (omega (arith, most W))
@@ -356,12 +357,12 @@ module _ (M : Model) (t : Table) (wf : WellFormed t) where
           go true r ih = omega arith
           go false r ih = let g = ih (omega (arith, more W U r)) in omega (arith, g)
 
-      begin-done : (W : ℕ → Set) (e : ℕ) → done e ≡ true → begin M t b W e ≡ W e
+      begin-done : (W : ℕ → StateSet) (e : ℕ) → done e ≡ true → begin M t b W e ≡ W e
       unfolding begin
       begin-done W e d = rw (out e d) refl
 
       -- where the iteration begins, every way lies ahead
-      begin-onward : (W U : ℕ → Set) → ((e : ℕ) → done e ≡ true → Same (M .size) (W e) (U e)) → Onward (begin M t b W) U
+      begin-onward : (W U : ℕ → StateSet) → ((e : ℕ) → done e ≡ true → SameStates (M .size) (W e) (U e)) → Onward (begin M t b W) U
       unfolding begin startOf
       begin-onward W U h =
           record {
@@ -369,16 +370,16 @@ module _ (M : Model) (t : Table) (wf : WellFormed t) where
             moved = λ e a σ i q. rw (i, q) (start-first (M .size) σ (U e));
           }
 
-      begun : (W : ℕ → Set) → Onward (begin M t b W) (pass M t b (begin M t b W))
+      begun : (W : ℕ → StateSet) → Onward (begin M t b W) (pass M t b (begin M t b W))
       begun W = begin-onward W _ (λ e d. path-same (sym (pass-out _ e (out e d) ∙ begin-done W e d)))
 
       -- the block is settled, where more passes are allowed than its fixpoints' sets can change
-      pub solve-right : (k : ℕ) → changes M t b < k → (W : ℕ → Set) → ((e : ℕ) → done e ≡ true → Same (M .size) (W e) (own M t e)) → Right (solve M t b k W)
+      pub solve-right : (k : ℕ) → changes M t b < k → (W : ℕ → StateSet) → ((e : ℕ) → done e ≡ true → SameStates (M .size) (W e) (own M t e)) → Right (solve M t b k W)
       unfolding solve
       solve-right k l W h = rounds-right k (begin M t b W) (begun W) (begin-onward W (own M t) h) (omega arith)
 
       -- and no more are made than that, and one
-      pub solve-passes : (k : ℕ) (W : ℕ → Set) → passes M t b k (begin M t b W) ≤ suc (changes M t b)
+      pub solve-passes : (k : ℕ) (W : ℕ → StateSet) → passes M t b k (begin M t b W) ≤ suc (changes M t b)
       solve-passes k W = passes-few k (suc (changes M t b)) (begin M t b W) (begun W) (omega arith)
 
     pub changes-room : changes M t b ≤ room M t
@@ -390,21 +391,21 @@ module _ (M : Model) (t : Table) (wf : WellFormed t) where
         go false n = omega arith
 
     -- in place: the sets after the entries below p have had their turn in a pass from W
-    pub record Passing (W : ℕ → Set) (p : ℕ) (X : ℕ → Set) : Type 0 where
-      pub before : (e : ℕ) → e < p → Same (M .size) (X e) (pass M t b W e)
-      pub after : (e : ℕ) → p ≤ e → Same (M .size) (X e) (W e)
+    pub record Passing (W : ℕ → StateSet) (p : ℕ) (X : ℕ → StateSet) : Type 0 where
+      pub before : (e : ℕ) → e < p → SameStates (M .size) (X e) (pass M t b W e)
+      pub after : (e : ℕ) → p ≤ e → SameStates (M .size) (X e) (W e)
 
-    pub passing-none : (W : ℕ → Set) → Passing W 0 W
+    pub passing-none : (W : ℕ → StateSet) → Passing W 0 W
     passing-none W = record { before = λ e l. absurd (omega arith); after = λ e l s m. refl }
 
     -- the next entry is formed of the sets as they are
-    pub passing-formed : (W X : ℕ → Set) (p : ℕ) → Passing W p X → b p ≡ true → Same (M .size) (formed M X X (shape t p)) (pass M t b W p)
+    pub passing-formed : (W X : ℕ → StateSet) (p : ℕ) → Passing W p X → b p ≡ true → SameStates (M .size) (formed M X X (shape t p)) (pass M t b W p)
     passing-formed W X p K i =
         same-trans (formed-same M _ _ _ _ (shape t p) (λ c o. K .before c (wf .operands-below p c o))
         (λ x q. K .after x (let l = wf .names-above p x q .0 in omega (arith, l))))
         (path-same (sym (pass-in W p i refl)))
 
-    passing-on : (W X Y : ℕ → Set) (p : ℕ) → Passing W p X → ((e : ℕ) → (e ≡ p → ⊥) → Same (M .size) (Y e) (X e)) → Same (M .size) (Y p) (pass M t b W p)
+    passing-on : (W X Y : ℕ → StateSet) (p : ℕ) → Passing W p X → ((e : ℕ) → (e ≡ p → ⊥) → SameStates (M .size) (Y e) (X e)) → SameStates (M .size) (Y p) (pass M t b W p)
         → Passing W (suc p) Y
     passing-on W X Y p K h g =
         record {
@@ -412,14 +413,14 @@ module _ (M : Model) (t : Table) (wf : WellFormed t) where
           after = λ e l. same-trans (h e (λ q. omega arith)) (K .after e (omega arith));
         }
       where
-        go : (e : ℕ) → e < suc p → Dec (e ≡ p) → Same (M .size) (Y e) (pass M t b W e)
-        go e l (yes q) = subst⁻¹ (λ (z : ℕ). Same (M .size) (Y z) (pass M t b W z)) q g
+        go : (e : ℕ) → e < suc p → Dec (e ≡ p) → SameStates (M .size) (Y e) (pass M t b W e)
+        go e l (yes q) = subst⁻¹ (λ (z : ℕ). SameStates (M .size) (Y z) (pass M t b W z)) q g
         go e l (no ne) = same-trans (h e ne) (K .before e (omega arith))
 
-    pub passing-in : (W X Y : ℕ → Set) (p : ℕ) → Passing W p X → b p ≡ true → ((e : ℕ) → (e ≡ p → ⊥) → Same (M .size) (Y e) (X e))
-        → Same (M .size) (Y p) (formed M X X (shape t p)) → Passing W (suc p) Y
+    pub passing-in : (W X Y : ℕ → StateSet) (p : ℕ) → Passing W p X → b p ≡ true → ((e : ℕ) → (e ≡ p → ⊥) → SameStates (M .size) (Y e) (X e))
+        → SameStates (M .size) (Y p) (formed M X X (shape t p)) → Passing W (suc p) Y
     passing-in W X Y p K i h g = passing-on W X Y p K h (same-trans g (passing-formed W X p K i))
 
-    pub passing-out : (W X : ℕ → Set) (p : ℕ) → Passing W p X → b p ≡ false → Passing W (suc p) X
+    pub passing-out : (W X : ℕ → StateSet) (p : ℕ) → Passing W p X → b p ≡ false → Passing W (suc p) X
     passing-out W X p K i =
         passing-on W X X p K (λ e ne s m. refl) (same-trans (K .after p (omega arith)) (path-same (sym (pass-out W p i))))

@@ -1,5 +1,5 @@
 -- a well-formed claim in plain numbers: kinds, As and Bs in a list each, and its entries' shapes by their kinds
-use mathlib.Core.Path.{_≡_, refl, ap, _∙_, sym, subst⁻¹}
+use mathlib.Core.Path.{_≡_, refl, ap, _∙_, sym}
 use mathlib.Core.Logic.{inl, inr, _≢_}
 use mathlib.Core.List.{List}
 use Prim.Native.Nat.{ℕ, zero, suc, _+_, _<_, _≤_}
@@ -11,8 +11,8 @@ use Rattle.verdict.specs.Lists.{valuesFrom}
 use Rattle.formula.specs.Table.{Table}
 use Rattle.formula.specs.Plain.{plainEntry, tableOf, tableOf-length, tableOf-entry}
 use Rattle.formula.specs.Shape.{Shape, leaf, two, step, fix, name, Leaf, never, always, letter, negated, Two, or, and, Step, diamond, box, Fix, mu, nu, shapeOf, shape}
-use Rattle.formula.specs.TableLaws.{operand-below}
-use Rattle.formula.specs.Formed.{Formed}
+use Rattle.conditions.specs.WellFormedLaws.{operand-below}
+use Rattle.conditions.specs.Formed.{Formed}
 
 valuesFrom-same : {A : Type 0} (f g : ℕ → A) (k e : ℕ) → ((i : ℕ) → i < e + k → f i ≡ g i) → valuesFrom f e k ≡ valuesFrom g e k
 unfolding valuesFrom

@@ -1,14 +1,14 @@
 -- what entry evaluation and fixpoint iteration are given and leave: what is settled is right, and more becomes so
-use mathlib.Core.Path.{_≡_, refl, sym, ap, _∙_, subst, subst⁻¹}
+use mathlib.Core.Path.{_≡_, refl, sym, ap, _∙_, subst⁻¹}
 use mathlib.Core.List.{List}
-use mathlib.Core.Bool.{Bool, true, false, true≢false, false≢true}
+use mathlib.Core.Bool.{true, false}
 use Prim.Native.Nat.{ℕ, _+_, _<_, _≤_}
 use native.Mathlib.Omega.{arith}
 use native.Mathlib.Decide.{ℕ-discrete}
 use lib.ListN.{length, getD}
 use borrow.Author.Tests.{le-ltb}
-use Rattle.formula.specs.States.{Same}
-use Rattle.formula.specs.Meaning.{own}
+use Rattle.meaning.specs.States.{SameStates}
+use Rattle.meaning.specs.Meaning.{own}
 use Rattle.states.specs.StateWords.{setsOf}
 use Rattle.states.specs.PlainModel.{rowModel}
 use Rattle.evaluator.specs.Top.{alone}
@@ -21,7 +21,7 @@ module _ (ks xs ys masks rows : List ℕ) (size : ℕ) where
   pub record Standing (ws ds : List ℕ) : Type 0 where
     pub ready : Ready ks xs ys rows size ws
     pub done-there : length ds ≡ 256
-    pub good : (e : ℕ) → doneOf ds e ≡ true → Same size (setsOf ws e) (own (rowModel masks rows size) (tableFrom ks xs ys) e)
+    pub good : (e : ℕ) → doneOf ds e ≡ true → SameStates size (setsOf ws e) (own (rowModel masks rows size) (tableFrom ks xs ys) e)
 
   -- what is settled stays so, and no entry above e becomes so
   pub record Went (e : ℕ) (ws ds vs es : List ℕ) : Type 0 where

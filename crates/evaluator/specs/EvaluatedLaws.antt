@@ -1,7 +1,7 @@
 -- an entry is settled once its operands are, a fixpoint once its block is solved, and in the end every entry
 use mathlib.Core.Path.{_≡_, refl, sym, ap, _∙_, subst, subst⁻¹}
 use mathlib.Core.List.{List, _++_}
-use mathlib.Core.Bool.{Bool, true, false, not, cond, _||_, true≢false, false≢true}
+use mathlib.Core.Bool.{Bool, true, false, not, cond, false≢true}
 use mathlib.Core.Logic.{_⊎_, inl, inr, ⊎-elim}
 use Prim.Native.Nat.{ℕ, _+_, _<_, _≤_}
 use native.Mathlib.Omega.{arith}
@@ -9,36 +9,34 @@ use native.Mathlib.Decide.{decLt, ℕ-discrete}
 use lib.Dec.{eqb, ltb}
 use lib.ListN.{length, getD, set, take, drop, replicate, length-set, length-replicate}
 use lib.Seq.{getD-set-same, getD-set-other, ext-getD}
-use borrow.Author.Tests.{eq-eqb, ne-eqb, eqb-true, ltb-true, lt-ltb, le-ltb}
+use borrow.Author.Tests.{eq-eqb, ne-eqb, eqb-true, lt-ltb, le-ltb}
 use Rattle.verdict.specs.Lists.{written}
 use Rattle.formula.specs.Table.{Table}
 use Rattle.formula.specs.Plain.{tableOf, tableOf-length}
-use Rattle.formula.specs.Shape.{Shape, leaf, two, step, fix, name, Two, shape, Operand}
-use Rattle.formula.specs.Free.{named}
-use Rattle.formula.specs.WellFormed.{WellFormed}
-use Rattle.formula.specs.TableLaws.{operand-below}
-use Rattle.formula.specs.States.{Model, Same}
-use Rattle.formula.specs.StateLaws.{same-sym, same-trans}
-use Rattle.formula.specs.Meaning.{own}
-use Rattle.formula.specs.Bits.{bit, no-bit}
-use Rattle.states.specs.Words.{word, words}
+use Rattle.formula.specs.Shape.{Shape, two, step, name, Two, shape, Operand}
+use Rattle.conditions.specs.Free.{named}
+use Rattle.conditions.specs.WellFormedLaws.{operand-below}
+use Rattle.meaning.specs.States.{Model, SameStates}
+use Rattle.meaning.specs.StateLaws.{same-sym, same-trans}
+use Rattle.meaning.specs.Meaning.{own}
+use Rattle.bits.specs.Bits.{bit, no-bit}
+use Rattle.states.specs.Words.{words}
 use Rattle.states.specs.WordLaws.{word-inside, word-past, words-length, words-at}
 use Rattle.states.specs.StateWords.{Inside, setsOf, by-bits}
 use Rattle.states.specs.PlainModel.{plainModel, wordsIn, rowModel}
 use Rattle.evaluator.specs.Settled.{formed}
 use Rattle.evaluator.specs.BlockLaws.{formed-own, formed-same, Block}
-use Rattle.evaluator.specs.Top.{top, alone}
+use Rattle.evaluator.specs.Top.{alone}
 use Rattle.evaluator.specs.TopLaws.{alone-none}
-use Rattle.evaluator.specs.Strategy.{reach}
 use Rattle.evaluator.specs.Reach.{reach-self, reach-small, reach-block, operand-alone, rest-block}
-use Rattle.evaluator.specs.Claim.{tableFrom, Claim, Given, first-entries, claim-length, leaf-at, two-at, step-at, fix-at, name-at}
-use Rattle.evaluator.specs.Ready.{Ready, ready-again, formedWord}
+use Rattle.evaluator.specs.Claim.{tableFrom, Claim, Given, first-entries, claim-length, leaf-at, two-at, step-at}
+use Rattle.evaluator.specs.Ready.{ready-again, formedWord}
 use Rattle.states.specs.Fill.{Filled, filled-keep, filled-set, zeros-at}
 use Rattle.evaluator.specs.Pass.{marksOf}
 use Rattle.evaluator.specs.Solve.{Solved}
 use Rattle.evaluator.specs.Tops.{Tops}
 use Rattle.evaluator.specs.Marks.{doneOf, Reached}
-use Rattle.evaluator.specs.Evaluated.{Standing, Went, went-on, Evaluated, Swept, Isolated}
+use Rattle.evaluator.specs.Evaluated.{Standing, went-on, Evaluated, Isolated}
 
 -- the tops tell which entries have no free name
 module _ (ks xs ys ts : List ℕ) (T : Tops ks xs ys ts) (e : ℕ) (l : e < length ks) where
@@ -103,7 +101,7 @@ module _ (ks xs ys masks rows : List ℕ) (size : ℕ) where
         done-away : (c : ℕ) → (c ≡ e → ⊥) → getD es c 0 ≡ getD ds c 0
         done-away c n = rw q (getD-set-other ds e c 1 0 n)
 
-        formed-right : Same size (setsOf vs e) (own M t e)
+        formed-right : SameStates size (setsOf vs e) (own M t e)
         unfolding formedWord
         formed-right =
             same-trans (λ s h. ap (λ (w : ℕ). bit w s) at-e ∙ word-inside size _ s h)
@@ -133,8 +131,8 @@ module _ (ks xs ys masks rows : List ℕ) (size : ℕ) where
               settled = λ _. ap (ltb 0) done-e;
             }
           where
-            good : (c : ℕ) → doneOf es c ≡ true → Dec (c ≡ e) → Same size (setsOf vs c) (own M t c)
-            good c d (yes r) = subst⁻¹ (λ (z : ℕ). Same size (setsOf vs z) (own M t z)) r formed-right
+            good : (c : ℕ) → doneOf es c ≡ true → Dec (c ≡ e) → SameStates size (setsOf vs c) (own M t c)
+            good c d (yes r) = subst⁻¹ (λ (z : ℕ). SameStates size (setsOf vs z) (own M t z)) r formed-right
             good c d (no n) = rw (away c n) (S .good c (rw (done-away c n) at d))
 
             more : (c : ℕ) → doneOf ds c ≡ true → Dec (c ≡ e) → doneOf es c ≡ true

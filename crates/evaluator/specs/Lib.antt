@@ -1,4 +1,3 @@
--- words by their bits, and models in plain numbers
 -- evaluation in few passes, and that it is each entry's own meaning
 pub mod TowardLaws
 pub mod Settled
@@ -8,8 +7,7 @@ pub mod LoopLaws
 pub mod Top
 pub mod TopLaws
 pub mod Reach
-pub mod Strategy
-pub mod StrategyLaws
+pub mod Spread
 -- the code: a claim in plain numbers, and what each function makes of its words
 pub mod Claim
 pub mod Ready

@@ -2,17 +2,16 @@
 use mathlib.Core.Path.{_≡_, refl, sym, ap, _∙_, subst}
 use mathlib.Core.List.{List}
 use mathlib.Core.Bool.{Bool, true, false, not, _||_, _&&_, cond}
-use mathlib.Core.Logic.{_⊎_, inl, inr}
-use Prim.Native.Nat.{ℕ, zero, suc, _+_, _<_, _≤_}
+use Prim.Native.Nat.{ℕ, suc, _+_, _<_}
 use native.Mathlib.Omega.{arith}
 use native.Mathlib.Decide.{decLt, ℕ-discrete}
 use native.Mathlib.Numerals.{add-one}
 use lib.Dec.{eqb, ltb}
 use lib.ListN.{length, getD, set, replicate, length-set, length-replicate}
 use lib.Seq.{getD-set-same, getD-set-other}
-use borrow.Author.Tests.{eq-eqb, ne-eqb, lt-ltb, le-ltb, eqb-true}
-use Rattle.formula.specs.Shape.{Shape, leaf, two, step, fix, name, shape}
-use Rattle.evaluator.specs.Strategy.{isOperand, grow, spread, reach}
+use borrow.Author.Tests.{eq-eqb, ne-eqb, lt-ltb, le-ltb}
+use Rattle.formula.specs.Shape.{Shape, two, step, fix, shape}
+use Rattle.evaluator.specs.Spread.{isOperand, grow, spread, reach}
 use Rattle.evaluator.specs.Claim.{tableFrom, Claim, leaf-at, two-at, step-at, fix-at, name-at}
 use Rattle.states.specs.Fill.{zeros-at}
 use Rattle.evaluator.specs.Pass.{marksOf}

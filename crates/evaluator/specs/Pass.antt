@@ -8,7 +8,7 @@ use lib.Dec.{eqb}
 use lib.ListN.{length, getD, set}
 use borrow.Author.Tests.{eq-eqb, ne-eqb, eqb-true, eqb-false}
 use Rattle.formula.specs.Shape.{nu}
-use Rattle.formula.specs.States.{start}
+use Rattle.meaning.specs.States.{start}
 use Rattle.states.specs.Words.{word}
 use Rattle.states.specs.StateWords.{setsOf}
 use Rattle.states.specs.PlainModel.{rowModel}

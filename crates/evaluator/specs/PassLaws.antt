@@ -1,26 +1,22 @@
 -- a pass in place is the pass of the theory, and what it tells is whether a fixpoint's set changed
-use mathlib.Core.Path.{_≡_, refl, sym, ap, _∙_, subst, subst⁻¹}
+use mathlib.Core.Path.{_≡_, refl, sym, ap, _∙_, subst}
 use mathlib.Core.List.{List}
-use mathlib.Core.Bool.{Bool, true, false, not, true≢false, false≢true}
-use mathlib.Core.Logic.{_⊎_, inl, inr}
+use mathlib.Core.Bool.{Bool, true, false, true≢false, false≢true}
 use Prim.Native.Nat.{ℕ, _+_, _<_, _≤_}
 use native.Mathlib.Omega.{arith}
-use native.Mathlib.Decide.{decLt, decLe, ℕ-discrete}
-use native.Mathlib.Numerals.{add-one}
-use lib.Dec.{eqb}
-use lib.ListN.{length, getD, set, List·getD-eq-default}
+use native.Mathlib.Decide.{decLt, ℕ-discrete}
+use lib.ListN.{length, getD, List·getD-eq-default}
 use lib.Seq.{getD-set-other}
-use borrow.Author.Tests.{eq-eqb, ne-eqb, not-true, not-false, eqb-true, eqb-false}
+use borrow.Author.Tests.{not-true, not-false, eqb-true, eqb-false}
 use Rattle.formula.specs.Table.{Table}
-use Rattle.formula.specs.Shape.{Shape, leaf, two, step, fix, name, never, Fix, shape}
-use Rattle.formula.specs.WellFormed.{WellFormed}
+use Rattle.formula.specs.Shape.{fix, Fix, shape}
+use Rattle.conditions.specs.WellFormed.{WellFormed}
 use Rattle.formula.specs.TableLaws.{past-end, fix-in}
-use Rattle.formula.specs.States.{Model, Set, Same, leafSet}
-use Rattle.formula.specs.StateLaws.{same-sym, same-trans, path-same}
-use Rattle.formula.specs.Bits.{bit, no-bit}
+use Rattle.meaning.specs.States.{Model, StateSet, SameStates, leafSet}
+use Rattle.bits.specs.Bits.{bit, no-bit}
 use Rattle.states.specs.Words.{word}
 use Rattle.states.specs.WordLaws.{word-inside, word-past}
-use Rattle.states.specs.StateWords.{Inside, setsOf, by-bits, word-same}
+use Rattle.states.specs.StateWords.{setsOf, by-bits, word-same}
 use Rattle.states.specs.PlainModel.{rowModel}
 use Rattle.evaluator.specs.Settled.{formed}
 use Rattle.evaluator.specs.Block.{pass}
@@ -96,7 +92,7 @@ module _ {ks xs ys rows : List ℕ} {size : ℕ} {ws : List ℕ} (R : Ready ks x
     stays-next : p < length ks → marksOf ms p ≡ false → getD vs p 0 ≡ next p
     stays-next l i =
         F .above p (omega arith)
-        ∙ by-bits size _ _ (λ s h. sym (ap (λ (A : Set). A s) (pass-out M t wf (marksOf ms) (setsOf ws) p i))) (λ s h. R .words-inside p s l h)
+        ∙ by-bits size _ _ (λ s h. sym (ap (λ (A : StateSet). A s) (pass-out M t wf (marksOf ms) (setsOf ws) p i))) (λ s h. R .words-inside p s l h)
 
   module _ {p : ℕ} {vs : List ℕ} {changed : Bool} (P : InPass p vs changed) (l : p < length ks) (us : List ℕ) (r : Bool)
       (N : Visited ks xs ys masks rows ms size p vs us r) where
@@ -156,14 +152,14 @@ module _ {ks xs ys rows : List ℕ} {size : ℕ} {ws : List ℕ} (R : Ready ks x
     past-next : (e : ℕ) → length ks ≤ e → (i : Bool) → marksOf ms e ≡ i → (s : ℕ) → pass M t (marksOf ms) (setsOf ws) e s ≡ false
     unfolding formed leafSet
     past-next e h true i s =
-        ap (λ (A : Set). A s) (pass-in M t wf (marksOf ms) (setsOf ws) e i (past-end t e (omega (arith, claim-length ks xs ys))))
-    past-next e h false i s = ap (λ (A : Set). A s) (pass-out M t wf (marksOf ms) (setsOf ws) e i) ∙ past e h ws (R .words-there) s
+        ap (λ (A : StateSet). A s) (pass-in M t wf (marksOf ms) (setsOf ws) e i (past-end t e (omega (arith, claim-length ks xs ys))))
+    past-next e h false i s = ap (λ (A : StateSet). A s) (pass-out M t wf (marksOf ms) (setsOf ws) e i) ∙ past e h ws (R .words-there) s
 
     module _ (done : ℕ → Bool) (K : Block t done (marksOf ms)) where
       pub pass-alike : Alike M t wf (marksOf ms) done K (setsOf vs) (pass M t (marksOf ms) (setsOf ws))
       pass-alike e = go (decLt e (length ks))
         where
-          go : Dec (e < length ks) → Same size (setsOf vs e) (pass M t (marksOf ms) (setsOf ws) e)
+          go : Dec (e < length ks) → SameStates size (setsOf vs e) (pass M t (marksOf ms) (setsOf ws) e)
           go (yes h) = passing (P .filled) .before e h
           go (no h) = λ s l. past e (omega arith) vs (P .filled .long ∙ R .words-there) s ∙ sym (past-next e (omega arith) (marksOf ms e) refl s)
 

@@ -1,22 +1,22 @@
 -- what is reached from a fixpoint without free names is a block
-use mathlib.Core.Path.{_≡_, refl, sym, _∙_, ap, subst, subst⁻¹}
+use mathlib.Core.Path.{_≡_, refl, sym, _∙_, ap, subst}
 use mathlib.Core.Bool.{Bool, true, false, not, _&&_, _||_, cond, true≢false, false≢true, and-eq-true-iff}
 use mathlib.Core.Logic.{_⊎_, inl, inr, ⊎-elim}
-use Prim.Native.Nat.{ℕ, zero, suc, _+_, _<_, _≤_}
+use Prim.Native.Nat.{ℕ, zero, suc, _<_, _≤_}
 use native.Mathlib.Omega.{arith}
 use native.Mathlib.Decide.{ℕ-discrete}
 use lib.Dec.{eqb}
 use lib.ListN.{length}
-use borrow.Author.Tests.{eqb-true, eq-eqb, ne-eqb, not-true}
-use Rattle.formula.specs.Truth.{or-true, true-or}
+use borrow.Author.Tests.{eqb-true, eq-eqb}
+use Rattle.meaning.specs.Truth.{or-true, true-or}
 use Rattle.formula.specs.Table.{Table}
 use Rattle.formula.specs.Shape.{Shape, leaf, two, step, fix, name, shape, Operand, Fixpoint}
-use Rattle.formula.specs.Free.{Free, named, inside}
-use Rattle.formula.specs.WellFormed.{WellFormed}
+use Rattle.conditions.specs.Free.{Free, named, inside}
+use Rattle.conditions.specs.WellFormed.{WellFormed}
 use Rattle.formula.specs.TableLaws.{in-table}
 use Rattle.evaluator.specs.Top.{alone}
 use Rattle.evaluator.specs.TopLaws.{alone-none, not-alone}
-use Rattle.evaluator.specs.Strategy.{isOperand, grow, spread, reach}
+use Rattle.evaluator.specs.Spread.{isOperand, grow, spread, reach}
 use Rattle.evaluator.specs.BlockLaws.{Block}
 
 pub not-so : (a : Bool) → not a ≡ true → a ≡ false

@@ -1,17 +1,17 @@
 -- what one step of the evaluator is given, and the word that it makes
 use mathlib.Core.Path.{_≡_, refl, sym, ap, _∙_}
 use mathlib.Core.List.{List, [], _∷_}
-use mathlib.Core.Bool.{Bool, true, false, not, _&&_, _||_}
+use mathlib.Core.Bool.{not, _&&_, _||_}
 use Prim.Native.Nat.{ℕ, _<_, _≤_}
 use native.Mathlib.Omega.{arith}
 use native.Mathlib.Decide.{decLt, ℕ-discrete}
 use lib.Dec.{eqb}
 use lib.Bits.{bitAnd, bitOr}
 use lib.ListN.{length, getD}
-use Rattle.formula.specs.Shape.{Shape, leaf, two, step, fix, name, Leaf, never, always, letter, negated, Two, or, and, Step, diamond, box, Fix, nu, shape}
-use Rattle.formula.specs.Truth.{some, every}
-use Rattle.formula.specs.States.{Model, Set, leafSet, twoSet, stepSet, start}
-use Rattle.formula.specs.Bits.{digit, bit, or-bit, and-bit, no-bit}
+use Rattle.formula.specs.Shape.{Shape, leaf, two, step, fix, name, Leaf, never, always, letter, negated, or, and, diamond, box, nu, shape}
+use Rattle.meaning.specs.Truth.{some, every}
+use Rattle.meaning.specs.States.{leafSet, twoSet, stepSet, start}
+use Rattle.bits.specs.Bits.{digit, bit, or-bit, and-bit, no-bit}
 use Rattle.states.specs.Words.{word}
 use Rattle.states.specs.BitLaws.{zero-digit}
 use Rattle.states.specs.StateWords.{Inside, setsOf, by-bits, word-same}

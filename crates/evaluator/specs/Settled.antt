@@ -1,26 +1,27 @@
 -- sets that obey the closure laws, with each mu's inside and each nu's around its own meaning, are the own meanings
 use mathlib.Core.Path.{_≡_, refl, sym, _∙_, ap, subst⁻¹}
-use mathlib.Core.Logic.{_⊎_, inl, inr, ⊎-elim}
+use mathlib.Core.Logic.{_⊎_, inl, inr}
 use Prim.Native.Nat.{ℕ, _<_}
 use native.Mathlib.Omega.{arith}
 use native.Mathlib.Decide.{decLt}
 use lib.ListN.{length}
 use Rattle.formula.specs.Table.{Table}
 use Rattle.formula.specs.Shape.{Shape, leaf, two, step, fix, name, never, Fix, mu, nu, shape, Operand}
-use Rattle.formula.specs.Free.{Free, named, inside}
-use Rattle.formula.specs.WellFormed.{WellFormed}
-use Rattle.formula.specs.States.{Model, Set, Same, leafSet, twoSet, stepSet}
-use Rattle.formula.specs.StateLaws.{same-sym, same-trans, path-same, Toward, toward-both}
+use Rattle.conditions.specs.Free.{Free, named, inside}
+use Rattle.conditions.specs.WellFormed.{WellFormed}
+use Rattle.meaning.specs.States.{Model, StateSet, SameStates, leafSet, twoSet, stepSet}
+use Rattle.meaning.specs.StateLaws.{same-sym, same-trans, path-same, Toward, toward-both}
 use Rattle.evaluator.specs.TowardLaws.{toward-refl, toward-trans, same-toward, toward-two, toward-step, toward-meaning}
 use Rattle.formula.specs.Below.{by-smaller, by-larger}
-use Rattle.formula.specs.Meaning.{Env, put, clause, meaning, owns, own}
-use Rattle.formula.specs.MeaningLaws.{put-at, meaning-at}
-use Rattle.formula.specs.FixLaws.{fix-first}
-use Rattle.formula.specs.TableLaws.{past-end, fix-in, operand-below, free-fix, free-in}
-use Rattle.formula.specs.OwnLaws.{closed, owns-own, own-law}
+use Rattle.meaning.specs.Meaning.{Env, put, clause, meaning, owns, own}
+use Rattle.meaning.specs.MeaningLaws.{put-at, meaning-at}
+use Rattle.meaning.specs.FixLaws.{fix-first}
+use Rattle.formula.specs.TableLaws.{past-end, fix-in}
+use Rattle.conditions.specs.WellFormedLaws.{free-in}
+use Rattle.meaning.specs.OwnLaws.{closed, owns-own, own-law}
 
 -- the set of an entry of a shape: names read W, operands f
-unfoldable pub formed : Model → (ℕ → Set) → (ℕ → Set) → Shape → Set
+unfoldable pub formed : Model → (ℕ → StateSet) → (ℕ → StateSet) → Shape → StateSet
 formed M W f (leaf l) = leafSet M l
 formed M W f (two o a b) = twoSet o (f a) (f b)
 formed M W f (step m a) = stepSet M m (f a)
@@ -29,13 +30,13 @@ formed M W f (name x) = W x
 
 -- of the entries in B: each set is formed of others, a mu's lies inside its own meaning and a nu's around it,
 -- and what they look at is in B or is the own meaning already
-pub record Closes (M : Model) (t : Table) (B : ℕ → Type 0) (W : ℕ → Set) : Type 0 where
-  pub laws : (e : ℕ) → B e → Same (M .size) (W e) (formed M W W (shape t e))
+pub record Closes (M : Model) (t : Table) (B : ℕ → Type 0) (W : ℕ → StateSet) : Type 0 where
+  pub laws : (e : ℕ) → B e → SameStates (M .size) (W e) (formed M W W (shape t e))
   pub toward : (e a : ℕ) (σ : Fix) → B e → shape t e ≡ fix σ a → Toward (M .size) σ (W e) (own M t e)
-  pub operands : (e c : ℕ) → B e → Operand (shape t e) c → B c ⊎ Same (M .size) (W c) (own M t c)
-  pub names : (e x : ℕ) → B e → shape t e ≡ name x → B x ⊎ Same (M .size) (W x) (own M t x)
+  pub operands : (e c : ℕ) → B e → Operand (shape t e) c → B c ⊎ SameStates (M .size) (W c) (own M t c)
+  pub names : (e x : ℕ) → B e → shape t e ≡ name x → B x ⊎ SameStates (M .size) (W x) (own M t x)
 
-other-way : (n : ℕ) (σ τ : Fix) (A B : Set) → (σ ≡ τ → ⊥) → Toward n τ A B → Toward n σ B A
+other-way : (n : ℕ) (σ τ : Fix) (A B : StateSet) → (σ ≡ τ → ⊥) → Toward n τ A B → Toward n σ B A
 other-way n mu mu A B k h = absurd (k refl)
 other-way n mu nu A B k h = h
 other-way n nu mu A B k h = h
@@ -47,11 +48,11 @@ alike mu nu = no (λ p. let z : _≡_ {A = ℕ} 0 1 = cc in omega arith)
 alike nu mu = no (λ p. let z : _≡_ {A = ℕ} 0 1 = cc in omega arith)
 alike nu nu = yes refl
 
-module _ (M : Model) (t : Table) (wf : WellFormed t) (B : ℕ → Type 0) (W : ℕ → Set) (C : Closes M t B W) where
-  law-at : (e : ℕ) {v : Shape} → shape t e ≡ v → B e → Same (M .size) (W e) (formed M W W v)
+module _ (M : Model) (t : Table) (wf : WellFormed t) (B : ℕ → Type 0) (W : ℕ → StateSet) (C : Closes M t B W) where
+  law-at : (e : ℕ) {v : Shape} → shape t e ≡ v → B e → SameStates (M .size) (W e) (formed M W W v)
   law-at e q i = same-trans (C .laws e i) (path-same (ap (formed M W W) q))
 
-  operand-at : (e c : ℕ) {v : Shape} → shape t e ≡ v → B e → Operand v c → B c ⊎ Same (M .size) (W c) (own M t c)
+  operand-at : (e c : ℕ) {v : Shape} → shape t e ≡ v → B e → Operand v c → B c ⊎ SameStates (M .size) (W c) (own M t c)
   operand-at e c q i o = C .operands e c i (subst⁻¹ (λ (u : Shape). Operand u c) q o)
 
   module _ (σ : Fix) where
@@ -61,15 +62,15 @@ module _ (M : Model) (t : Table) (wf : WellFormed t) (B : ℕ → Type 0) (W : �
         (ρ : Env) → ((x : ℕ) → Free t e x → Toward (M .size) σ (ρ x) (owns M t (length t) x))
         → ((x : ℕ) → Free t e x → B x → Toward (M .size) σ (ρ x) (W x)) → Toward (M .size) σ (meaning M t e ρ) (W e)
 
-    known : (e : ℕ) → Same (M .size) (W e) (own M t e) → Side e
+    known : (e : ℕ) → SameStates (M .size) (W e) (own M t e) → Side e
     unfolding own
     known e p ρ h g = toward-trans (M .size) σ _ _ _ (toward-meaning M t wf σ e ρ _ h) (same-toward (M .size) σ _ _ (same-sym p))
 
-    either : (e : ℕ) → B e ⊎ Same (M .size) (W e) (own M t e) → (B e → Side e) → Side e
+    either : (e : ℕ) → B e ⊎ SameStates (M .size) (W e) (own M t e) → (B e → Side e) → Side e
     either e (inl i) ih = ih i
     either e (inr p) ih = known e p
 
-    by-law : (e : ℕ) {v : Shape} → shape t e ≡ v → B e → (A : Set) → Toward (M .size) σ A (formed M W W v) → Toward (M .size) σ A (W e)
+    by-law : (e : ℕ) {v : Shape} → shape t e ≡ v → B e → (A : StateSet) → Toward (M .size) σ A (formed M W W v) → Toward (M .size) σ A (W e)
     by-law e q i A h = toward-trans (M .size) σ _ _ _ h (same-toward (M .size) σ _ _ (same-sym (law-at e q i)))
 
     side-step : (e : ℕ) (v : Shape) → shape t e ≡ v → B e → ((c : ℕ) → Operand v c → B c → Side c) → Side e
@@ -101,7 +102,7 @@ module _ (M : Model) (t : Table) (wf : WellFormed t) (B : ℕ → Type 0) (W : �
     side-step e (name x) q i ih ρ h g =
         by-law e q i _ (rw (meaning-at M t wf e q ρ) (go (C .names e x i q)))
       where
-        go : B x ⊎ Same (M .size) (W x) (own M t x) → Toward (M .size) σ (ρ x) (W x)
+        go : B x ⊎ SameStates (M .size) (W x) (own M t x) → Toward (M .size) σ (ρ x) (W x)
         go (inl j) = g x (named q) j
         go (inr p) =
             toward-trans (M .size) σ _ _ _ (h x (named q))
@@ -117,10 +118,10 @@ module _ (M : Model) (t : Table) (wf : WellFormed t) (B : ℕ → Type 0) (W : �
         (λ x f j. let m = free-in t wf f in
         toward-trans (M .size) σ _ _ _ (same-toward (M .size) σ _ _ (owns-own M t wf x m)) (ih x (wf .free-above e x f) m j)))
 
-  pub closes-own : (e : ℕ) → B e → Same (M .size) (W e) (own M t e)
+  pub closes-own : (e : ℕ) → B e → SameStates (M .size) (W e) (own M t e)
   closes-own e i = go (decLt e (length t))
     where
-      go : Dec (e < length t) → Same (M .size) (W e) (own M t e)
+      go : Dec (e < length t) → SameStates (M .size) (W e) (own M t e)
       go (yes l) = same-sym (toward-both (M .size) mu _ _ (reached mu e l i) (reached nu e l i))
       go (no l) =
           let q = past-end t e (omega arith) in

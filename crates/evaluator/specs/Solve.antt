@@ -11,31 +11,30 @@ use lib.ListN.{length, getD}
 use borrow.Author.Tests.{eq-eqb, ne-eqb}
 use Rattle.formula.specs.Table.{Table}
 use Rattle.formula.specs.Shape.{Shape, leaf, two, step, fix, name, Fix, mu, nu, shape}
-use Rattle.formula.specs.WellFormed.{WellFormed}
+use Rattle.conditions.specs.WellFormed.{WellFormed}
 use Rattle.formula.specs.TableLaws.{fix-in}
-use Rattle.formula.specs.States.{Model, Set, Same, start}
-use Rattle.formula.specs.Bounds.{sum, sum-mono}
-use Rattle.formula.specs.Meaning.{own}
-use Rattle.formula.specs.Bits.{bit, no-bit}
-use Rattle.states.specs.Words.{word}
+use Rattle.meaning.specs.States.{Model, SameStates, start}
+use Rattle.meaning.specs.Bounds.{sum}
+use Rattle.meaning.specs.Meaning.{own}
+use Rattle.bits.specs.Bits.{bit, no-bit}
 use Rattle.states.specs.WordLaws.{word-inside, word-past}
 use Rattle.states.specs.StateWords.{setsOf}
 use Rattle.states.specs.PlainModel.{rowModel}
 use Rattle.evaluator.specs.Block.{changesOf, room}
 use Rattle.evaluator.specs.BlockLaws.{Block}
 use Rattle.evaluator.specs.LoopLaws.{Solving, solving-begin, solving-more, solving-last, solving-few}
-use Rattle.evaluator.specs.Claim.{tableFrom, Claim, claim-length, mu-at, nu-at, fix-at}
+use Rattle.evaluator.specs.Claim.{tableFrom, claim-length, mu-at, nu-at}
 use Rattle.evaluator.specs.Ready.{Ready, ready-again}
 use Rattle.states.specs.Fill.{Filled}
-use Rattle.evaluator.specs.Pass.{marksOf, IsFix, startWord, begunWord, Passed}
+use Rattle.evaluator.specs.Pass.{marksOf, startWord, begunWord, Passed}
 use Rattle.evaluator.specs.PassLaws.{fix-kind, pass-ready, pass-alike, pass-still, pass-moved}
 
 -- the block is right where what is settled is
 pub record Solved (ks xs ys masks rows ms : List ℕ) (size : ℕ) (ws vs : List ℕ) : Type 0 where
   pub ready : Ready ks xs ys rows size vs
   pub right : (done : ℕ → Bool) → Block (tableFrom ks xs ys) done (marksOf ms)
-      → ((e : ℕ) → done e ≡ true → Same size (setsOf ws e) (own (rowModel masks rows size) (tableFrom ks xs ys) e))
-      → (e : ℕ) → (marksOf ms e ≡ true) ⊎ (done e ≡ true) → Same size (setsOf vs e) (own (rowModel masks rows size) (tableFrom ks xs ys) e)
+      → ((e : ℕ) → done e ≡ true → SameStates size (setsOf ws e) (own (rowModel masks rows size) (tableFrom ks xs ys) e))
+      → (e : ℕ) → (marksOf ms e ≡ true) ⊎ (done e ≡ true) → SameStates size (setsOf vs e) (own (rowModel masks rows size) (tableFrom ks xs ys) e)
 
 -- from the block's start ws, after r passes, each of which changed a fixpoint's word
 pub record Rounds (ks xs ys masks rows ms : List ℕ) (size : ℕ) (ws : List ℕ) (r : ℕ) (vs : List ℕ) : Type 0 where
@@ -71,7 +70,7 @@ module _ {ks xs ys rows : List ℕ} {size : ℕ} {ws : List ℕ} (R : Ready ks x
   t = tableFrom ks xs ys
 
   -- a fixpoint's first word is its start
-  start-fix : (e a : ℕ) (σ : Fix) → e < length ks → shape t e ≡ fix σ a → Same size (bit (startWord size (getD ks e 0) (getD ws e 0))) (start σ)
+  start-fix : (e a : ℕ) (σ : Fix) → e < length ks → shape t e ≡ fix σ a → SameStates size (bit (startWord size (getD ks e 0) (getD ws e 0))) (start σ)
   unfolding startWord start
   start-fix e a mu l q s h = go (ℕ-discrete (getD ks e 0) 9)
     where
@@ -127,7 +126,7 @@ module _ {ks xs ys rows : List ℕ} {size : ℕ} {ws : List ℕ} (R : Ready ks x
         at true i = absurd (true≢false (sym d ∙ K .apart e i))
         at false i = i
 
-    begun-solving : (wf : WellFormed t) (done : ℕ → Bool) (K : Block t done (marksOf ms)) → ((e : ℕ) → done e ≡ true → Same size (setsOf ws e) (own M t e))
+    begun-solving : (wf : WellFormed t) (done : ℕ → Bool) (K : Block t done (marksOf ms)) → ((e : ℕ) → done e ≡ true → SameStates size (setsOf ws e) (own M t e))
         → Solving M t wf (marksOf ms) done K 0 (setsOf vs)
     begun-solving wf done K G =
         solving-begin M t wf (marksOf ms) done K (setsOf vs)

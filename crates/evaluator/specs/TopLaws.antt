@@ -1,17 +1,16 @@
 -- the highest free name is one, and none lies above it
-use mathlib.Core.Path.{_≡_, refl, sym, _∙_, ap}
-use mathlib.Core.Bool.{Bool, true, false, cond, true≢false}
-use mathlib.Core.Logic.{_⊎_, inl, inr}
-use Prim.Native.Nat.{ℕ, zero, suc, _<_, _≤_, max}
+use mathlib.Core.Path.{_≡_, refl, _∙_, ap}
+use mathlib.Core.Bool.{true, false, cond}
+use mathlib.Core.Logic.{inl, inr}
+use Prim.Native.Nat.{ℕ, _<_, _≤_, max}
 use native.Mathlib.Omega.{arith}
 use native.Mathlib.Decide.{decLt, decLe}
-use lib.Dec.{eqb, ltb}
-use borrow.Author.Tests.{lt-ltb, le-ltb, eq-eqb, ne-eqb, eqb-true, eqb-false}
+use lib.Dec.{ltb}
+use borrow.Author.Tests.{lt-ltb, le-ltb, eqb-true, eqb-false}
 use Rattle.formula.specs.Table.{Table}
-use Rattle.formula.specs.Shape.{Shape, leaf, two, step, fix, name, Fix, shape, Operand, Fixpoint}
-use Rattle.formula.specs.Free.{Free, named, inside}
-use Rattle.formula.specs.WellFormed.{WellFormed}
-use Rattle.formula.specs.TableLaws.{operand-below}
+use Rattle.formula.specs.Shape.{Shape, leaf, two, step, fix, name, shape, Operand}
+use Rattle.conditions.specs.Free.{Free, named, inside}
+use Rattle.conditions.specs.WellFormed.{WellFormed}
 use Rattle.formula.specs.Below.{recur-eq, by-smaller}
 use Rattle.evaluator.specs.Top.{topClause, top, alone}
 

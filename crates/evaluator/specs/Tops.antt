@@ -1,11 +1,11 @@
 -- the highest free names, found upwards: an entry's from those below it
-use mathlib.Core.Path.{_≡_, refl, sym, ap, _∙_}
+use mathlib.Core.Path.{_≡_, refl, sym, _∙_}
 use mathlib.Core.List.{List}
 use Prim.Native.Nat.{ℕ, max, _<_, _≤_}
 use native.Mathlib.Omega.{arith}
 use lib.ListN.{length, getD}
 use borrow.Author.Tests.{lt-ltb, le-ltb}
-use Rattle.formula.specs.Shape.{Shape, shape, Operand}
+use Rattle.formula.specs.Shape.{shape}
 use Rattle.evaluator.specs.Top.{topClause, top}
 use Rattle.evaluator.specs.TopLaws.{topClause-local, top-at}
 use Rattle.evaluator.specs.Claim.{tableFrom, Claim, leaf-at, two-at, step-at, fix-at, name-at}

@@ -1,12 +1,8 @@
-// The evaluator: the word of every entry of a claim in a model. What it writes is defined in the crate states (specs/Words), why its strategy is right in specs/StrategyLaws and specs/LoopLaws.
+// The evaluator: the word of every entry of a claim in a model. What it writes is defined in the crate states (specs/Words); why few passes are enough, in specs/BlockLaws and specs/LoopLaws.
 ghost use mathlib.Core.Path.{_≡_};
-ghost use mathlib.Core.Bool.{true, not};
+ghost use mathlib.Core.Bool.{true};
 ghost use Prim.Native.Nat.{max, _+_, _<_, _≤_};
 ghost use lib.ListN.{length, getD, set, replicate};
-ghost use Rattle.formula.specs.Shape.{nu};
-ghost use Rattle.formula.specs.States.{start};
-ghost use Rattle.formula.specs.Bits.{one, bit};
-ghost use Rattle.states.specs.Words.{word};
 ghost use Rattle.states.specs.PlainModel.{wordsIn};
 ghost use Rattle.states.specs.Fill.{Filled};
 ghost use Rattle.evaluator.specs.Ready.{Ready, leafWord, formedWord};
@@ -19,18 +15,13 @@ ghost use Rattle.verdict.specs.Lists.{written};
 ghost use Rattle.formula.specs.Plain.{tableOf};
 ghost use Rattle.evaluator.specs.Evaluated.{Standing, Evaluated, Swept, Isolated};
 ghost use Rattle.evaluator.specs.EvaluatedLaws.{settledMark, restMark};
+use bits::wide;
 use formula::Kind;
 use states::all_states;
 use states::box_word;
 use states::diamond_word;
 use states::letter_word;
 use states::row_words;
-
-fn wide(x: u16) -> usize
-    ensures { λ r. ⌜ r ≡ x ⌝ }
-{
-    x as usize
-}
 
 // Where false, true, a letter or a negated letter holds.
 fn leaf_word(masks: &[u32; 64], size: usize, kind: u8, p: u16) -> u64

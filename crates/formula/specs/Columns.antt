@@ -1,12 +1,13 @@
 -- the columns of an entry table, and the table that stands in plain lists once they are written there
-use mathlib.Core.Path.{_≡_, refl, ap, _∙_}
+use mathlib.Core.Path.{_≡_, refl, sym, ap, _∙_}
 use mathlib.Core.List.{List, [], _∷_, _++_}
 use Prim.Native.Nat.{ℕ, zero, suc, _+_, _<_}
 use native.Mathlib.Nat.{le-of-suc-le-suc}
 use native.Mathlib.Omega.{arith}
-use lib.ListN.{length, getD, drop}
+use lib.ListN.{length, getD, drop, set}
 use Rattle.verdict.specs.Lists.{valuesFrom, written}
-use Rattle.formula.specs.Table.{Entry, Table, blank, entry}
+use Rattle.verdict.specs.WrittenLaws.{written-more}
+use Rattle.formula.specs.Table.{Entry, Table, entry}
 use Rattle.formula.specs.Plain.{plainEntry, tableOf}
 
 module _ (f : Entry → ℕ) where
@@ -28,6 +29,21 @@ module _ (f : Entry → ℕ) where
 
   pub written-at : (t : Table) (old : List ℕ) (e : ℕ) → e < length t → getD (written (column t) old) e 0 ≡ f (entry t e)
   written-at t old e h = column-at t (drop (length (column t)) old) e h
+
+  -- one entry more
+  column-more : (t : Table) (e : Entry) → column (t ++ (e ∷ [])) ≡ column t ++ (f e ∷ [])
+  unfolding column
+  column-more [] e = refl
+  column-more (r ∷ t) e = ap (λ (l : List ℕ). f r ∷ l) (column-more t e)
+
+  pub column-stored : (t : Table) (e : Entry) (i : ℕ) (now old : List ℕ) → length t ≡ i → i < length old → now ≡ written (column t) old
+      → set now i (f e) ≡ written (column (t ++ (e ∷ []))) old
+  column-stored t e i now old m h s =
+      let here : length (column t) ≡ i = column-length t ∙ m in
+      ap (λ (l : List ℕ). set l i (f e)) s
+      ∙ ap (λ (n : ℕ). set (written (column t) old) n (f e)) (sym here)
+      ∙ written-more (column t) old (f e) (omega arith)
+      ∙ ap (λ (l : List ℕ). written l old) (sym (column-more t e))
 
 abbrev pub kindColumn : Table → List ℕ
 kindColumn = column (λ r. r .kind)

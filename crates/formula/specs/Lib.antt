@@ -5,52 +5,18 @@ pub mod Table
 pub mod Codes
 pub mod Nodes
 pub mod Fields
+pub mod FieldLaws
 pub mod Records
+pub mod Members
 -- syntax
 pub mod Shape
 pub mod Target
-pub mod Free
-pub mod WellFormed
-pub mod Conditions
-pub mod Formed
 pub mod TableLaws
 pub mod ShapeLaws
--- refusals 20 to 23 computed
 pub mod Below
-pub mod Upward
-pub mod Rows
-pub mod RowLaws
-pub mod Judge
-pub mod TestLaws
-pub mod JudgeExact
+-- tables in plain lists of numbers
 pub mod Plain
 pub mod Columns
 pub mod PlainNodes
 pub mod NodeColumns
 pub mod CodeCounts
--- what the program computes, by kind numbers and by sets of names in words
-pub mod FieldLaws
-pub mod KindShapes
-pub mod Bits
-pub mod NameSets
-pub mod OperandBounds
-pub mod RowMarks
-pub mod MarksBelow
-pub mod Faults
-pub mod JudgeSteps
--- Kripke meaning
-pub mod Truth
-pub mod Chain
-pub mod Bounds
-pub mod States
-pub mod StateLaws
-pub mod Meaning
-pub mod MeaningLaws
-pub mod FixLaws
-pub mod OwnLaws
--- refutation within a number of modal steps
-pub mod FalseSets
-pub mod Rank
-pub mod Stages
-pub mod StageLaws
-pub mod Complete

@@ -1,14 +1,12 @@
--- what well-formedness says of fixpoints, operands and free names
-use mathlib.Core.Path.{_≡_, refl, ap, subst⁻¹}
+-- entries past the end of a table, fixpoints by their shape, and the target by the shape
+use mathlib.Core.Path.{_≡_, refl, ap}
 use Prim.Native.Nat.{ℕ, _<_, _≤_}
 use native.Mathlib.Omega.{arith}
 use native.Mathlib.Decide.{decLt}
 use lib.ListN.{length, List·getD-eq-default}
 use Rattle.formula.specs.Table.{Table}
-use Rattle.formula.specs.Shape.{Shape, leaf, two, step, fix, name, never, Fix, shapeOf, shape, Operand, Fixpoint}
+use Rattle.formula.specs.Shape.{Shape, leaf, two, step, fix, name, never, Fix, shapeOf, shape, Fixpoint}
 use Rattle.formula.specs.Target.{targetOf, target}
-use Rattle.formula.specs.Free.{Free, named, inside}
-use Rattle.formula.specs.WellFormed.{WellFormed}
 
 pub past-end : (t : Table) (e : ℕ) → length t ≤ e → shape t e ≡ leaf never
 unfolding shape
@@ -34,18 +32,3 @@ fixpoint-is (name x) h = absurd h
 pub target-at : (t : Table) (e : ℕ) {v : Shape} → shape t e ≡ v → target t e ≡ targetOf v e
 unfolding target
 target-at t e q = ap (λ (v : Shape). targetOf v e) q
-
-module _ (t : Table) (wf : WellFormed t) where
-  pub operand-below : (e c : ℕ) {v : Shape} → shape t e ≡ v → Operand v c → c < e
-  operand-below e c q o = wf .operands-below e c (subst⁻¹ (λ (u : Shape). Operand u c) q o)
-
-  -- a name's fixpoint
-  pub name-fix : (e x : ℕ) → shape t e ≡ name x → (σ : Fix) × (a : ℕ) × (shape t x ≡ fix σ a)
-  name-fix e x q = fixpoint-is (shape t x) (wf .names-above e x q .2)
-
-  pub free-fix : {e x : ℕ} → Free t e x → (σ : Fix) × (a : ℕ) × (shape t x ≡ fix σ a)
-  free-fix (named {e = e} {x = x} q) = name-fix e x q
-  free-fix (inside v q o k f) = free-fix f
-
-  pub free-in : {e x : ℕ} → Free t e x → x < length t
-  free-in {x} f = let (σ, a, q) = free-fix f in fix-in t x a σ q

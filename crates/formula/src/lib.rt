@@ -1,19 +1,11 @@
-// The entry kinds and the rules, each with one named constant for each number and the fields that it has; the target of an operand; and
-// the judge of refusals 20 to 23 over an entry table in plain numbers.
+// The entry kinds and the rules, each with one named constant for each number and the fields that it has; and the target of an operand.
 ghost use mathlib.Core.Path.{_≡_};
 ghost use mathlib.Core.List.{List};
 ghost use Prim.Native.Nat.{ℕ, _<_, _≤_};
-ghost use Rattle.verdict.specs.Shown.{shown};
-ghost use Rattle.formula.specs.Fields.{hasA, hasB, hasPrincipal, hasFirst, hasSecond, hasBack, bit, mapOf, lowMap, linkWidth};
-ghost use Rattle.formula.specs.KindShapes.{isFixpoint};
+ghost use Rattle.formula.specs.Fields.{hasA, hasB, isFixpoint, hasPrincipal, hasFirst, hasSecond, hasBack, mapOf, lowMap, linkWidth};
 ghost use Rattle.formula.specs.Plain.{tableOf};
 ghost use Rattle.formula.specs.Target as targets;
-ghost use Rattle.formula.specs.Judge.{judgeTable};
-use verdict::Verdict;
-
-mod bounds;
-mod names;
-mod scopes;
+use bits::if_set;
 
 pub struct Kind;
 
@@ -75,13 +67,6 @@ impl Kind {
     }
 }
 
-// What a field adds to a sum over the fields that stand.
-fn bit(stands: bool, value: u8) -> u8
-    ensures { λ r. ⌜ (r ≡ bit stands value) × (r ≤ value) ⌝ }
-{
-    if stands { value } else { 0 }
-}
-
 pub struct Rule;
 
 impl Rule {
@@ -141,10 +126,10 @@ impl Rule {
     pub fn low_map(rule: u8) -> u8
         ensures { λ r. ⌜ (r ≡ lowMap rule) × (r ≤ 15) ⌝ }
     {
-        let principal = bit(Rule::has_principal(rule), 1);
-        let first = bit(Rule::has_first(rule), 2);
-        let second = bit(Rule::has_second(rule), 4);
-        let back = bit(Rule::has_back(rule), 8);
+        let principal = if_set(Rule::has_principal(rule), 1);
+        let first = if_set(Rule::has_first(rule), 2);
+        let second = if_set(Rule::has_second(rule), 4);
+        let back = if_set(Rule::has_back(rule), 8);
         principal + first + second + back
     }
 
@@ -152,10 +137,10 @@ impl Rule {
     pub fn link_width(rule: u8) -> u8
         ensures { λ r. ⌜ (r ≡ linkWidth rule) × (r ≤ 6) ⌝ }
     {
-        let principal = bit(Rule::has_principal(rule), 2);
-        let first = bit(Rule::has_first(rule), 2);
-        let second = bit(Rule::has_second(rule), 2);
-        let back = bit(Rule::has_back(rule), 2);
+        let principal = if_set(Rule::has_principal(rule), 2);
+        let first = if_set(Rule::has_first(rule), 2);
+        let second = if_set(Rule::has_second(rule), 2);
+        let back = if_set(Rule::has_back(rule), 2);
         principal + first + second + back
     }
 }
@@ -170,19 +155,4 @@ pub fn target(kinds: &[u8; 256], a: &[u16; 256], operand: u16) -> u16
         return a[e];
     }
     operand
-}
-
-// Refusals 20 to 23 over the first count entries: 20 over all of them, then 21, 22 and 23 entry by entry.
-pub fn judge(kinds: &[u8; 256], a: &[u16; 256], b: &[u16; 256], count: usize) -> Verdict
-    requires { ⌜ count ≤ 256 ⌝ }
-    ensures { λ r. ⌜ shown r ≡ judgeTable (tableOf (now (kinds .entry)) (now (a .entry)) (now (b .entry)) count) ⌝ }
-{
-    let out = bounds::first_out(kinds, a, b, count);
-    if out < count {
-        return Verdict::Refused {
-            number: 20,
-            place: out as u16,
-        };
-    }
-    scopes::judge_names(kinds, a, b, count)
 }

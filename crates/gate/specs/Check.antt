@@ -6,9 +6,9 @@ use Rattle.verdict.specs.Verdict.{Verdict, accepted}
 use Rattle.encoding.specs.File.{Reading, refused, good}
 use Rattle.formula.specs.Table.{Table}
 use Rattle.formula.specs.Nodes.{Proof}
-use Rattle.formula.specs.Judge.{judgeTable}
-use Rattle.reader.specs.ReadClaim.{readClaim}
-use Rattle.reader.specs.ReadProof.{readProof}
+use Rattle.conditions.specs.Judge.{judgeTable}
+use Rattle.claims.specs.ReadClaim.{readClaim}
+use Rattle.proofs.specs.ReadProof.{readProof}
 use Rattle.calculus.specs.Judge.{judge}
 
 -- refused before both files are decoded (10 to 34), or the decoding and what the rules say of it (35 to 39 or accepted)

@@ -9,13 +9,13 @@ use Rattle.verdict.specs.VerdictLaws.{accepted-not-refused}
 use Rattle.encoding.specs.Encode.{Bytes}
 use Rattle.formula.specs.Table.{Table}
 use Rattle.formula.specs.Nodes.{Proof}
-use Rattle.formula.specs.JudgeExact.{judge-accepts, judge-refuses}
-use Rattle.reader.specs.ClaimExact.{claim-good}
-use Rattle.reader.specs.ClaimFaults.{claim-refused}
-use Rattle.reader.specs.ProofFile.{ProofFile}
-use Rattle.reader.specs.ProofExact.{proof-good}
-use Rattle.reader.specs.ProofFaults.{proof-refused}
-use Rattle.reader.specs.RecordLaws.{codes-rise, code-formula}
+use Rattle.conditions.specs.JudgeExact.{judge-accepts, judge-refuses}
+use Rattle.claims.specs.ClaimExact.{claim-good}
+use Rattle.claims.specs.ClaimFaults.{claim-refused}
+use Rattle.proofs.specs.ProofFile.{ProofFile}
+use Rattle.proofs.specs.ProofExact.{proof-good}
+use Rattle.proofs.specs.ProofFaults.{proof-refused}
+use Rattle.proofs.specs.ProofRecords.{codes-rise, code-formula}
 use Rattle.calculus.specs.Given.{Given}
 use Rattle.calculus.specs.JudgeExact.{accepted-correct, correct-accepted}
 use Rattle.calculus.specs.FaultLaws.{refused-earned, earned-refused}
@@ -23,7 +23,7 @@ use Rattle.gate.specs.Correct.{Correct}
 use Rattle.gate.specs.Check.{verdict}
 use Rattle.gate.specs.CheckLaws.{check-claim, check-table, check-proof, check-rules, verdict-unread, verdict-decoded}
 use Rattle.gate.specs.Earned.{Earned, by-claim, by-table, by-proof, by-rules}
-use Rattle.gate.specs.Found.{Found, ill-formed, well-read, found}
+use Rattle.gate.specs.CheckFound.{CheckFound, ill-formed, well-read, found}
 
 -- what the rules are given by a proof file
 pub given : {es : Table} {proof : List ℕ} {p : Proof} → ProofFile es proof p → Given es p
@@ -51,7 +51,7 @@ module _ (claim proof : List ℕ) where
     pub verdict-correct : verdict claim proof ≡ accepted → Correct claim proof
     verdict-correct h = go (found claim proof bc bp)
       where
-        go : Found claim proof → Correct claim proof
+        go : CheckFound claim proof → Correct claim proof
         go (ill-formed n q u e) = absurd (accepted-not-refused (sym (verdict-unread claim proof u) ∙ h))
         go (well-read es ms p u f w g) =
             let (c, r) = accepted-correct es ms p (given g) (sym (verdict-decoded claim proof u) ∙ h) in
@@ -74,7 +74,7 @@ module _ (claim proof : List ℕ) where
         same : {k r : ℕ} → verdicts.refused k r ≡ verdicts.refused n q → Earned claim proof k r → Earned claim proof n q
         same {k} {r} e x = let i : k ≡ n = cc in let j : r ≡ q = cc in rw (← i, ← j) x
 
-        go : Found claim proof → Earned claim proof n q
+        go : CheckFound claim proof → Earned claim proof n q
         go (ill-formed k r u e) = same (sym (verdict-unread claim proof u) ∙ h) e
         go (well-read es ms p u f w g) = by-rules es ms p f w g (refused-earned es ms p (given g) (sym (verdict-decoded claim proof u) ∙ h))
 

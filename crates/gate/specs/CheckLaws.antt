@@ -7,11 +7,11 @@ use Rattle.verdict.specs.Verdict.{Verdict, accepted}
 use Rattle.encoding.specs.File.{Reading, refused, good}
 use Rattle.formula.specs.Table.{Table}
 use Rattle.formula.specs.Nodes.{Proof}
-use Rattle.formula.specs.Judge.{judgeTable}
-use Rattle.reader.specs.ReadClaim.{readClaim}
-use Rattle.reader.specs.ReadProof.{readProof}
+use Rattle.conditions.specs.Judge.{judgeTable}
+use Rattle.claims.specs.ReadClaim.{readClaim}
+use Rattle.proofs.specs.ReadProof.{readProof}
 use Rattle.calculus.specs.Judge.{judge}
-use Rattle.gate.specs.Check.{Checked, unread, decoded, afterProof, afterTable, afterClaim, check, answer, verdict}
+use Rattle.gate.specs.Check.{unread, decoded, afterProof, afterTable, afterClaim, check, answer, verdict}
 
 module _ (claim proof : List ℕ) where
   pub check-claim : {n q : ℕ} → readClaim claim ≡ refused n q → check claim proof ≡ unread n q

@@ -1,9 +1,7 @@
 -- the check of two files as the program runs it over plain tables: claim, table, proof, rules
 use mathlib.Core.Path.{_≡_, refl, sym, subst, ap, _∙_}
-use mathlib.Core.List.{List, List·Memᴰ}
-use mathlib.Core.Bool.{Bool}
-use Prim.Native.Nat.{ℕ, suc, _+_, _<_, _≤_}
-use native.Mathlib.Nat.{le-of-suc-le-suc}
+use mathlib.Core.List.{List}
+use Prim.Native.Nat.{ℕ, _+_, _<_, _≤_}
 use native.Mathlib.Numerals.{add-one}
 use native.Mathlib.Omega.{arith}
 use lib.ListN.{length, getD, take, drop, length-append, length-drop}
@@ -14,7 +12,6 @@ use Rattle.verdict.specs.Verdict as verdicts
 use Rattle.verdict.specs.Verdict.{Verdict, accepted}
 use Rattle.verdict.specs.VerdictLaws.{accepted-not-refused}
 use Rattle.verdict.specs.Lists.{written}
-use Rattle.verdict.specs.Sets.{elements}
 use Rattle.verdict.specs.Shown.{shown}
 use Rattle.encoding.specs.Encode.{Bytes}
 use Rattle.encoding.specs.ByteLaws.{bytes-of}
@@ -22,29 +19,30 @@ use Rattle.encoding.specs.File.{Reading, refused, good}
 use Rattle.encoding.specs.Outcome.{verdictOf}
 use Rattle.formula.specs.Table.{Table}
 use Rattle.formula.specs.Plain.{tableOf, tableOf-length, tableOf-kind}
-use Rattle.formula.specs.Columns.{kindColumn, aColumn, bColumn, table-of-columns}
-use Rattle.formula.specs.WellFormed.{WellFormed}
-use Rattle.formula.specs.Judge.{judgeTable}
+use Rattle.formula.specs.Columns.{table-of-columns}
+use Rattle.conditions.specs.WellFormed.{WellFormed}
+use Rattle.conditions.specs.Judge.{judgeTable}
 use Rattle.formula.specs.Nodes.{Proof}
 use Rattle.formula.specs.Records.{allCodes}
 use Rattle.formula.specs.PlainNodes.{proofOf}
-use Rattle.formula.specs.NodeColumns.{startsOf, start-stands}
+use Rattle.formula.specs.NodeColumns.{start-stands}
 use Rattle.formula.specs.CodeCounts.{few-codes, more-codes}
-use Rattle.reader.specs.ReadClaim.{readClaim}
-use Rattle.reader.specs.ClaimExact.{good-claim}
-use Rattle.reader.specs.ClaimWalk.{Answered, Decoded}
-use Rattle.reader.specs.ReadProof.{readProof}
-use Rattle.reader.specs.ProofExact.{good-proof}
-use Rattle.reader.specs.ProofParts.{kindTable}
-use Rattle.reader.specs.ProofKinds.{Kinds}
-use Rattle.reader.specs.ProofStored.{NodeArrays, NodesStored, stored-proof}
-use Rattle.reader.specs.ProofAnswer.{ProofDone, done-by-kinds, good-stored, accepts}
-use Rattle.reader.specs.RecordLaws.{entry-count, member-count, member-formula, node-count, codes-few}
-use Rattle.reader.specs.declared.claim.ClaimRead.{ClaimRead}
-use Rattle.reader.specs.declared.proof.ProofRead.{ProofRead}
+use Rattle.claims.specs.ReadClaim.{readClaim}
+use Rattle.claims.specs.ClaimExact.{good-claim}
+use Rattle.claims.specs.ClaimWalk.{ClaimAnswered, Decoded}
+use Rattle.proofs.specs.ReadProof.{readProof}
+use Rattle.proofs.specs.ProofExact.{good-proof}
+use Rattle.proofs.specs.ProofParts.{kindTable}
+use Rattle.proofs.specs.ProofKinds.{Kinds}
+use Rattle.proofs.specs.ProofStored.{NodeArrays, NodesStored, stored-proof}
+use Rattle.proofs.specs.ProofAnswer.{ProofDone, done-by-kinds, good-stored, accepts}
+use Rattle.claims.specs.ClaimRecords.{entry-count, member-count, member-formula}
+use Rattle.proofs.specs.ProofRecords.{node-count, codes-few}
+use Rattle.claims.specs.declared.ClaimRead.{ClaimRead}
+use Rattle.proofs.specs.declared.ProofRead.{ProofRead}
 use Rattle.calculus.specs.Given.{Given}
 use Rattle.calculus.specs.Judge.{judge}
-use Rattle.kept.specs.Placed.{Members}
+use Rattle.sequents.specs.Placed.{Members}
 use Rattle.rules.specs.JudgeStages.{Laid}
 use Rattle.gate.specs.Check.{Checked, afterProof, afterTable, answer, verdict}
 use Rattle.gate.specs.CheckLaws.{past-claim, check-claim, verdict-unread}
@@ -131,7 +129,7 @@ pub table-accepted : {v : Verdict} (next : Checked) → v ≡ accepted → answe
 table-accepted next h = rw h refl
 
 -- the claim by bytes
-module _ (claim proof : List ℕ) {w : ClaimRead} {ks₀ ks xs₀ xs ys₀ ys ms₀ ms : List ℕ} (read : Answered (readClaim claim) w ks₀ ks xs₀ xs ys₀ ys ms₀ ms) where
+module _ (claim proof : List ℕ) {w : ClaimRead} {ks₀ ks xs₀ xs ys₀ ys ms₀ ms : List ℕ} (read : ClaimAnswered (readClaim claim) w ks₀ ks xs₀ xs ys₀ ys ms₀ ms) where
   pub claim-refused : {n q : ℕ} → shown (w .verdict) ≡ verdicts.refused n q → verdict claim proof ≡ verdicts.refused n q
   claim-refused {n} {q} h = verdict-unread claim proof (check-claim claim proof (go (readClaim claim) (sym (read .verdict) ∙ h)))
     where

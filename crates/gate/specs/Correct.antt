@@ -6,12 +6,12 @@ use Prim.Native.Nat.{ℕ, _<_}
 use lib.ListN.{length}
 use Rattle.verdict.specs.Sets.{elements, _⊆_}
 use Rattle.formula.specs.Table.{Table}
-use Rattle.formula.specs.Formed.{Formed}
+use Rattle.conditions.specs.Formed.{Formed}
 use Rattle.formula.specs.Nodes.{Proof}
-use Rattle.formula.specs.States.{Model}
-use Rattle.formula.specs.Meaning.{own}
-use Rattle.reader.specs.ClaimFile.{ClaimFile}
-use Rattle.reader.specs.ProofFile.{ProofFile}
+use Rattle.meaning.specs.States.{Model}
+use Rattle.meaning.specs.Meaning.{own}
+use Rattle.claims.specs.ClaimFile.{ClaimFile}
+use Rattle.proofs.specs.ProofFile.{ProofFile}
 use Rattle.calculus.specs.Tree.{Tree}
 use Rattle.calculus.specs.Rules.{Keeps}
 use Rattle.calculus.specs.Loops.{GoodLoops}

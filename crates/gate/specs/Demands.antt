@@ -12,19 +12,19 @@ use Rattle.formula.specs.Table.{Table}
 use Rattle.formula.specs.Nodes.{Proof}
 use Rattle.formula.specs.Shape.{Fix, fix, mu, nu, shape}
 use Rattle.formula.specs.Codes.{entryOf}
-use Rattle.formula.specs.Free.{Free}
-use Rattle.formula.specs.WellFormed.{WellFormed}
-use Rattle.formula.specs.States.{Model, Set, Sub, Same, start}
-use Rattle.formula.specs.Chain.{iter}
-use Rattle.formula.specs.Meaning.{Env, meaning, round, own}
-use Rattle.formula.specs.MeaningLaws.{meaning-local}
-use Rattle.formula.specs.FixLaws.{fix-settles, fix-is, mu-least, nu-greatest}
-use Rattle.reader.specs.ClaimFile.{FitClaim, encodeClaim}
-use Rattle.reader.specs.ReadClaim.{readClaim}
-use Rattle.reader.specs.ClaimExact.{claim-decodes, claim-encodes}
-use Rattle.reader.specs.ProofFile.{FitProof, encodeProof}
-use Rattle.reader.specs.ReadProof.{readProof}
-use Rattle.reader.specs.ProofExact.{proof-decodes, proof-encodes}
+use Rattle.conditions.specs.Free.{Free}
+use Rattle.conditions.specs.WellFormed.{WellFormed}
+use Rattle.meaning.specs.States.{Model, StateSet, Sub, SameStates, start}
+use Rattle.meaning.specs.Chain.{iter}
+use Rattle.meaning.specs.Meaning.{Env, meaning, round, own}
+use Rattle.meaning.specs.MeaningLaws.{meaning-local}
+use Rattle.meaning.specs.FixLaws.{fix-settles, fix-is, mu-least, nu-greatest}
+use Rattle.claims.specs.ClaimFile.{FitClaim, encodeClaim}
+use Rattle.claims.specs.ReadClaim.{readClaim}
+use Rattle.claims.specs.ClaimExact.{claim-decodes, claim-encodes}
+use Rattle.proofs.specs.ProofFile.{FitProof, encodeProof}
+use Rattle.proofs.specs.ReadProof.{readProof}
+use Rattle.proofs.specs.ProofExact.{proof-decodes, proof-encodes}
 use Rattle.calculus.specs.Sequents.{sequent}
 use Rattle.permit.specs.GateState.{Gate, opened}
 use Rattle.gate.specs.Slices.{Lent, short}
@@ -68,24 +68,24 @@ every-node k M s h = soundness.node-true k M s h
 -- 2: meaning. In a model M over a well-formed table, with names set as ρ says:
 module _ (M : Model) (t : Table) (wf : WellFormed t) where
   -- a fixpoint's meaning is its body's, set for its own name
-  pub fixpoint-is : (e a : ℕ) (σ : Fix) → shape t e ≡ fix σ a → (ρ : Env) → Same (M .size) (meaning M t e ρ) (round M t e a ρ (meaning M t e ρ))
+  pub fixpoint-is : (e a : ℕ) (σ : Fix) → shape t e ≡ fix σ a → (ρ : Env) → SameStates (M .size) (meaning M t e ρ) (round M t e a ρ (meaning M t e ρ))
   fixpoint-is e a σ q ρ = fix-is M t wf e a σ q ρ
 
   -- a mu is the least such set
-  pub mu-is-least : (e a : ℕ) → shape t e ≡ fix mu a → (ρ : Env) (S : Set) → Sub (M .size) (round M t e a ρ S) S → Sub (M .size) (meaning M t e ρ) S
+  pub mu-is-least : (e a : ℕ) → shape t e ≡ fix mu a → (ρ : Env) (S : StateSet) → Sub (M .size) (round M t e a ρ S) S → Sub (M .size) (meaning M t e ρ) S
   mu-is-least = mu-least M t wf
 
   -- a nu is the greatest
-  pub nu-is-greatest : (e a : ℕ) → shape t e ≡ fix nu a → (ρ : Env) (S : Set) → Sub (M .size) S (round M t e a ρ S) → Sub (M .size) S (meaning M t e ρ)
+  pub nu-is-greatest : (e a : ℕ) → shape t e ≡ fix nu a → (ρ : Env) (S : StateSet) → Sub (M .size) S (round M t e a ρ S) → Sub (M .size) S (meaning M t e ρ)
   nu-is-greatest = nu-greatest M t wf
 
   -- iterated from no state (mu) or all states (nu), it settles within as many rounds as there are states
   pub settles : (e a : ℕ) (σ : Fix) → shape t e ≡ fix σ a → (ρ : Env)
-      → Same (M .size) (iter (round M t e a ρ) (M .size) (start σ)) (iter (round M t e a ρ) (suc (M .size)) (start σ))
+      → SameStates (M .size) (iter (round M t e a ρ) (M .size) (start σ)) (iter (round M t e a ρ) (suc (M .size)) (start σ))
   settles e a σ q ρ = fix-settles M t wf e a σ q ρ
 
   -- it depends on free names only
-  pub free-names-only : (e : ℕ) (ρ σ : Env) → ((x : ℕ) → Free t e x → Same (M .size) (ρ x) (σ x)) → Same (M .size) (meaning M t e ρ) (meaning M t e σ)
+  pub free-names-only : (e : ℕ) (ρ σ : Env) → ((x : ℕ) → Free t e x → SameStates (M .size) (ρ x) (σ x)) → SameStates (M .size) (meaning M t e ρ) (meaning M t e σ)
   free-names-only = meaning-local M t wf
 
 -- the round trips: decoding an encoding gives the records back, encoding what was decoded gives the bytes back

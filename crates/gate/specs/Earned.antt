@@ -3,12 +3,12 @@ use mathlib.Core.List.{List}
 use Prim.Native.Nat.{ℕ}
 use Rattle.formula.specs.Table.{Table}
 use Rattle.formula.specs.Nodes.{Proof}
-use Rattle.formula.specs.Formed.{Formed}
-use Rattle.formula.specs.Formed as table
-use Rattle.reader.specs.ClaimFile.{ClaimFile}
-use Rattle.reader.specs.ClaimDocument.{ClaimEarns}
-use Rattle.reader.specs.ProofFile.{ProofFile}
-use Rattle.reader.specs.ProofDocument.{ProofEarns}
+use Rattle.conditions.specs.Formed.{Formed}
+use Rattle.conditions.specs.Formed as table
+use Rattle.claims.specs.ClaimFile.{ClaimFile}
+use Rattle.claims.specs.ClaimDocument.{ClaimEarns}
+use Rattle.proofs.specs.ProofFile.{ProofFile}
+use Rattle.proofs.specs.ProofDocument.{ProofEarns}
 use Rattle.calculus.specs.Faults as rules
 
 pub data Earned (claim proof : List ℕ) (n q : ℕ) : Type 0 where

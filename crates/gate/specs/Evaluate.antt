@@ -7,8 +7,8 @@ use Rattle.verdict.specs.Verdict.{Verdict, accepted}
 use Rattle.verdict.specs.Lists.{written}
 use Rattle.encoding.specs.File.{Reading, refused, good}
 use Rattle.formula.specs.Table.{Table}
-use Rattle.formula.specs.Judge.{judgeTable}
-use Rattle.reader.specs.ReadClaim.{readClaim}
+use Rattle.conditions.specs.Judge.{judgeTable}
+use Rattle.claims.specs.ReadClaim.{readClaim}
 use Rattle.model.specs.ModelFile.{State}
 use Rattle.model.specs.Described.{modelOf}
 use Rattle.model.specs.ReadModel.{readModel}

@@ -7,7 +7,7 @@ use Rattle.verdict.specs.Verdict as verdicts
 use Rattle.verdict.specs.Verdict.{packed}
 use Rattle.verdict.specs.Lists.{written}
 use Rattle.formula.specs.Table.{Table}
-use Rattle.decoding.specs.Files.{tableIn}
+use Rattle.reader.specs.Files.{tableIn}
 use Rattle.records.specs.Records.{shownEntry, shownEntries}
 use Rattle.records.specs.declared.Entry.{Entry}
 use Rattle.gate.specs.Slices.{LentWords}

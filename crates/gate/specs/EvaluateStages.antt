@@ -20,14 +20,14 @@ use Rattle.encoding.specs.Outcome.{verdictOf}
 use Rattle.formula.specs.Table.{Table, Entry, entry}
 use Rattle.formula.specs.Plain.{tableOf, tableOf-length, tableOf-kind}
 use Rattle.formula.specs.Columns.{column, column-length, table-of-columns}
-use Rattle.formula.specs.Formed.{Formed}
-use Rattle.formula.specs.Judge.{judgeTable}
-use Rattle.formula.specs.States.{Model}
-use Rattle.reader.specs.ReadClaim.{readClaim}
-use Rattle.reader.specs.ClaimExact.{good-claim}
-use Rattle.reader.specs.ClaimWalk.{Answered, Decoded}
-use Rattle.reader.specs.RecordLaws.{entry-count, entry-fits}
-use Rattle.reader.specs.declared.claim.ClaimRead.{ClaimRead}
+use Rattle.conditions.specs.Formed.{Formed}
+use Rattle.conditions.specs.Judge.{judgeTable}
+use Rattle.meaning.specs.States.{Model}
+use Rattle.claims.specs.ReadClaim.{readClaim}
+use Rattle.claims.specs.ClaimExact.{good-claim}
+use Rattle.claims.specs.ClaimWalk.{ClaimAnswered, Decoded}
+use Rattle.claims.specs.ClaimRecords.{entry-count, entry-fits}
+use Rattle.claims.specs.declared.ClaimRead.{ClaimRead}
 use Rattle.model.specs.ModelFile.{State, FitModel}
 use Rattle.model.specs.Described.{blank, state, modelOf, successorTable}
 use Rattle.model.specs.ReadModel.{readModel}
@@ -41,7 +41,7 @@ use Rattle.states.specs.PlainModel.{plainModel, wordsIn, plain-described}
 use Rattle.evaluator.specs.Claim.{Given}
 use Rattle.gate.specs.Slices.{LentWords}
 use Rattle.gate.specs.Evaluate.{Evaluated, unevaluated, afterModel, afterTable, afterClaim, ifLong, evaluating}
-use Rattle.decoding.specs.Files.{tableRead, tableIn}
+use Rattle.reader.specs.Files.{tableRead, tableIn}
 use Rattle.gate.specs.EvaluateFiles.{Right, EvaluatedFiles, Staged, refusal}
 use Rattle.gate.specs.declared.evaluate.Evaluation.{Evaluation}
 
@@ -158,7 +158,7 @@ column-there : (f : Entry → ℕ) (t : Table) (old : List ℕ) → length t ≤
 column-there f t old = omega (arith, length-append (column f t) (drop (length (column f t)) old), column-length f t)
 
 -- the claim by bytes
-module _ (claim model : List ℕ) {w : ClaimRead} {ks₀ ks xs₀ xs ys₀ ys ms₀ ms : List ℕ} (read : Answered (readClaim claim) w ks₀ ks xs₀ xs ys₀ ys ms₀ ms) where
+module _ (claim model : List ℕ) {w : ClaimRead} {ks₀ ks xs₀ xs ys₀ ys ms₀ ms : List ℕ} (read : ClaimAnswered (readClaim claim) w ks₀ ks xs₀ xs ys₀ ys ms₀ ms) where
   pub claim-refused : {n q : ℕ} → shown (w .verdict) ≡ verdicts.refused n q → (l : LentWords) → afterClaim (readClaim claim) model l ≡ unevaluated n q l
   claim-refused {n} {q} h l = go (readClaim claim) (sym (read .verdict) ∙ h)
     where

@@ -1,11 +1,7 @@
 -- the lent slices of records by what they show, and what stores of a decoding leave in them
-use mathlib.Core.Path.{_≡_, refl}
+use mathlib.Core.Path.{refl}
 use mathlib.Core.List.{List}
 use Prim.Native.Nat.{ℕ}
-use Rattle.verdict.specs.Lists.{written}
-use Rattle.formula.specs.Table.{Table}
-use Rattle.formula.specs.Nodes.{Proof}
-use Rattle.formula.specs.Records.{nodeRecords, allCodes}
 use Rattle.records.specs.Records.{shownEntries, shownNodes}
 use Rattle.records.specs.declared.Entry.{Entry}
 use Rattle.records.specs.declared.Node.{Node}

@@ -7,7 +7,7 @@ pub mod Evaluate
 pub mod Correct
 pub mod Earned
 pub mod CheckLaws
-pub mod Found
+pub mod CheckFound
 pub mod CheckExact
 pub mod Sound
 pub mod PresentLaws

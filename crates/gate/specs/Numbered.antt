@@ -1,5 +1,5 @@
 -- every refusal's number is at least 10, so its packed form is not 0
-use mathlib.Core.Path.{_≡_, refl, sym, _∙_}
+use mathlib.Core.Path.{_≡_, refl}
 use mathlib.Core.List.{List}
 use Prim.Native.Nat.{ℕ, _≤_}
 use native.Mathlib.Omega.{arith}
@@ -9,12 +9,12 @@ use Rattle.encoding.specs.Encode.{Bytes}
 use Rattle.encoding.specs.Stages.{Stages, Unfit, unfit}
 use Rattle.encoding.specs.File as file
 use Rattle.formula.specs.Table.{Table}
-use Rattle.formula.specs.Formed as table
+use Rattle.conditions.specs.Formed as table
 use Rattle.formula.specs.Nodes.{Proof}
-use Rattle.reader.specs.ClaimDocument as claims
-use Rattle.reader.specs.ClaimDocument.{ClaimEarns, ClaimStage, at-entry-count, at-entry, at-fields, at-member-count, at-member}
-use Rattle.reader.specs.ProofDocument as proofs
-use Rattle.reader.specs.ProofDocument.{ProofEarns, ProofStage, at-node-count, at-node, at-code-count, at-code}
+use Rattle.claims.specs.ClaimDocument as claims
+use Rattle.claims.specs.ClaimDocument.{ClaimStage, at-entry-count, at-entry, at-fields, at-member-count, at-member}
+use Rattle.proofs.specs.ProofDocument as proofs
+use Rattle.proofs.specs.ProofDocument.{ProofStage, at-node-count, at-node, at-code-count, at-code}
 use Rattle.calculus.specs.Faults as rules
 use Rattle.gate.specs.Earned.{Earned, by-claim, by-table, by-proof, by-rules}
 use Rattle.gate.specs.Check.{verdict}

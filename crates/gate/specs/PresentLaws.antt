@@ -1,14 +1,14 @@
 -- presenting accepts as the verdict does, and then the gate holds the tag it was given
-use mathlib.Core.Path.{_≡_, refl, sym, ap, _∙_}
+use mathlib.Core.Path.{_≡_, refl}
 use mathlib.Core.Bool.{Bool, true, false}
 use mathlib.Core.List.{List}
 use Prim.Native.Nat.{ℕ}
-use Rattle.verdict.specs.Verdict.{Verdict, accepted, refused}
+use Rattle.verdict.specs.Verdict.{accepted, refused}
 use Rattle.verdict.specs.VerdictLaws.{accepted-not-refused}
 use Rattle.permit.specs.GateState.{Gate, closed, opened, holding}
 use Rattle.gate.specs.Slices.{Lent, short}
 use Rattle.gate.specs.Check.{Checked, unread, decoded, check, answer, verdict}
-use Rattle.gate.specs.Present.{Presented, held, presentedBy, ifLong, presenting}
+use Rattle.gate.specs.Present.{presentedBy, ifLong, presenting}
 
 module _ (tag : ℕ) (claim proof : List ℕ) (l : Lent) where
   -- a check's answer is presenting's, where nothing stands before it

@@ -18,23 +18,24 @@ use Rattle.encoding.specs.File.{Reading, refused, good}
 use Rattle.formula.specs.Table.{Table}
 use Rattle.formula.specs.Nodes.{Proof}
 use Rattle.formula.specs.Records.{nodeRecords, allCodes}
-use Rattle.formula.specs.Judge.{judgeTable}
-use Rattle.reader.specs.ReadClaim.{readClaim}
-use Rattle.reader.specs.ReadProof.{readProof}
-use Rattle.reader.specs.ProofDecode.{proofIn}
+use Rattle.conditions.specs.Judge.{judgeTable}
+use Rattle.claims.specs.ReadClaim.{readClaim}
+use Rattle.proofs.specs.ReadProof.{readProof}
+use Rattle.proofs.specs.ProofDecode.{proofIn}
 use Rattle.calculus.specs.Judge.{judge}
 use Rattle.records.specs.Records.{shownEntry, shownNode, shownEntries, shownNodes, firstEntries, firstNodes, total}
 use Rattle.records.specs.Shown.{total-codes}
 use Rattle.records.specs.declared.Entry.{Entry}
 use Rattle.records.specs.declared.Node.{Node}
-use Rattle.decoding.specs.Files as decoding
-use Rattle.decoding.specs.Files.{Files, unread, readable, firstly, files, tableIn}
-use Rattle.decoding.specs.Found.{Unread, Readable, Tells, ruled}
-use Rattle.decoding.specs.FilesLaws.{read-table, read-entries, read-decodes, read-nodes, read-count, read-codes, read-well, read-given, read-members}
+use Rattle.reader.specs.Files as decoding
+use Rattle.reader.specs.Files.{Files, unread, readable, firstly, files, tableIn}
+use Rattle.reader.specs.Found.{Unread, Readable, Tells, ruled}
+use Rattle.reader.specs.FilesLaws.{read-table, read-entries, read-decodes, read-nodes, read-count, read-codes, read-well}
+use Rattle.decoding.specs.ReadableLaws.{read-given, read-members}
 use Rattle.decoding.specs.Columns.{nodesIf, Counted, CodesRoom, ProofStored}
 use Rattle.decoding.specs.Standing.{standing, FitsEntries, FitsNodes, Ruleable, Judgeable}
 use Rattle.decoding.specs.StandingLaws.{standing-is}
-use Rattle.decoding.specs.declared.Found.{Found}
+use Rattle.reader.specs.declared.Found.{Found}
 use Rattle.permit.specs.GateState.{Gate, closed, opened, holding}
 use Rattle.permit.specs.Plain.{stateOf, leftBy}
 use Rattle.permit.specs.PresentStages.{standsBefore, settledState, Settled}

@@ -1,9 +1,9 @@
 -- the single check's promise: its answer is the verdict's number, and demand 3 stands in it
-use mathlib.Core.Path.{_≡_, refl, ap}
+use mathlib.Core.Path.{_≡_, refl}
 use mathlib.Core.Logic.{_↔_}
 use mathlib.Core.List.{List}
 use Prim.Native.Nat.{ℕ}
-use Rattle.verdict.specs.Verdict.{accepted, packed}
+use Rattle.verdict.specs.Verdict.{packed}
 use Rattle.encoding.specs.Encode.{Bytes}
 use Rattle.gate.specs.Correct.{Correct, Irrefutable}
 use Rattle.gate.specs.Check.{verdict}

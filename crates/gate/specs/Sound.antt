@@ -1,5 +1,5 @@
 -- a correct proof is sound: in every finite model every state has a true member of its claim, and of each node's sequent
-use mathlib.Core.Path.{_≡_, refl, sym, subst}
+use mathlib.Core.Path.{_≡_, refl}
 use mathlib.Core.Logic.{_⊎_, inl, inr, ⊎-elim}
 use mathlib.Core.List.{List, [], _∷_, List·Memᴰ, List·Memᴰ·head, List·Memᴰ·tail, List·Memᴰ·cases-cons, List·Memᴰ·not-nil}
 use mathlib.Core.Bool.{Bool, true, false}
@@ -7,14 +7,13 @@ use Prim.Native.Nat.{ℕ, _<_}
 use native.Mathlib.Omega.{arith}
 use lib.ListN.{length}
 use Rattle.verdict.specs.Sets.{elements, _⊆_}
-use Rattle.formula.specs.Table.{Table}
 use Rattle.formula.specs.Codes.{entryOf}
 use Rattle.formula.specs.Nodes.{node}
-use Rattle.formula.specs.States.{Model}
-use Rattle.formula.specs.Meaning.{own}
-use Rattle.reader.specs.RecordLaws.{node-count}
+use Rattle.meaning.specs.States.{Model}
+use Rattle.meaning.specs.Meaning.{own}
+use Rattle.proofs.specs.ProofRecords.{node-count}
 use Rattle.calculus.specs.Sequents.{sequent}
-use Rattle.calculus.specs.Correct as rules
+use Rattle.calculus.specs.CorrectNodes as rules
 use Rattle.calculus.specs.Falsity.{Falsity}
 use Rattle.calculus.specs.Kripke.{kripke}
 use Rattle.calculus.specs.Sound.{claim-not-refuted, no-node-refuted}
@@ -36,7 +35,7 @@ some-true : (A : ℕ → Bool) (l : List ℕ) → (elements l ⊆ (λ e. A e ≡
 some-true A l not-all = ⊎-elim (λ f. absurd (not-all f)) (λ x. x) (all-or-some A l)
 
 module _ {claim proof : List ℕ} (k : Correct claim proof) where
-  tables : rules.Correct (k .entries) (k .nodes)
+  tables : rules.CorrectNodes (k .entries) (k .nodes)
   tables = record { members = given (k .proof-file) .members; tree = k .tree; keeps = k .keeps; loops = k .loops }
 
   module _ (M : Model) (s : ℕ) (state : s < M .size) where

@@ -3,15 +3,15 @@ ghost use mathlib.Core.Path.{_≡_};
 ghost use lib.ListN.{take};
 ghost use Rattle.verdict.specs.Shown.{shown};
 ghost use Rattle.formula.specs.Plain.{tableOf};
-ghost use Rattle.formula.specs.WellFormed.{WellFormed};
-ghost use Rattle.formula.specs.Judge.{judgeTable};
-ghost use Rattle.reader.specs.ReadProof.{readProof};
+ghost use Rattle.conditions.specs.WellFormed.{WellFormed};
+ghost use Rattle.conditions.specs.Judge.{judgeTable};
+ghost use Rattle.proofs.specs.ReadProof.{readProof};
 ghost use Rattle.gate.specs.Check.{afterProof, afterTable, answer, verdict};
 ghost use Rattle.gate.specs.Compose.{ClaimHeld};
 ghost use Rattle.gate.specs.Single.{SingleCheck};
-use formula::judge;
-use reader::claim::read_claim;
-use reader::proof::read_proof;
+use claims::read_claim;
+use conditions::judge;
+use proofs::read_proof;
 use verdict::Verdict;
 
 // 12 to 19 and 30 to 39: the proof's bytes, and then the rules.

@@ -1,6 +1,5 @@
 // "Presenting a tag, claim and proof (on acceptance it holds that tag)": what stands before the files, the files, the lent records and what the judge says of what stands there, and the state that the verdict leaves.
 ghost use Rattle.gate.specs.PresentCall.{PresentCall};
-use decoding::files::read_files;
 use decoding::judge_records;
 use decoding::store_claim;
 use decoding::store_proof;
@@ -8,6 +7,7 @@ use permit::State;
 use permit::numbered::Numbered;
 use permit::present::settle;
 use permit::present::stands_before;
+use reader::read_files;
 use records::Entry;
 use records::Node;
 

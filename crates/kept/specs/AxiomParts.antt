@@ -1,8 +1,8 @@
 -- the axioms' tests over a part of a list: exactly two codes, exactly one
-use mathlib.Core.Path.{_≡_, refl, ap, _∙_}
+use mathlib.Core.Path.{_≡_, refl}
 use mathlib.Core.Logic.{_≢_}
 use mathlib.Core.List.{List, [], _∷_}
-use mathlib.Core.Bool.{Bool, true, false, _&&_, _||_}
+use mathlib.Core.Bool.{false, _||_}
 use Prim.Native.Nat.{ℕ, _+_, _≤_}
 use native.Mathlib.Omega.{arith}
 use lib.Dec.{eqb}
@@ -11,7 +11,7 @@ use Rattle.formula.specs.Kind
 use Rattle.formula.specs.Table.{Table, kind}
 use Rattle.formula.specs.Codes.{entryOf}
 use Rattle.calculus.specs.Judge.{opposite, clash, truth}
-use Rattle.kept.specs.Part.{part, part-none, part-more, part-length}
+use Rattle.sequents.specs.Part.{part, part-none, part-more, part-length}
 
 module _ (t : Table) (cs : List ℕ) (i j : ℕ) (h : i ≤ j) (k : j ≤ length cs) where
   pub clash-two : j ≡ i + 2 → clash t (part cs i j) ≡ (opposite t (getD cs i 0) (getD cs (i + 1) 0) || opposite t (getD cs (i + 1) 0) (getD cs i 0))

@@ -14,14 +14,14 @@ use Rattle.verdict.specs.SetTells.{all-tells, lists-remove}
 use Rattle.formula.specs.Kind
 use Rattle.formula.specs.Table.{entry, kind}
 use Rattle.formula.specs.Plain.{tableOf, tableOf-kind}
-use Rattle.formula.specs.RowMarks.{same-test}
+use Rattle.verdict.specs.Tells.{same-test}
 use Rattle.formula.specs.ShapeLaws.{diamond-shape, box-shape}
 use Rattle.formula.specs.Codes.{entryOf}
 use Rattle.formula.specs.PlainNodes.{codesAt}
 use Rattle.calculus.specs.Judge.{sides}
-use Rattle.kept.specs.Part.{part, part-more, part-none}
-use Rattle.kept.specs.Placed.{local, Placed, Entries, Ready}
-use Rattle.kept.specs.KeptLaws.{Operand-in, Chosen, a-operand}
+use Rattle.sequents.specs.Part.{part, part-more, part-none}
+use Rattle.sequents.specs.Placed.{local, NodeReady}
+use Rattle.sequents.specs.KeptLaws.{Operand-in, Chosen, a-operand}
 
 -- a member of a box step: the principal, or a diamond
 abbrev pub boxed : List ℕ → ℕ → ℕ → Bool
@@ -48,7 +48,7 @@ Modal ks xs ys n c = Operand-in ks xs xs n (entryOf c) (entry (tableOf ks xs ys 
 boxed-tells : (ks : List ℕ) (p c : ℕ) → Tells (boxed ks p c) ((c ≡ p) ⊎ (getD ks (entryOf c) 0 ≡ Kind.DIAMOND))
 boxed-tells ks p c = or-tells (eqb-tells c p) (eqb-tells (getD ks (entryOf c) 0) Kind.DIAMOND)
 
-module _ (ks xs ys : List ℕ) (n : ℕ) (ls ss cs : List ℕ) (v : ℕ) (R : Ready ks xs ys n ls ss cs v) where
+module _ (ks xs ys : List ℕ) (n : ℕ) (ls ss cs : List ℕ) (v : ℕ) (R : NodeReady ks xs ys n ls ss cs v) where
   pub others-boxed : all (boxed ks (getD ls (4 * v) 0)) (codesAt ss cs v) ≡ all (λ c. eqb (kind (tableOf ks xs ys n) (entryOf c)) Kind.DIAMOND) (sides (local ls ss cs) v)
   unfolding sides
   others-boxed = same-test

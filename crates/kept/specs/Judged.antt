@@ -1,25 +1,22 @@
 -- tables that have passed 20 to 35, in plain numbers: where each test's promise holds of the proof itself
 use mathlib.Core.Path.{_≡_, refl, ap, sym, _∙_}
-use mathlib.Core.Logic.{_≢_}
 use mathlib.Core.List.{List}
 use mathlib.Core.Bool.{Bool, false}
 use Prim.Native.Nat.{ℕ, _+_, _*_, _<_, _≤_}
 use native.Mathlib.Omega.{arith}
 use lib.ListN.{length, getD, List·getD-eq-default}
-use Rattle.verdict.specs.Sets.{elements}
 use Rattle.formula.specs.Rule
 use Rattle.formula.specs.Table.{Table}
 use Rattle.formula.specs.Plain.{tableOf, tableOf-length}
-use Rattle.formula.specs.WellFormed.{WellFormed}
-use Rattle.formula.specs.Codes.{entryOf}
-use Rattle.formula.specs.Nodes.{Node, Proof, node}
+use Rattle.conditions.specs.WellFormed.{WellFormed}
+use Rattle.formula.specs.Nodes.{Node, node}
 use Rattle.formula.specs.PlainNodes.{codesAt, plainNode, proofOf, proofOf-length, proofOf-node}
 use Rattle.calculus.specs.Given.{Given}
 use Rattle.calculus.specs.Tree.{Tree, Child, first, second}
 use Rattle.calculus.specs.View.{plain}
 use Rattle.calculus.specs.Judge.{ax1-kept, ax2-kept, or-kept, and-kept, box-kept, mu-kept, nu-kept, weaken-kept, focus-kept, discharge-kept, of-kind, belongs, sides, clash, truth, keeps, tests}
 use Rattle.calculus.specs.Steps.{keeps-ax1, keeps-ax2, keeps-or, keeps-and, keeps-box, keeps-mu, keeps-nu, keeps-w, keeps-f, keeps-u, keeps-d}
-use Rattle.kept.specs.Placed.{local, Placed, Entries, Ready}
+use Rattle.sequents.specs.Placed.{local, Placed, Entries, NodeReady}
 
 pub record Judged (ks xs ys : List ℕ) (n : ℕ) (rs ls ss cs : List ℕ) (m : ℕ) : Type 0 where
   -- 256 entries and 1,024 nodes
@@ -76,7 +73,7 @@ module _ {ks xs ys : List ℕ} {n : ℕ} {rs ls ss cs : List ℕ} {m : ℕ} (J :
   pub second-placed : getD rs v 0 ≡ Rule.AND → Placed ss cs (getD ls (4 * v + 2) 0)
   second-placed a = placed J (getD ls (4 * v + 2) 0) (second-inside J v real a)
 
-  pub ready : Rule.OR ≤ getD rs v 0 → getD rs v 0 ≤ Rule.D → Ready ks xs ys n ls ss cs v
+  pub ready : Rule.OR ≤ getD rs v 0 → getD rs v 0 ≤ Rule.D → NodeReady ks xs ys n ls ss cs v
   ready a b = record { well = J .well; small = J .entries; here = placed J v real; entries = entries-in J v real; first = first-placed a b }
 
   first-node : Rule.OR ≤ getD rs v 0 → getD rs v 0 ≤ Rule.D → node (proofOf rs ls ss cs m) (getD ls (4 * v + 1) 0) ≡ plainNode rs ls ss cs (getD ls (4 * v + 1) 0)

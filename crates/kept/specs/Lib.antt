@@ -1,10 +1,3 @@
--- sequents as words
-pub mod WordLaws
-pub mod Part
-pub mod CodeSet
--- nodes as they stand in the lists, and the test of each rule over them
-pub mod Placed
-pub mod KeptLaws
 pub mod BoxLaws
 pub mod AxiomParts
 pub mod Judged

@@ -5,12 +5,12 @@ ghost use Prim.Native.Nat.{ℕ, _<_};
 ghost use Rattle.verdict.specs.Sets.{elements};
 ghost use Rattle.formula.specs.Plain.{tableOf};
 ghost use Rattle.formula.specs.Codes.{entryOf};
-ghost use Rattle.kept.specs.Placed.{local, Placed, Entries};
-ghost use Rattle.kept.specs.Part.{part, Span};
+ghost use Rattle.sequents.specs.Placed.{local, Placed, Entries};
+ghost use Rattle.sequents.specs.Part.{part, Span};
 ghost use Rattle.calculus.specs.Judge.{opposite as Opposite, clash as Clash, truth as Truth, ax1-kept as Ax1Kept, ax2-kept as Ax2Kept};
-use super::sequents::entry_of;
-use super::sequents::wide;
+use bits::wide;
 use formula::Kind;
+use sequents::sets::entry_of;
 
 // Whether one member is a letter and the other its negation.
 fn opposite(kinds: &[u8; 256], a: &[u16; 256], plain: u16, negated: u16) -> bool

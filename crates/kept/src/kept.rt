@@ -5,24 +5,24 @@ ghost use lib.ListN.{getD};
 ghost use Rattle.formula.specs.Table.{Table};
 ghost use Rattle.formula.specs.Plain.{tableOf};
 ghost use Rattle.formula.specs.PlainNodes.{proofOf};
-ghost use Rattle.kept.specs.Placed.{local, Placed, Ready};
+ghost use Rattle.sequents.specs.Placed.{local, Placed, NodeReady};
 ghost use Rattle.calculus.specs.View.{plain};
 ghost use Rattle.kept.specs.Judged.{Judged};
 ghost use Rattle.calculus.specs.Judge.{or-kept as OrKept, and-kept as AndKept, mu-kept as MuKept, nu-kept as NuKept, weaken-kept as WeakenKept, focus-kept as FocusKept, discharge-kept as DischargeKept, keeps};
 use super::axioms::ax1_kept;
 use super::axioms::ax2_kept;
 use super::modal::box_kept;
-use super::principal::belongs;
-use super::principal::child_is;
-use super::principal::is_side_plus;
-use super::principal::of_kind;
-use super::principal::operand_code;
-use super::principal::side;
-use super::sequents::code_of;
-use super::sequents::sequent;
-use super::sequents::with;
 use formula::Kind;
 use formula::Rule;
+use sequents::principal::belongs;
+use sequents::principal::child_is;
+use sequents::principal::is_side_plus;
+use sequents::principal::of_kind;
+use sequents::principal::operand_code;
+use sequents::principal::side;
+use sequents::sets::code_of;
+use sequents::sets::sequent;
+use sequents::sets::with;
 
 // 2 or: side plus both targets, focus kept.
 fn or_kept(
@@ -35,7 +35,7 @@ fn or_kept(
     codes: &[u16],
     v: usize,
 ) -> bool
-    requires { ⌜ Ready (now kinds) (now a) (now b) count (now links) (now starts) (now codes) v ⌝ }
+    requires { ⌜ NodeReady (now kinds) (now a) (now b) count (now links) (now starts) (now codes) v ⌝ }
     ensures { λ r. ⌜ r ≡ OrKept (tableOf (now (kinds .entry)) (now (a .entry)) (now (b .entry)) count) (local (now (links .entry)) (now (starts .entry)) (now (codes .entry))) v ⌝ }
 {
     if !of_kind(kinds, links, starts, codes, v, Kind::OR) {
@@ -59,7 +59,7 @@ fn and_kept(
     codes: &[u16],
     v: usize,
 ) -> bool
-    requires { ⌜ Ready (now kinds) (now a) (now b) count (now links) (now starts) (now codes) v × Placed (now starts) (now codes) (getD (now links) (4 * v + 2) 0) ⌝ }
+    requires { ⌜ NodeReady (now kinds) (now a) (now b) count (now links) (now starts) (now codes) v × Placed (now starts) (now codes) (getD (now links) (4 * v + 2) 0) ⌝ }
     ensures { λ r. ⌜ r ≡ AndKept (tableOf (now (kinds .entry)) (now (a .entry)) (now (b .entry)) count) (local (now (links .entry)) (now (starts .entry)) (now (codes .entry))) v ⌝ }
 {
     if !of_kind(kinds, links, starts, codes, v, Kind::AND) {
@@ -85,7 +85,7 @@ fn mu_kept(
     codes: &[u16],
     v: usize,
 ) -> bool
-    requires { ⌜ Ready (now kinds) (now a) (now b) count (now links) (now starts) (now codes) v ⌝ }
+    requires { ⌜ NodeReady (now kinds) (now a) (now b) count (now links) (now starts) (now codes) v ⌝ }
     ensures { λ r. ⌜ r ≡ MuKept (tableOf (now (kinds .entry)) (now (a .entry)) (now (b .entry)) count) (local (now (links .entry)) (now (starts .entry)) (now (codes .entry))) v ⌝ }
 {
     if !of_kind(kinds, links, starts, codes, v, Kind::MU) {
@@ -107,7 +107,7 @@ fn nu_kept(
     codes: &[u16],
     v: usize,
 ) -> bool
-    requires { ⌜ Ready (now kinds) (now a) (now b) count (now links) (now starts) (now codes) v ⌝ }
+    requires { ⌜ NodeReady (now kinds) (now a) (now b) count (now links) (now starts) (now codes) v ⌝ }
     ensures { λ r. ⌜ r ≡ NuKept (tableOf (now (kinds .entry)) (now (a .entry)) (now (b .entry)) count) (local (now (links .entry)) (now (starts .entry)) (now (codes .entry))) v ⌝ }
 {
     if !of_kind(kinds, links, starts, codes, v, Kind::NU) {

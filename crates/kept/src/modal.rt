@@ -7,19 +7,19 @@ ghost use Rattle.verdict.specs.Sets.{elements};
 ghost use Rattle.verdict.specs.Tests.{all, each};
 ghost use Rattle.formula.specs.Plain.{tableOf};
 ghost use Rattle.formula.specs.Codes.{entryOf};
-ghost use Rattle.kept.specs.CodeSet.{Holds};
-ghost use Rattle.kept.specs.Placed.{local, Within, Ready};
-ghost use Rattle.kept.specs.Part.{part, Span};
+ghost use Rattle.sequents.specs.CodeSet.{Holds};
+ghost use Rattle.sequents.specs.Placed.{local, Within, NodeReady};
+ghost use Rattle.sequents.specs.Part.{part, Span};
 ghost use Rattle.kept.specs.BoxLaws.{boxed as Boxed, Modal};
 ghost use Rattle.calculus.specs.Rules.{stepped as Stepped};
 ghost use Rattle.calculus.specs.Judge.{box-kept as BoxKept};
-use super::principal::child_is;
-use super::principal::of_kind;
-use super::principal::operand_code;
-use super::sequents::entry_of;
-use super::sequents::wide;
-use super::sequents::with;
+use bits::wide;
 use formula::Kind;
+use sequents::principal::child_is;
+use sequents::principal::of_kind;
+use sequents::principal::operand_code;
+use sequents::sets::entry_of;
+use sequents::sets::with;
 
 // Whether a member of a box step is the principal or a diamond.
 fn boxed(kinds: &[u8; 256], principal: u16, code: u16) -> bool
@@ -74,7 +74,7 @@ pub fn box_kept(
     codes: &[u16],
     v: usize,
 ) -> bool
-    requires { ⌜ Ready (now kinds) (now a) (now b) count (now links) (now starts) (now codes) v ⌝ }
+    requires { ⌜ NodeReady (now kinds) (now a) (now b) count (now links) (now starts) (now codes) v ⌝ }
     ensures { λ r. ⌜ r ≡ BoxKept (tableOf (now (kinds .entry)) (now (a .entry)) (now (b .entry)) count) (local (now (links .entry)) (now (starts .entry)) (now (codes .entry))) v ⌝ }
 {
     if !of_kind(kinds, links, starts, codes, v, Kind::BOX) {

@@ -16,7 +16,7 @@ use Rattle.verdict.specs.Lists.{valuesFrom}
 use Rattle.verdict.specs.Tests.{any, member}
 use Rattle.encoding.specs.File.{Reading, refused, good}
 use Rattle.encoding.specs.Outcome.{verdictOf}
-use Rattle.formula.specs.Bits.{one}
+use Rattle.bits.specs.Bits.{one}
 use Rattle.model.specs.ModelFile.{State}
 use Rattle.model.specs.ReadModel.{readModel}
 use Rattle.model.specs.Described.{blank, state, mark, row, successorTable}

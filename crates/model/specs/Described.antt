@@ -4,8 +4,8 @@ use Prim.Native.Nat.{ℕ}
 use lib.ListN.{length, getD}
 use Rattle.verdict.specs.Lists.{valuesFrom}
 use Rattle.verdict.specs.Tests.{member}
-use Rattle.formula.specs.States.{Model}
-use Rattle.formula.specs.Bits.{one, bit}
+use Rattle.meaning.specs.States.{Model}
+use Rattle.bits.specs.Bits.{one, bit}
 use Rattle.model.specs.ModelFile.{State}
 
 -- a state with no letter and no successor, past the last

@@ -20,8 +20,8 @@ FitPart bound true x = x < bound
 FitPart bound false x = x ≡ 0
 
 -- what stands is not zero
-abbrev pub Filled : Bool → ℕ → Type 0
-Filled stands x = stands ≡ true → x ≢ 0
+abbrev pub NotZero : Bool → ℕ → Type 0
+NotZero stands x = stands ≡ true → x ≢ 0
 
 -- the map, and the letter mask where bit 0 stands
 abbrev pub MapAndMask : Type 0
@@ -37,7 +37,7 @@ pub record Masked (w : MapAndMask) : Type 0 where
 
 pub record FitMasked (w : MapAndMask) : Type 0 where
   pub there : Masked w
-  pub filled : Filled (lettersStand (w .0)) (w .1)
+  pub filled : NotZero (lettersStand (w .0)) (w .1)
 
 -- those, and the successor count where bit 1 stands
 abbrev pub Head : Type 0
@@ -53,4 +53,4 @@ pub record Header (h : Head) : Type 0 where
 
 pub record FitHeader (h : Head) : Type 0 where
   pub there : Header h
-  pub filled : Filled (listStands (h .0 .0)) (h .1)
+  pub filled : NotZero (listStands (h .0 .0)) (h .1)

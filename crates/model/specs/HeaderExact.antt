@@ -8,9 +8,9 @@ use Rattle.encoding.specs.Encode.{OneByte, encodeByte}
 use Rattle.encoding.specs.Parse.{seq, part, byte, four}
 use Rattle.encoding.specs.ParseLaws.{Exact, exact-as, seq-exact, guard-exact, part-exact, byte-exact, four-exact}
 use Rattle.model.specs.ReadModel.{early, map, not-zero, masked, header}
-use Rattle.model.specs.Header.{lettersStand, listStands, FitPart, Filled, encodeMasked, Masked, FitMasked, encodeHeader, Header, FitHeader}
+use Rattle.model.specs.Header.{lettersStand, listStands, FitPart, NotZero, encodeMasked, Masked, FitMasked, encodeHeader, Header, FitHeader}
 
-pub filled-tells : (stands : Bool) (x : ℕ) → Tells (not-zero stands x) (Filled stands x)
+pub filled-tells : (stands : Bool) (x : ℕ) → Tells (not-zero stands x) (NotZero stands x)
 filled-tells stands x = if-tells (record { says = λ h. h; holds = λ h. h }) (not-tells (eqb-tells x 0))
 
 pub map-exact : Exact map encodeByte (λ m. OneByte m × (m ≤ 3))

@@ -20,7 +20,7 @@ use Rattle.model.specs.declared.header.Header.{Header}
 use Rattle.model.specs.declared.header.Header.the-variants as header-answers
 
 -- a place of the file; those shortly after it still fit two bytes
-pub record Placed (s : List ℕ) (at : ℕ) : Type 0 where
+pub record InModel (s : List ℕ) (at : ℕ) : Type 0 where
   pub within : at ≤ length s
   pub low : at ≤ 65000
 

@@ -5,11 +5,9 @@ pub mod ReadModel
 pub mod HeaderExact
 pub mod StateHeader
 pub mod ModelExact
-pub mod ModelBytes
 pub mod ModelDocument
 pub mod StateFaults
 pub mod ModelFaults
-pub mod ModelSamples
 -- the model that a file describes
 pub mod Described
 pub mod DescribedLaws

@@ -5,7 +5,7 @@ use Prim.Native.Nat.{ℕ, _+_, _<_, _^_}
 use lib.Dec.{eqb}
 use lib.ListN.{length}
 use Rattle.verdict.specs.Lists.{Each, Rising}
-use Rattle.formula.specs.Fields.{bit}
+use Rattle.bits.specs.IfSet.{ifSet}
 use Rattle.encoding.specs.Encode.{encodeByte, encodeFour, encodePart, encodeCounted, Counts}
 use Rattle.encoding.specs.File.{Encodes}
 
@@ -27,7 +27,7 @@ hasList l = not (eqb (length l) 0)
 
 -- bit 0: letter mask; bit 1: successors; other bits zero
 abbrev pub mapByte : Bool → Bool → ℕ
-mapByte letters list = bit letters 1 + bit list 2
+mapByte letters list = ifSet letters 1 + ifSet list 2
 
 -- a one-byte count of one-byte successors
 abbrev pub encodeSuccessors : List ℕ → List ℕ

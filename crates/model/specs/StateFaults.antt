@@ -19,7 +19,7 @@ use Rattle.encoding.specs.FaultLaws.{Refuses, CutIn, WrongIn, refuses-as, raw-r
 use Rattle.encoding.specs.ListFaults.{rising-refuses}
 use Rattle.encoding.specs.Known.{nothing, known-exact, known-refuses}
 use Rattle.model.specs.ReadModel.{early, masked, header, made, state}
-use Rattle.model.specs.Header.{lettersStand, listStands, Head, FitPart, Filled, encodeMasked, Masked, FitMasked, encodeHeader, Header, FitHeader}
+use Rattle.model.specs.Header.{lettersStand, listStands, Head, FitPart, NotZero, encodeMasked, Masked, FitMasked, encodeHeader, Header, FitHeader}
 use Rattle.model.specs.HeaderExact.{filled-tells, map-exact, mask-exact, masked-exact, count-exact, header-exact}
 use Rattle.model.specs.ModelDocument.{StateStage, at-map, at-mask, at-successor-count, at-successor, stateDone, SomeSuccessors, StateReached, stateWidth, StateWrong, unfit-map, zero-mask, zero-count, unfit-successor, stateStages}
 
@@ -30,12 +30,12 @@ MapPart = tested 1 encodeByte OneByte (λ m. m ≤ 3) 63
 abbrev MaskedParts : Stages
 MaskedParts =
     joined (followed encodeByte (λ m. OneByte m × (m ≤ 3)) MapPart (λ m. present (lettersStand m) (raw 4)))
-    (tested 0 encodeMasked Masked (λ w. Filled (lettersStand (w .0)) (w .1)) 63)
+    (tested 0 encodeMasked Masked (λ w. NotZero (lettersStand (w .0)) (w .1)) 63)
 
 abbrev HeaderParts : Stages
 HeaderParts =
     joined (followed encodeMasked FitMasked MaskedParts (λ w. present (listStands (w .0)) (raw 1)))
-    (tested 0 encodeHeader Header (λ h. Filled (listStands (h .0 .0)) (h .1)) 63)
+    (tested 0 encodeHeader Header (λ h. NotZero (listStands (h .0 .0)) (h .1)) 63)
 
 abbrev SuccessorParts : ℕ → ℕ → Stages
 SuccessorParts n k = climbing nothing (λ m. m ≡ k) (raw 0) 1 encodeByte OneByte (λ u. u < n) 64
@@ -64,7 +64,7 @@ parts-refuse n =
     made
 
 -- what is not filled stands, and is zero
-unfilled : (stands : Bool) (x : ℕ) → (Filled stands x → ⊥) → (stands ≡ true) × (x ≡ 0)
+unfilled : (stands : Bool) (x : ℕ) → (NotZero stands x → ⊥) → (stands ≡ true) × (x ≡ 0)
 unfilled false x u = absurd (u (λ h. absurd (false≢true h)))
 unfilled true x u = (refl, go (ℕ-discrete x 0))
   where

@@ -8,10 +8,10 @@ use lib.Dec.{eqb}
 use lib.ListN.{length}
 use Rattle.verdict.specs.Tells.{Tells, fails, not-tells, eqb-tells}
 use Rattle.encoding.specs.Encode.{encodeByte, encodeFour, encodePart, encodeAll}
-use Rattle.formula.specs.Bits.{bit}
+use Rattle.bits.specs.Bits.{bit}
 use Rattle.model.specs.ModelFile.{State, hasMask, hasList, mapByte, encodeSuccessors, encodeState}
 use Rattle.model.specs.ReadModel.{masked}
-use Rattle.model.specs.Header.{lettersStand, listStands, Head, FitPart, Filled, encodeHeader, FitHeader}
+use Rattle.model.specs.Header.{lettersStand, listStands, Head, FitPart, NotZero, encodeHeader, FitHeader}
 
 -- a map says which parts stand, and nothing else
 map-letters : (a b : Bool) → lettersStand (mapByte a b) ≡ a
@@ -56,7 +56,7 @@ fits-filled bound x h = go (eqb x 0) (eqb-tells x 0)
     go true t = t .says refl
     go false t = h
 
-stands-filled : (bound : ℕ) (stands : Bool) (x : ℕ) → FitPart bound stands x → Filled stands x → not (eqb x 0) ≡ stands
+stands-filled : (bound : ℕ) (stands : Bool) (x : ℕ) → FitPart bound stands x → NotZero stands x → not (eqb x 0) ≡ stands
 stands-filled bound true x h f = not-tells (eqb-tells x 0) .holds (f refl)
 stands-filled bound false x h f = rw h refl
 

@@ -6,7 +6,7 @@ use native.Mathlib.Omega.{arith}
 use lib.ListN.{length, getD, set, replicate}
 use Rattle.model.specs.ModelFile.{State}
 use Rattle.model.specs.Described.{successorTable}
-use Rattle.model.specs.HeaderSteps.{Placed, HeaderRead}
+use Rattle.model.specs.HeaderSteps.{InModel, HeaderRead}
 use Rattle.model.specs.Decoded.{GoodModel, statesOf, maskTable, marksOf, marks-none, stored, stored-none, stored-more, masks-stored, marks-stored}
 use Rattle.model.specs.Decoding.{HeaderThere, SuccessorsAt, successorsAt, Decoding, good-counts, good-many, decoding-begins, decoding-ends, decoding-steps, header-there, successors-there}
 
@@ -42,7 +42,7 @@ module _ (s : List ℕ) (g : GoodModel s) where
       more : i < getD s 4 0
       more = omega (arith, good-many s g)
 
-      pub next-placed : Placed s at
+      pub next-placed : InModel s at
       next-placed = record { within = t .decoding .inside; low = omega (arith, t .decoding .near, good-counts s g, more) }
 
       pub next-there : HeaderThere s at

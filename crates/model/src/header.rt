@@ -4,7 +4,7 @@ ghost use Prim.Native.Nat.{_+_, _<_};
 ghost use mathlib.Core.Path.{_≡_};
 ghost use lib.ListN.{length};
 ghost use Rattle.encoding.specs.FourPlaces.{doubleAt};
-ghost use Rattle.model.specs.HeaderSteps.{Placed, MaskFollows, MaskedTells, HeaderTells};
+ghost use Rattle.model.specs.HeaderSteps.{InModel, MaskFollows, MaskedTells, HeaderTells};
 use super::ModelFault;
 
 pub enum Masked {
@@ -36,7 +36,7 @@ fn four_at(bytes: &[u8], at: usize) -> u32
 
 // The mask after a map with bit 0.
 fn mask_after(bytes: &[u8], at: usize) -> Masked
-    requires { ⌜ (Placed (now bytes) at) × (MaskFollows (now bytes) at) ⌝ }
+    requires { ⌜ (InModel (now bytes) at) × (MaskFollows (now bytes) at) ⌝ }
     ensures { λ r. ⌜ MaskedTells (now (bytes .entry)) at r ⌝ }
 {
     if bytes.len() < at + 5 {
@@ -61,7 +61,7 @@ fn mask_after(bytes: &[u8], at: usize) -> Masked
 
 // The map, and the mask where bit 0 stands.
 fn masked_at(bytes: &[u8], at: usize) -> Masked
-    requires { ⌜ Placed (now bytes) at ⌝ }
+    requires { ⌜ InModel (now bytes) at ⌝ }
     ensures { λ r. ⌜ MaskedTells (now (bytes .entry)) at r ⌝ }
 {
     if bytes.len() <= at {
@@ -89,7 +89,7 @@ fn masked_at(bytes: &[u8], at: usize) -> Masked
 
 // Then the successor count where bit 1 stands.
 pub fn header_at(bytes: &[u8], at: usize) -> Header
-    requires { ⌜ Placed (now bytes) at ⌝ }
+    requires { ⌜ InModel (now bytes) at ⌝ }
     ensures { λ r. ⌜ HeaderTells (now (bytes .entry)) at r ⌝ }
 {
     match masked_at(bytes, at) {

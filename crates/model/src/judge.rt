@@ -1,12 +1,12 @@
 // The first pass over a model file: the first fault in the order of its bytes. Nothing is written.
 ghost use mathlib.Core.Path.{_≡_};
-ghost use Prim.Native.Nat.{_+_, _*_, _≤_};
+ghost use Prim.Native.Nat.{_+_, _≤_};
 ghost use lib.ListN.{length, drop};
 ghost use Rattle.verdict.specs.Shown.{shown};
 ghost use Rattle.encoding.specs.Parse.{in-range};
 ghost use Rattle.encoding.specs.Outcome.{verdictOf};
 ghost use Rattle.model.specs.ReadModel.{successors, state, readModel};
-ghost use Rattle.model.specs.HeaderSteps.{Placed};
+ghost use Rattle.model.specs.HeaderSteps.{InModel};
 ghost use Rattle.model.specs.StateSteps.{Finds, statesFrom};
 use super::FIRST_STATE;
 use super::ModelFault;
@@ -24,7 +24,7 @@ enum Step {
 
 // So many successors, each a state and above the one before.
 fn successors_step(bytes: &[u8], from: usize, count: usize, states: usize) -> Step
-    requires { ⌜ (Placed (now bytes) from) × (states ≤ 64) ⌝ }
+    requires { ⌜ (InModel (now bytes) from) × (states ≤ 64) ⌝ }
     ensures { λ r. ⌜ Finds (now (bytes .entry)) (from + 64) (successors states count (drop from (now (bytes .entry))) from) r ⌝ }
 {
     let mut at = from;

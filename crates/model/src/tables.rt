@@ -4,7 +4,7 @@ ghost use Prim.Native.Nat.{_+_};
 ghost use lib.ListN.{length};
 ghost use Rattle.encoding.specs.Encode.{Counts};
 ghost use Rattle.model.specs.Described.{successorTable};
-ghost use Rattle.model.specs.HeaderSteps.{Placed, HeaderRead};
+ghost use Rattle.model.specs.HeaderSteps.{InModel, HeaderRead};
 ghost use Rattle.model.specs.Decoded.{GoodModel, statesOf, maskTable, marksOf};
 ghost use Rattle.model.specs.Decoding.{HeaderThere, SuccessorsAt, successorsAt};
 use super::FIRST_STATE;
@@ -20,7 +20,7 @@ struct Known {
 
 // The header at a place where one is known to be.
 fn known_header(bytes: &[u8], at: usize) -> Known
-    requires { ⌜ (Placed (now bytes) at) × (HeaderThere (now bytes) at) ⌝ }
+    requires { ⌜ (InModel (now bytes) at) × (HeaderThere (now bytes) at) ⌝ }
     ensures { λ r. ⌜ HeaderRead (now (bytes .entry)) at (r .mask) (r .count) (r .list) ⌝ }
 {
     match header_at(bytes, at) {

@@ -1,10 +1,10 @@
 -- records and numbers that are stored one after the other: a list written over another grows by one
-use mathlib.Core.Path.{_≡_, refl, sym, ap, subst, _∙_}
+use mathlib.Core.Path.{_≡_, refl, sym, ap, _∙_}
 use mathlib.Core.List.{List, [], _∷_, _++_, map, map-append}
 use Prim.Native.Nat.{ℕ, zero, suc, _+_, _*_, _<_, _≤_}
 use native.Mathlib.Omega.{arith}
-use lib.ListN.{length, getD, set, take, drop, length-append, length-drop, length-map, length-set, List·getD-append}
-use lib.Seq.{drop-cons, append-snoc, set-append-seam, take-suc, length-take-le, getD-append-seam}
+use lib.ListN.{length, getD, set, take, drop, length-append, length-drop, length-map, List·getD-append}
+use lib.Seq.{drop-cons, append-snoc, set-append-seam, take-suc, length-take-le}
 use Rattle.verdict.specs.Lists.{valuesFrom, valuesFrom-length, written}
 use Rattle.formula.specs.Table as tables
 use Rattle.formula.specs.Table.{Table}

@@ -6,8 +6,7 @@ use native.Mathlib.Nat.{le-of-suc-le-suc}
 use native.Mathlib.Omega.{arith}
 use lib.ListN.{length, getD, take, drop, length-map, length-append, length-take, length-drop}
 use lib.Seq.{take-at, drop-at, length-take-le}
-use Rattle.verdict.specs.Lists.{valuesFrom, valuesFrom-length, written}
-use Rattle.formula.specs.Table.{Table}
+use Rattle.verdict.specs.Lists.{valuesFrom, written}
 use Rattle.formula.specs.Columns.{kindColumn, aColumn, bColumn, table-of-columns}
 use Rattle.formula.specs.Plain.{tableOf}
 use Rattle.formula.specs.Nodes.{Node, Proof, node}
@@ -40,9 +39,6 @@ module _ {A B : Type 0} (f : A → B) where
 
 -- ---- entries
 module _ (ks xs ys : List ℕ) (n : ℕ) where
-  pub entriesOf-length : length (entriesOf ks xs ys n) ≡ n
-  entriesOf-length = valuesFrom-length (entryOf ks xs ys) 0 n
-
   -- the records made of columns show the table of the columns
   pub entries-shown : shownEntries (entriesOf ks xs ys n) ≡ tableOf ks xs ys n
   unfolding tableOf
@@ -74,9 +70,6 @@ same-values f g e (suc k) h =
     rest i l = let next : suc e + i ≡ e + suc i = omega arith in ap f next ∙ h (suc i) (omega arith) ∙ ap g (sym next)
 
 module _ (rs ls ss cs : List ℕ) (n : ℕ) where
-  pub nodesOf-length : length (nodesOf rs ls ss n) ≡ n
-  nodesOf-length = valuesFrom-length (nodeOf rs ls ss) 0 n
-
   codes-length : (v : ℕ) → getD ss (v + 1) 0 ≤ length cs → length (codesAt ss cs v) ≡ getD ss (v + 1) 0 - getD ss v 0
   codes-length v h = length-take-le (getD ss (v + 1) 0 - getD ss v 0) (drop (getD ss v 0) cs) (omega (arith, length-drop (getD ss v 0) cs))
 

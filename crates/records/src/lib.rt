@@ -1,6 +1,6 @@
 // "The decoded nodes stand as records in a slice the caller lends", and so do the entries: the records, read and written one at a time, stored from columns of plain numbers and loaded into them.
 ghost use mathlib.Core.Path.{_≡_};
-ghost use Prim.Native.Nat.{ℕ, _+_, _<_, _≤_};
+ghost use Prim.Native.Nat.{_+_, _<_, _≤_};
 ghost use lib.ListN.{length, getD, set};
 ghost use Rattle.verdict.specs.Lists.{written};
 ghost use Rattle.records.specs.Records.{blankEntry, blankNode, entryOf, entriesOf, nodeOf, nodesOf};

@@ -5,18 +5,17 @@ use mathlib.Core.List.{List}
 use Prim.Native.Nat.{ℕ, _+_, _*_, _<_, _≤_}
 use native.Mathlib.Decide.{ℕ-discrete}
 use native.Mathlib.Omega.{arith}
-use lib.Dec.{eqb}
-use lib.ListN.{length, getD, take}
+use lib.ListN.{length, getD}
 use borrow.Author.Tests.{eq-eqb, ne-eqb}
 use Rattle.verdict.specs.Verdict.{Verdict, accepted, refused, pick, scan}
 use Rattle.verdict.specs.declared.Verdict.the-variants.{Accepted}
-use Rattle.verdict.specs.Tests.{same, choose}
+use Rattle.verdict.specs.Tests.{same}
 use Rattle.formula.specs.Rule
 use Rattle.formula.specs.Table.{Table}
 use Rattle.formula.specs.Plain.{tableOf}
 use Rattle.formula.specs.Nodes.{Node, Proof, node}
 use Rattle.formula.specs.PlainNodes.{codesAt, proofOf, proofOf-length, proofOf-node}
-use Rattle.formula.specs.WellFormed.{WellFormed}
+use Rattle.conditions.specs.WellFormed.{WellFormed}
 use Rattle.calculus.specs.Tree.{Tree}
 use Rattle.calculus.specs.Given.{Given}
 use Rattle.calculus.specs.View.{plain}
@@ -24,12 +23,11 @@ use Rattle.calculus.specs.Judge.{codes, keeps, rule-number, back-kept, loop, ro
 use Rattle.calculus.specs.Steps.{keeps-leaf}
 use Rattle.calculus.specs.JudgeExact.{judge-is, claim-stage, loops-stage}
 use Rattle.rules.specs.ScanLaws.{Passed, scan-passes, scan-fails, after, scan-then}
-use Rattle.rules.specs.Owners.{Parented, Filled, tree-judged}
+use Rattle.rules.specs.Owners.{Parented, OwnersFilled, tree-judged}
 use Rattle.rules.specs.TreeStages.{tree-then, accepted-tree}
 use Rattle.rules.specs.Flags.{Noted, Companion, companion-fits, loops-judged}
 use Rattle.rules.specs.LoopStages.{linked-of, back-kept-is, no-leaf}
-use Rattle.kept.specs.Placed.{Placed, Members}
-use Rattle.kept.specs.Judged.{Judged, placed, codes-is}
+use Rattle.kept.specs.Judged.{Judged, codes-is}
 
 -- 37 or 38 by rising node
 abbrev pub rules-judged : Table → Proof → Verdict
@@ -51,7 +49,7 @@ judge-stages t ms p =
     (scan-then (keeps t (plain p)) (rule-number (plain p)) (length p) 0 (loops-stage t ms p))
 
 -- tables that have passed 20 to 35, with what the walks up read
-pub record Ready (ks xs ys : List ℕ) (n : ℕ) (rs ls ss cs : List ℕ) (m : ℕ) (owners : List ℕ) (flags : List Bool) : Type 0 where
+pub record TreeReady (ks xs ys : List ℕ) (n : ℕ) (rs ls ss cs : List ℕ) (m : ℕ) (owners : List ℕ) (flags : List Bool) : Type 0 where
   pub judged : Judged ks xs ys n rs ls ss cs m
   pub parented : Parented owners m
   pub noted : Noted (proofOf rs ls ss cs m) rs owners flags
@@ -100,7 +98,7 @@ pub record Laid (ks xs ys : List ℕ) (n : ℕ) (rs ls ss cs : List ℕ) (m : �
 pub laid-judged : {ks xs ys : List ℕ} {n : ℕ} {rs ls ss cs : List ℕ} {m : ℕ} → Laid ks xs ys n rs ls ss cs m → Tree (proofOf rs ls ss cs m) → Judged ks xs ys n rs ls ss cs m
 laid-judged L T = record { entries = L .entries; nodes = L .nodes .1; codes = L .codes; rising = L .rising; well = L .well; given = L .given; tree = T }
 
-module _ {ks xs ys : List ℕ} {n : ℕ} {rs ls ss cs : List ℕ} {m : ℕ} {owners : List ℕ} {flags : List Bool} (R : Ready ks xs ys n rs ls ss cs m owners flags) (t : Table) (v : ℕ) (real : v < m)
+module _ {ks xs ys : List ℕ} {n : ℕ} {rs ls ss cs : List ℕ} {m : ℕ} {owners : List ℕ} {flags : List Bool} (R : TreeReady ks xs ys n rs ls ss cs m owners flags) (t : Table) (v : ℕ) (real : v < m)
     (leaf : getD rs v 0 ≡ Rule.BACK) {answer good : Bool} (companion : Companion rs ls owners flags v answer good) where
   fits-is : answer ≡ companion-fits (proofOf rs ls ss cs m) v
   fits-is = companion .fits (proofOf rs ls ss cs m) (R .noted) (linked-of rs ls ss cs m) (rw proofOf-length real)
@@ -119,7 +117,7 @@ module _ {ks xs ys : List ℕ} {n : ℕ} {rs ls ss cs : List ℕ} {m : ℕ} {own
   leaf-compared h = leaf-with (R .judged) t v real leaf (sym fits-is ∙ h) (companion-inside h)
 
 -- only a back leaf has a loop path
-pub other-path : {ks xs ys : List ℕ} {n : ℕ} {rs ls ss cs : List ℕ} {m : ℕ} {owners : List ℕ} {flags : List Bool} → Ready ks xs ys n rs ls ss cs m owners flags → (v : ℕ) → v < m
+pub other-path : {ks xs ys : List ℕ} {n : ℕ} {rs ls ss cs : List ℕ} {m : ℕ} {owners : List ℕ} {flags : List Bool} → TreeReady ks xs ys n rs ls ss cs m owners flags → (v : ℕ) → v < m
     → (getD rs v 0 ≡ Rule.BACK → ⊥) → true ≡ loop (plain (proofOf rs ls ss cs m)) v
 other-path {rs = rs} {ls = ls} {ss = ss} {cs = cs} {m = m} {owners = owners} {flags = flags} R v real e = sym (no-leaf (proofOf rs ls ss cs m) rs ls owners flags v (R .noted) (linked-of rs ls ss cs m) (rw proofOf-length real) e)
 
@@ -166,7 +164,7 @@ module _ (t : Table) (ms : List ℕ) (p : Proof) where
   tree-good r = judge-stages t ms p ∙ rw r refl
 
 -- what an accepted tree gives to the stages after it
-module _ {rs ls : List ℕ} {m : ℕ} {owners : List ℕ} (filled : Filled tree-judged rs ls m Accepted owners) where
+module _ {rs ls : List ℕ} {m : ℕ} {owners : List ℕ} (filled : OwnersFilled tree-judged rs ls m Accepted owners) where
   pub filled-tree : (ss cs : List ℕ) → tree-judged (proofOf rs ls ss cs m) ≡ accepted
   filled-tree ss cs = sym (filled .answers ss cs)
 

@@ -49,7 +49,7 @@ abbrev pub tree-judged : Proof → verdicts.Verdict
 tree-judged p = scan (children-fit (plain p)) (λ _. 35) (length p) 0 (orphans-judged p)
 
 -- what a stage answers, and the table that it leaves
-pub record Filled (stage : Proof → verdicts.Verdict) (rs ls : List ℕ) (n : ℕ) (answer : Verdict) (owners : List ℕ) : Type 0 where
+pub record OwnersFilled (stage : Proof → verdicts.Verdict) (rs ls : List ℕ) (n : ℕ) (answer : Verdict) (owners : List ℕ) : Type 0 where
   pub answers : (ss cs : List ℕ) → shown answer ≡ stage (proofOf rs ls ss cs n)
   pub owned : answer ≡ Accepted → OwnedBy rs ls n n owners
 

@@ -22,7 +22,7 @@ use Rattle.calculus.specs.View.{owner, plain}
 use Rattle.calculus.specs.Judge.{children-fit, adopted, parent}
 use Rattle.calculus.specs.TreeLaws.{children-fit-tells, adopted-tells, to-tree, tree-adopted, parent-child}
 use Rattle.rules.specs.ScanLaws.{Passed, scan-passes, scan-fails, after, scan-then}
-use Rattle.rules.specs.Owners.{Owned, OwnedBy, OneParent, children-judged, orphans-judged, tree-judged, Filled, Parented}
+use Rattle.rules.specs.Owners.{Owned, OwnedBy, OneParent, children-judged, orphans-judged, tree-judged, OwnersFilled, Parented}
 
 module _ (rs ls : List ℕ) (n : ℕ) where
   -- the children of all nodes below v fit
@@ -33,13 +33,13 @@ module _ (rs ls : List ℕ) (n : ℕ) where
     pub fit-more : x ≡ true → FitBelow (v + 1)
     fit-more e ss cs = below-more (λ w. children-fit (plain (proofOf rs ls ss cs n)) w ≡ true) v (f ss cs) (sym (step .answers ss cs) ∙ e)
 
-    pub children-refused : v < n → x ≡ false → Filled children-judged rs ls n (Refused 35 v) left
+    pub children-refused : v < n → x ≡ false → OwnersFilled children-judged rs ls n (Refused 35 v) left
     children-refused h e = record {
       answers = λ ss cs. sym (scan-fails _ (λ _. 35) _ accepted v (omega (arith, proofOf-length rs ls ss cs n)) (f ss cs) (sym (step .answers ss cs) ∙ e));
       owned = λ z. absurd (let q : _≡_ {A = ℕ} 0 1 = cc in omega arith);
     }
 
-  pub children-accepted : {v : ℕ} {owners : List ℕ} → n ≤ v → v ≤ n → FitBelow v → OwnedBy rs ls n v owners → Filled children-judged rs ls n Accepted owners
+  pub children-accepted : {v : ℕ} {owners : List ℕ} → n ≤ v → v ≤ n → FitBelow v → OwnedBy rs ls n v owners → OwnersFilled children-judged rs ls n Accepted owners
   children-accepted {v} {owners} h k f o =
       let e : v ≡ n = omega arith in
       record {
@@ -85,14 +85,14 @@ tree-then p rest =
     twice (refused k q) y = refl
 
 module _ (rs ls owners : List ℕ) (n : ℕ) where
-  pub tree-refused : (k q : ℕ) → Filled children-judged rs ls n (Refused k q) owners → Filled tree-judged rs ls n (Refused k q) owners
+  pub tree-refused : (k q : ℕ) → OwnersFilled children-judged rs ls n (Refused k q) owners → OwnersFilled tree-judged rs ls n (Refused k q) owners
   tree-refused k q f = record {
     answers = λ ss cs. sym (scan-then _ (λ _. 35) _ 0 (orphans-judged (proofOf rs ls ss cs n)) ∙ rw (← f .answers ss cs) refl);
     owned = λ z. absurd (let q : _≡_ {A = ℕ} 0 1 = cc in omega arith);
   }
 
-  pub tree-orphans : (x : Verdict) → Filled children-judged rs ls n Accepted owners → ((p : Proof) → length p ≡ n → Owned p n owners → shown x ≡ orphans-judged p)
-      → Filled tree-judged rs ls n x owners
+  pub tree-orphans : (x : Verdict) → OwnersFilled children-judged rs ls n Accepted owners → ((p : Proof) → length p ≡ n → Owned p n owners → shown x ≡ orphans-judged p)
+      → OwnersFilled tree-judged rs ls n x owners
   tree-orphans x f o = record {
     answers = λ ss cs. o _ (proofOf-length rs ls ss cs n) (f .owned refl ss cs) ∙ sym (scan-then _ (λ _. 35) _ 0 (orphans-judged (proofOf rs ls ss cs n)) ∙ rw (← f .answers ss cs) refl);
     owned = λ _. f .owned refl;
@@ -116,7 +116,7 @@ module _ (p : Proof) where
       below : owner p w (length p) ≤ w
       below = omega (arith, T .above (parent-child p T w h (omega arith)))
 
-pub filled-parented : (rs ls owners : List ℕ) (n : ℕ) → Filled tree-judged rs ls n Accepted owners → Parented owners n
+pub filled-parented : (rs ls owners : List ℕ) (n : ℕ) → OwnersFilled tree-judged rs ls n Accepted owners → Parented owners n
 filled-parented rs ls owners n f =
     let p = proofOf rs ls [] [] n in
     let size : length p ≡ n = proofOf-length rs ls [] [] n in

@@ -2,7 +2,7 @@
 ghost use mathlib.Core.Path.{_≡_};
 ghost use mathlib.Core.Bool.{Bool};
 ghost use Prim.Native.Nat.{ℕ, _+_, _<_, _≤_};
-ghost use lib.ListN.{getD, take};
+ghost use lib.ListN.{take};
 ghost use Rattle.verdict.specs.Verdict.{accepted, scan};
 ghost use Rattle.verdict.specs.Shown.{shown};
 ghost use Rattle.formula.specs.Plain.{tableOf};
@@ -10,18 +10,18 @@ ghost use Rattle.formula.specs.PlainNodes.{proofOf};
 ghost use Rattle.calculus.specs.View.{plain};
 ghost use Rattle.calculus.specs.Judge.{keeps, loop, judge as judged};
 ghost use Rattle.rules.specs.ScanLaws.{FirstBad};
-ghost use Rattle.kept.specs.Placed.{Members};
+ghost use Rattle.sequents.specs.Placed.{Members};
 ghost use Rattle.kept.specs.Judged.{Judged};
-ghost use Rattle.rules.specs.JudgeStages.{Ready, Laid, nodes-judged, tree-rules-judged};
+ghost use Rattle.rules.specs.JudgeStages.{TreeReady, Laid, nodes-judged, tree-rules-judged};
 ghost use Rattle.rules.specs.Owners.{OwnedBy, Parented};
 use super::loops::companion;
 use super::loops::fill_flags;
 use super::tree::fill_owners;
-use super::tree::wide;
+use bits::wide;
 use formula::Rule;
 use kept::kept::kept;
-use kept::sequents::root_is_claim;
-use kept::sequents::same_sequent;
+use sequents::sets::root_is_claim;
+use sequents::sets::same_sequent;
 use verdict::Verdict;
 
 // What is said of a node: it keeps its rule; it is no back leaf, or its loop path is good.
@@ -45,7 +45,7 @@ fn node_stands(
     flags: &[bool; 1024],
     v: usize,
 ) -> Stands
-    requires { ⌜ Ready (now kinds) (now a) (now b) count (now rules) (now links) (now starts) (now codes) nodes (now owners) (now flags) × (v < nodes) ⌝ }
+    requires { ⌜ TreeReady (now kinds) (now a) (now b) count (now rules) (now links) (now starts) (now codes) nodes (now owners) (now flags) × (v < nodes) ⌝ }
     ensures { λ r. ⌜ r .kept ≡ keeps (tableOf (now (kinds .entry)) (now (a .entry)) (now (b .entry)) count) (plain (proofOf (now (rules .entry)) (now (links .entry)) (now (starts .entry)) (now (codes .entry)) nodes)) v ⌝ }
     ensures { λ r. ⌜ r .good ≡ loop (plain (proofOf (now (rules .entry)) (now (links .entry)) (now (starts .entry)) (now (codes .entry)) nodes)) v ⌝ }
 {
@@ -119,7 +119,7 @@ fn judge_nodes(
     owners: &[u16; 1024],
     flags: &[bool; 1024],
 ) -> Verdict
-    requires { ⌜ Ready (now kinds) (now a) (now b) count (now rules) (now links) (now starts) (now codes) nodes (now owners) (now flags) ⌝ }
+    requires { ⌜ TreeReady (now kinds) (now a) (now b) count (now rules) (now links) (now starts) (now codes) nodes (now owners) (now flags) ⌝ }
     ensures { λ r. ⌜ shown r ≡ nodes-judged (tableOf (now (kinds .entry)) (now (a .entry)) (now (b .entry)) count) (proofOf (now (rules .entry)) (now (links .entry)) (now (starts .entry)) (now (codes .entry)) nodes) ⌝ }
 {
     let mut bad = nodes;

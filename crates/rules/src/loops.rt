@@ -5,14 +5,10 @@ ghost use mathlib.Core.List.{List};
 ghost use Prim.Native.Nat.{ℕ, _+_, _*_, _-_, _<_, _≤_};
 ghost use lib.ListN.{length, take, drop, replicate, getD};
 ghost use Rattle.verdict.specs.Tests.{any};
-ghost use Rattle.verdict.specs.Shown.{shown};
-ghost use Rattle.formula.specs.Nodes.{Proof};
 ghost use Rattle.formula.specs.PlainNodes.{codesAt, proofOf};
-ghost use Rattle.calculus.specs.View.{plain};
-ghost use Rattle.calculus.specs.Judge.{loop};
 ghost use Rattle.rules.specs.Owners.{Parented};
-ghost use Rattle.rules.specs.Flags.{in-focus, may-loop, Inside, Flagged, Noted, Linked, WalkedUp, Companion, loops-judged};
-use super::tree::wide;
+ghost use Rattle.rules.specs.Flags.{in-focus, may-loop, Inside, Flagged, WalkedUp, Companion};
+use bits::wide;
 use formula::Rule;
 use verdict::Verdict;
 

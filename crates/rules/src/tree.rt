@@ -4,17 +4,11 @@ ghost use mathlib.Core.Bool.{true};
 ghost use Prim.Native.Nat.{_+_, _<_, _≤_};
 ghost use lib.ListN.{length, replicate};
 ghost use Rattle.formula.specs.Nodes.{Proof};
-ghost use Rattle.rules.specs.Owners.{unowned, OwnedBy, OneChild, Owned, OneParent, children-judged, orphans-judged, tree-judged, Filled};
+ghost use Rattle.rules.specs.Owners.{unowned, OwnedBy, OneChild, Owned, OneParent, children-judged, orphans-judged, tree-judged, OwnersFilled};
 ghost use Rattle.verdict.specs.Shown.{shown};
+use bits::wide;
 use formula::Rule;
 use verdict::Verdict;
-
-// A child number as wide as an index: any number up to 65,535, not yet judged.
-pub fn wide(link: u16) -> usize
-    ensures { λ r. ⌜ (r ≡ link) × (r < 65536) ⌝ }
-{
-    link as usize
-}
 
 // Whether w is a node above v that no parent has yet.
 fn child_fits(owners: &[u16; 1024], nodes: usize, v: usize, w: usize) -> bool
@@ -81,7 +75,7 @@ fn adopt_all(
     owners: &mut [u16; 1024],
 ) -> Verdict
     requires { ⌜ nodes ≤ 1024 ⌝ }
-    ensures { λ r. ⌜ Filled children-judged (now (rules .entry)) (now (links .entry)) nodes r (now (owners .exit)) ⌝ }
+    ensures { λ r. ⌜ OwnersFilled children-judged (now (rules .entry)) (now (links .entry)) nodes r (now (owners .exit)) ⌝ }
 {
     clear_owners(owners);
     let mut v: usize = 0;
@@ -123,7 +117,7 @@ pub fn fill_owners(
     owners: &mut [u16; 1024],
 ) -> Verdict
     requires { ⌜ (1 ≤ nodes) × (nodes ≤ 1024) ⌝ }
-    ensures { λ r. ⌜ Filled tree-judged (now (rules .entry)) (now (links .entry)) nodes r (now (owners .exit)) ⌝ }
+    ensures { λ r. ⌜ OwnersFilled tree-judged (now (rules .entry)) (now (links .entry)) nodes r (now (owners .exit)) ⌝ }
 {
     match adopt_all(rules, links, nodes, owners) {
         Verdict::Accepted => find_orphan(owners, nodes),

@@ -5,7 +5,6 @@ use Prim.Native.Nat.{ℕ}
 use lib.ListN.{take, replicate}
 use Rattle.verdict.specs.Verdict.{Verdict, accepted, refused}
 use Rattle.formula.specs.Table.{blank}
-use Rattle.formula.specs.Records.{NodeRecord}
 use Rattle.permit.specs.GateState.{Gate, start, opening, Permit, granted, denied, taking}
 use Rattle.gate.specs.Slices.{Lent, LentWords}
 use Rattle.gate.specs.Check.{verdict}

@@ -6,7 +6,7 @@ use native.Mathlib.Omega.{arith}
 use lib.Dec.{eqb, lit<}
 use lib.Pow.{shl-exact, shr-shr}
 use lib.Bits.{bitAnd, bitOr, and-mask, or-zero-r}
-use Rattle.formula.specs.Bits.{one, digit, bit, or-bit, one-bit}
+use Rattle.bits.specs.Bits.{one, digit, bit, or-bit, one-bit}
 
 -- the digit that the code reads: (w >> s) & 1
 pub read-digit : (w s : ℕ) → bitAnd (w / 2 ^ s) 1 ≡ digit w s

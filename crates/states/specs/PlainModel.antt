@@ -1,7 +1,7 @@
 -- a model in plain numbers: the states' letter masks and the rows of successor marks, or the rows as words
-use mathlib.Core.Path.{_≡_, refl, ap, _∙_, sym}
+use mathlib.Core.Path.{_≡_, refl, ap, _∙_}
 use mathlib.Core.List.{List}
-use mathlib.Core.Bool.{Bool, true, false, _&&_, true≢false}
+use mathlib.Core.Bool.{Bool, true, false, _&&_}
 use Prim.Native.Nat.{ℕ, _<_, _≤_}
 use native.Mathlib.Decide.{decLt}
 use native.Mathlib.Omega.{arith}
@@ -9,8 +9,8 @@ use lib.Dec.{eqb, ltb}
 use lib.ListN.{length, getD, replicate}
 use borrow.Author.Tests.{lt-ltb, le-ltb}
 use Rattle.formula.specs.Table.{Table}
-use Rattle.formula.specs.States.{Model}
-use Rattle.formula.specs.Bits.{one, bit, no-bit}
+use Rattle.meaning.specs.States.{Model}
+use Rattle.bits.specs.Bits.{one, bit, no-bit}
 use Rattle.model.specs.ModelFile.{State, FitModel}
 use Rattle.model.specs.Described.{state, modelOf, successorTable}
 use Rattle.model.specs.DescribedLaws.{cell, cell-is, successor-from, successor-inside, size-counts}

@@ -1,23 +1,23 @@
 -- the word of a set of states, by its bits: one state more at a time, and by the words of a row and of a set
 use mathlib.Core.Path.{_≡_, refl, ap, _∙_, sym, subst}
 use mathlib.Core.List.{List}
-use mathlib.Core.Bool.{Bool, true, false, not, _||_, _&&_, true≢false, false≢true}
+use mathlib.Core.Bool.{Bool, true, false, not, _||_, _&&_}
 use Prim.Native.Nat.{ℕ, _+_, _<_, _≤_}
 use native.Mathlib.Decide.{decLt, ℕ-discrete}
 use native.Mathlib.Omega.{arith}
 use lib.Dec.{eqb, ltb}
 use lib.Bits.{bitAnd}
 use lib.ListN.{getD}
-use borrow.Author.Tests.{eq-eqb, ne-eqb, eqb-true, eqb-false, lt-ltb, le-ltb}
-use Rattle.formula.specs.Truth.{some, every, some-false, none-some, every-true, all-every, fails-every}
-use Rattle.formula.specs.States.{Set, Same}
-use Rattle.formula.specs.Bits.{bit, no-bit, and-bit}
+use borrow.Author.Tests.{eq-eqb, ne-eqb, lt-ltb, le-ltb}
+use Rattle.meaning.specs.Truth.{some, every, some-false, none-some, every-true, all-every}
+use Rattle.meaning.specs.States.{StateSet, SameStates}
+use Rattle.bits.specs.Bits.{bit, no-bit, and-bit}
 use Rattle.states.specs.Words.{word}
 use Rattle.states.specs.WordLaws.{word-inside, word-past}
 use Rattle.states.specs.BitLaws.{bits-same}
 
 -- bit k of w for state k below n, and all further bits zero
-abbrev pub IsWord : ℕ → Set → ℕ → Type 0
+abbrev pub IsWord : ℕ → StateSet → ℕ → Type 0
 IsWord n A w = (k : ℕ) → bit w k ≡ (ltb k n && A k)
 
 -- the first m words have no bit past the last of n states
@@ -25,39 +25,39 @@ abbrev pub Inside : ℕ → ℕ → List ℕ → Type 0
 Inside n m ws = (e s : ℕ) → e < m → n ≤ s → bit (getD ws e 0) s ≡ false
 
 -- the sets that the words stand for
-abbrev pub setsOf : List ℕ → ℕ → Set
+abbrev pub setsOf : List ℕ → ℕ → StateSet
 setsOf ws e = bit (getD ws e 0)
 
-pub word-is : (n : ℕ) (A : Set) → IsWord n A (word n A)
+pub word-is : (n : ℕ) (A : StateSet) → IsWord n A (word n A)
 word-is n A k = go (decLt k n)
   where
     go : Dec (k < n) → bit (word n A) k ≡ (ltb k n && A k)
     go (yes h) = word-inside n A k h ∙ sym (rw (lt-ltb k n h) refl)
     go (no h) = word-past n A k (omega arith) ∙ sym (rw (le-ltb k n (omega arith)) refl)
 
-pub is-word : (n : ℕ) (A : Set) (w : ℕ) → IsWord n A w → w ≡ word n A
+pub is-word : (n : ℕ) (A : StateSet) (w : ℕ) → IsWord n A w → w ≡ word n A
 is-word n A w h = bits-same w (word n A) (λ k. h k ∙ sym (word-is n A k))
 
 -- by the states below n and the bits past them
-pub by-bits : (n : ℕ) (A : Set) (w : ℕ) → Same n (bit w) A → ((s : ℕ) → n ≤ s → bit w s ≡ false) → w ≡ word n A
+pub by-bits : (n : ℕ) (A : StateSet) (w : ℕ) → SameStates n (bit w) A → ((s : ℕ) → n ≤ s → bit w s ≡ false) → w ≡ word n A
 by-bits n A w h past = is-word n A w (λ k. go k (decLt k n))
   where
     go : (k : ℕ) → Dec (k < n) → bit w k ≡ (ltb k n && A k)
     go k (yes l) = h k l ∙ sym (rw (lt-ltb k n l) refl)
     go k (no l) = past k (omega arith) ∙ sym (rw (le-ltb k n (omega arith)) refl)
 
-pub word-same : (n : ℕ) (A B : Set) → Same n A B → word n A ≡ word n B
+pub word-same : (n : ℕ) (A B : StateSet) → SameStates n A B → word n A ≡ word n B
 word-same n A B h = by-bits n B (word n A) (λ s l. word-inside n A s l ∙ h s l) (word-past n A)
 
 -- a word whose bits grow by one state at a time
-pub word-none : (A : Set) → IsWord 0 A 0
+pub word-none : (A : StateSet) → IsWord 0 A 0
 word-none A k = no-bit k ∙ sym (rw (le-ltb k 0 (omega arith)) refl)
 
 or-false : (b : Bool) → (b || false) ≡ b
 or-false true = refl
 or-false false = refl
 
-pub word-next : (A : Set) (s r q : ℕ) (holds : Bool) → IsWord s A r → ((k : ℕ) → bit q k ≡ (bit r k || (eqb k s && holds))) → holds ≡ A s
+pub word-next : (A : StateSet) (s r q : ℕ) (holds : Bool) → IsWord s A r → ((k : ℕ) → bit q k ≡ (bit r k || (eqb k s && holds))) → holds ≡ A s
     → IsWord (s + 1) A q
 word-next A s r q holds m f h k = go (ℕ-discrete k s)
   where

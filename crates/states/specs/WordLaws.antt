@@ -1,6 +1,6 @@
 -- bit s of a word says whether state s is in its set; there is a word for each entry and no other
 use mathlib.Core.Path.{_≡_, refl, sym, ap, _∙_}
-use mathlib.Core.Bool.{Bool, true, false, _&&_}
+use mathlib.Core.Bool.{Bool, true, false}
 use Prim.Native.Nat.{ℕ, zero, suc, _+_, _*_, _/_, _%_, _^_, _<_, _≤_}
 use native.Mathlib.Nat.{div-eq-of-lt, le-of-suc-le-suc}
 use native.Mathlib.Omega.{arith}
@@ -9,9 +9,9 @@ use lib.ListN.{length, getD}
 use lib.Pow.{pow-pos, shr-shr}
 use Rattle.verdict.specs.Lists.{valuesFrom-length, valuesFrom-at}
 use Rattle.formula.specs.Table.{Table}
-use Rattle.formula.specs.States.{Model, Set}
-use Rattle.formula.specs.Meaning.{own}
-use Rattle.formula.specs.Bits.{one, digit, bit}
+use Rattle.meaning.specs.States.{Model, StateSet}
+use Rattle.meaning.specs.Meaning.{own}
+use Rattle.bits.specs.Bits.{one, digit, bit}
 use Rattle.states.specs.Words.{word, words}
 
 digit-first : (a w : ℕ) → a < 2 → digit (a + 2 * w) 0 ≡ a
@@ -34,7 +34,7 @@ one-test true = refl
 one-test false = refl
 
 -- bit s for state s
-pub word-inside : (n : ℕ) (A : Set) (s : ℕ) → s < n → bit (word n A) s ≡ A s
+pub word-inside : (n : ℕ) (A : StateSet) (s : ℕ) → s < n → bit (word n A) s ≡ A s
 unfolding word bit
 word-inside zero A s h = absurd (omega arith)
 word-inside (suc n) A zero h = ap (λ (d : ℕ). eqb d 1) (digit-first (one (A 0)) _ (one-small (A 0))) ∙ one-test (A 0)
@@ -43,7 +43,7 @@ word-inside (suc n) A (suc s) h =
     ∙ word-inside n (λ u. A (suc u)) s (le-of-suc-le-suc h)
 
 -- all bits past the last state zero
-pub word-past : (n : ℕ) (A : Set) (s : ℕ) → n ≤ s → bit (word n A) s ≡ false
+pub word-past : (n : ℕ) (A : StateSet) (s : ℕ) → n ≤ s → bit (word n A) s ≡ false
 unfolding word bit
 word-past zero A s h = ap (λ (d : ℕ). eqb d 1) (ap (λ (d : ℕ). d % 2) (div-eq-of-lt (pow-pos s)))
 word-past (suc n) A zero h = absurd (omega arith)

@@ -5,15 +5,15 @@ use lib.ListN.{length}
 use Rattle.verdict.specs.Lists.{valuesFrom}
 use Rattle.formula.specs.Table.{Table}
 use Rattle.formula.specs.Shape.{shape}
-use Rattle.formula.specs.Truth.{some, every}
-use Rattle.formula.specs.Chain.{iter}
+use Rattle.meaning.specs.Truth.{some, every}
+use Rattle.meaning.specs.Chain.{iter}
 use Rattle.formula.specs.Below.{recur}
-use Rattle.formula.specs.States.{Model, Set, leafSet, twoSet, stepSet, start}
-use Rattle.formula.specs.Meaning.{put, meaning, owns, own}
-use Rattle.formula.specs.Bits.{one}
+use Rattle.meaning.specs.States.{Model, StateSet, leafSet, twoSet, stepSet, start}
+use Rattle.meaning.specs.Meaning.{put, meaning, owns, own}
+use Rattle.bits.specs.Bits.{one}
 
 -- a set of the states below n as a number
-unfoldable pub word : ℕ → Set → ℕ
+unfoldable pub word : ℕ → StateSet → ℕ
 word zero A = 0
 word (suc n) A = one (A 0) + 2 * word n (λ s. A (suc s))
 

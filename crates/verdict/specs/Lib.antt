@@ -2,6 +2,7 @@ pub mod Verdict
 pub mod Shown
 pub mod VerdictLaws
 pub mod Lists
+pub mod WrittenLaws
 pub mod EachLaws
 pub mod Sets
 pub mod Tests

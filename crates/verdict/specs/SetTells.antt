@@ -5,7 +5,7 @@ use mathlib.Core.List.{List, [], _∷_, List·Memᴰ·head, List·Memᴰ·tail, 
 use mathlib.Core.Bool.{Bool, true, false, not, false≢true}
 use Prim.Native.Nat.{ℕ}
 use lib.Dec.{eqb}
-use Rattle.verdict.specs.Sets.{Set, Same, _⊆_, _plus_, elements, without, image}
+use Rattle.verdict.specs.Sets.{Set, Same, _⊆_, elements, without, image, _plus_}
 use Rattle.verdict.specs.Tests.{all, any, member, same, keep, remove, each}
 use Rattle.verdict.specs.Tells.{Tells, tells-as, eqb-tells, and-tells, or-tells, not-tells}
 

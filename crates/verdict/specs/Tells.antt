@@ -81,3 +81,13 @@ if-tells {a} {b} {P} {Q} x y = record { says = λ h q. into a (x .holds q) h; ho
     from : (c : Bool) → (c ≡ true → P) → (P → Q) → (not c || b) ≡ true
     from true f g = y .holds (g (f refl))
     from false f g = refl
+
+-- two tests of one condition agree
+pub same-test : {p q : Bool} {P : Type 0} → Tells p P → Tells q P → p ≡ q
+same-test {p} {q} {P} x y = go p q (x .says) (x .holds) (y .says) (y .holds)
+  where
+    go : (p q : Bool) → (p ≡ true → P) → (P → p ≡ true) → (q ≡ true → P) → (P → q ≡ true) → p ≡ q
+    go true true a b c d = refl
+    go true false a b c d = sym (d (a refl))
+    go false true a b c d = b (c refl)
+    go false false a b c d = refl

@@ -4,7 +4,7 @@ use Prim.Native.Nat.{ℕ}
 use borrow.Author.Needs.{needs}
 use Rattle.verdict.specs.Verdict.{Verdict, accepted, refused}
 use Rattle.verdict.specs.Shown.{shown}
-use Rattle.decoding.specs.Found.{ruled}
+use Rattle.reader.specs.Found.{ruled}
 use Rattle.decoding.proofs.judge_columns.Statement.{statement}
 use Rattle.decoding.proofs.judge_columns.Tie as tie
 

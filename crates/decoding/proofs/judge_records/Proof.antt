@@ -51,10 +51,10 @@ use Rattle.records.specs.declared.Entry.{Entry}
 use Rattle.records.specs.declared.Node.{Node}
 use Rattle.records.proofs.Entry as E
 use Rattle.records.proofs.Node as T
-use Rattle.decoding.specs.Found.{ruled}
+use Rattle.reader.specs.Found.{ruled}
 use Rattle.decoding.specs.Standing.{standing, FitsEntries, FitsNodes, Judgeable}
 use Rattle.decoding.specs.StandingLaws.{table-stands}
-use Rattle.decoding.specs.declared.Found.{Found}
+use Rattle.reader.specs.declared.Found.{Found}
 use Rattle.decoding.proofs.Found as F
 use Rattle.decoding.proofs.Found.Laws as F′
 use Rattle.decoding.proofs.Local as locals

@@ -38,7 +38,7 @@ use denote.Triple.Clauses.{ensured, lasts}
 use denote.Triple.Walked.{says, needs, Stays, stay-none, stay-none-slice, gave-slice, walkOf, goes-none, goes-none-slice, goes-gave-slice, Walks, ends-at, walked, walk-meets}
 use denote.Exit.{yes}
 use Rattle.verdict.specs.Lists.{written}
-use Rattle.reader.specs.ReadClaim.{readClaim}
+use Rattle.claims.specs.ReadClaim.{readClaim}
 use Rattle.records.specs.Records.{shownEntries, entriesOf}
 use Rattle.records.specs.declared.Entry.{Entry}
 use Rattle.records.proofs.Entry as T
@@ -46,7 +46,7 @@ use Rattle.records.proofs.store_entries as store-rows
 use Rattle.records.proofs.store_entries.Symbol as store-def
 use Rattle.records.proofs.store_entries.Symbol.{name as #store}
 use Rattle.records.proofs.store_entries.Met as store-thm
-use Rattle.decoding.specs.Files.{tableIn}
+use Rattle.reader.specs.Files.{tableIn}
 use Rattle.decoding.specs.Columns.{ClaimColumns}
 use Rattle.decoding.specs.StoreLaws.{claim-stored}
 use Rattle.decoding.proofs.Local as locals

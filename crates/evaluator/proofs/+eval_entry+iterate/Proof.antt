@@ -17,7 +17,7 @@ use Rattle.evaluator.proofs.iterate.Kinds as iterate-kinds
 use Rattle.evaluator.proofs.+eval_entry+iterate.Lts-iterate as iterate-lts
 use Rattle.evaluator.proofs.settle_block.Reads as settle-block-reads
 use Rattle.evaluator.proofs.settle_entry.Reads as settle-entry-reads
-use Rattle.evaluator.proofs.wide.Reads as wide-reads
+use Rattle.bits.proofs.wide.Reads as wide-reads
 use Rattle.evaluator.proofs.+eval_entry+iterate.{statement}
 use Rattle.evaluator.proofs.+eval_entry+iterate.Tie.{close}
 

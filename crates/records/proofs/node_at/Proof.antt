@@ -1,6 +1,6 @@
 -- `records::node_at` meets its contract: a walk of its MIR. The place of `nodes[i]` is computed, the slice is looked into, record i is taken out of the row, read whole, and put back.
-use mathlib.Core.Path.{_≡_, refl, sym, ap}
-use Prim.Native.Nat.{ℕ, _+_, _*_, _<_, _^_}
+use mathlib.Core.Path.{refl, sym}
+use Prim.Native.Nat.{ℕ, _*_, _<_, _^_}
 use native.Mathlib.Omega.{arith}
 use mathlib.Core.List.{[], _∷_, List}
 use lib.ListN.{length, getD}

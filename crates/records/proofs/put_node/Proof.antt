@@ -1,6 +1,6 @@
 -- `records::put_node` meets its contract: a walk of its MIR. The place of `nodes[i]` is computed, the borrow is opened, record i is taken out of the row and stored to whole, and the borrow is closed at the list with the record in it.
-use mathlib.Core.Path.{_≡_, refl, sym, ap, subst}
-use Prim.Native.Nat.{ℕ, _+_, _*_, _<_, _^_}
+use mathlib.Core.Path.{refl, sym, ap, subst}
+use Prim.Native.Nat.{ℕ, _*_, _<_, _^_}
 use native.Mathlib.Omega.{arith}
 use mathlib.Core.List.{[], _∷_, List}
 use lib.ListN.{length, set, length-set}

@@ -4,7 +4,7 @@ use Prim.Native.Nat.{_-_, _≤_}
 use native.Mathlib.Omega.{arith}
 use borrow.Author.Needs.{needs}
 use Rattle.formula.specs.Shape.{nu}
-use Rattle.formula.specs.States.{start}
+use Rattle.meaning.specs.States.{start}
 use Rattle.states.specs.StateWords.{IsWord, is-word, word-none, word-next}
 use Rattle.states.proofs.all_states.Statement.{statement}
 use Rattle.states.proofs.all_states.Tie as tie

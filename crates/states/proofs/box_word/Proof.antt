@@ -6,8 +6,8 @@ use borrow.Author.Needs.{needs}
 use lib.ListN.{getD}
 use Rattle.states.specs.StateWords.{IsWord, is-word, word-none, word-next, box-test}
 use mathlib.Core.Bool.{not, _||_}
-use Rattle.formula.specs.Truth.{every}
-use Rattle.formula.specs.Bits.{bit}
+use Rattle.meaning.specs.Truth.{every}
+use Rattle.bits.specs.Bits.{bit}
 use Rattle.states.proofs.box_word.Statement.{statement}
 use Rattle.states.proofs.box_word.Tie as tie
 

@@ -6,8 +6,8 @@ use borrow.Author.Needs.{needs}
 use lib.ListN.{getD}
 use Rattle.states.specs.StateWords.{IsWord, is-word, word-none, word-next, diamond-test}
 use mathlib.Core.Bool.{_&&_}
-use Rattle.formula.specs.Truth.{some}
-use Rattle.formula.specs.Bits.{bit}
+use Rattle.meaning.specs.Truth.{some}
+use Rattle.bits.specs.Bits.{bit}
 use Rattle.states.proofs.diamond_word.Statement.{statement}
 use Rattle.states.proofs.diamond_word.Tie as tie
 

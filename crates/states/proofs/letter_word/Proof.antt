@@ -6,7 +6,7 @@ use borrow.Author.Needs.{needs}
 use lib.Dec.{eqb}
 use lib.ListN.{getD}
 use Rattle.states.specs.StateWords.{IsWord, is-word, word-none, word-next}
-use Rattle.formula.specs.Bits.{digit}
+use Rattle.bits.specs.Bits.{digit}
 use Rattle.states.specs.BitLaws.{read-digit}
 use Rattle.states.proofs.letter_word.Statement.{statement}
 use Rattle.states.proofs.letter_word.Tie as tie

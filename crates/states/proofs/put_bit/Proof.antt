@@ -2,7 +2,7 @@
 use mathlib.Core.Path.{ap, _∙_}
 use Prim.Native.Nat.{ℕ, _*_, _%_, _^_}
 use lib.Bits.{bitOr}
-use Rattle.formula.specs.Bits.{bit}
+use Rattle.bits.specs.Bits.{bit}
 use Rattle.states.specs.BitLaws.{put-bit}
 use borrow.Author.Needs.{needs}
 use Rattle.states.proofs.put_bit.Statement.{statement}

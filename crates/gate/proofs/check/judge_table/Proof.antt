@@ -6,8 +6,8 @@ use Rattle.verdict.specs.Shown.{shown}
 use Rattle.verdict.specs.declared.Verdict.{Verdict}
 use Rattle.formula.specs.Plain.{tableOf}
 use Rattle.formula.specs.Table.{Table}
-use Rattle.formula.specs.Judge.{judgeTable}
-use Rattle.formula.specs.JudgeExact.{judge-accepts}
+use Rattle.conditions.specs.Judge.{judgeTable}
+use Rattle.conditions.specs.JudgeExact.{judge-accepts}
 use Rattle.gate.specs.Compose.{table-refused, table-accepted}
 use Rattle.gate.proofs.check.judge_table.Statement.{statement}
 use Rattle.gate.proofs.check.judge_table.Tie as tie

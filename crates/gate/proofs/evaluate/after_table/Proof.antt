@@ -5,8 +5,8 @@ use Rattle.verdict.specs.Shown.{shown}
 use Rattle.verdict.specs.declared.Verdict.{Verdict}
 use Rattle.formula.specs.Table.{Table}
 use Rattle.formula.specs.Plain.{tableOf}
-use Rattle.formula.specs.Judge.{judgeTable}
-use Rattle.formula.specs.JudgeExact.{judge-accepts}
+use Rattle.conditions.specs.Judge.{judgeTable}
+use Rattle.conditions.specs.JudgeExact.{judge-accepts}
 use Rattle.model.specs.ReadModel.{readModel}
 use Rattle.gate.specs.Slices.{LentWords}
 use Rattle.gate.specs.Evaluate.{Evaluated, afterModel}

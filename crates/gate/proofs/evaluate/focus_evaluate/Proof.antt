@@ -42,7 +42,7 @@ use Rattle.verdict.specs.Lists.{written}
 use Rattle.records.specs.Records.{shownEntries}
 use Rattle.records.specs.declared.Entry.{Entry}
 use Rattle.records.proofs.Entry as T
-use Rattle.decoding.specs.Files.{tableIn}
+use Rattle.reader.specs.Files.{tableIn}
 use Rattle.gate.specs.EvaluateFiles.{EvaluatedFiles, EvaluateCall, evaluate-call}
 use Rattle.gate.specs.declared.evaluate.Evaluation.{Evaluation}
 use Rattle.gate.proofs.evaluate.Evaluation as Ev

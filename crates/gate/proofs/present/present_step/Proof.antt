@@ -53,11 +53,11 @@ use Rattle.records.proofs.Node as T
 use Rattle.records.proofs.Column.{renamed}
 use Rattle.records.proofs.Slice as slices
 use Rattle.records.proofs.Slice.{Slice, slice-lent, slice-back, slice-shared, slice-unshared}
-use Rattle.decoding.specs.Files.{tableIn}
-use Rattle.decoding.specs.Found.{FilesTold, ruled}
+use Rattle.reader.specs.Files.{tableIn}
+use Rattle.reader.specs.Found.{FilesTold, ruled}
 use Rattle.decoding.specs.Columns.{nodesIf, Counted, CodesRoom, ProofStored}
 use Rattle.decoding.specs.Standing.{standing, FitsEntries, FitsNodes, Judgeable}
-use Rattle.decoding.specs.declared.Found.{Found}
+use Rattle.reader.specs.declared.Found.{Found}
 use Rattle.decoding.proofs.Found as F
 use Rattle.decoding.proofs.Found.Laws as F′
 use Rattle.permit.specs.Plain.{stateOf}
@@ -74,10 +74,10 @@ use Rattle.permit.proofs.present.stands_before as stand
 use Rattle.permit.proofs.present.stands_before.Symbol as stand-def
 use Rattle.permit.proofs.present.stands_before.Symbol.{name as #stand}
 use Rattle.permit.proofs.present.stands_before.Met as stand-thm
-use Rattle.decoding.proofs.files.read_files as read
-use Rattle.decoding.proofs.files.read_files.Symbol as read-def
-use Rattle.decoding.proofs.files.read_files.Symbol.{name as #read}
-use Rattle.decoding.proofs.files.read_files.Met as read-thm
+use Rattle.reader.proofs.read_files as read
+use Rattle.reader.proofs.read_files.Symbol as read-def
+use Rattle.reader.proofs.read_files.Symbol.{name as #read}
+use Rattle.reader.proofs.read_files.Met as read-thm
 use Rattle.decoding.proofs.store_claim as put-entries
 use Rattle.decoding.proofs.store_claim.Symbol as put-entries-def
 use Rattle.decoding.proofs.store_claim.Symbol.{name as #put-entries}
@@ -409,7 +409,7 @@ present-step-spec 𝓤 H 𝓜 𝓖 𝓡 =
     (tables 𝓤 H 𝓜 𝓡 code.env .C) (tables 𝓤 H 𝓜 𝓡 code.env .Λ) #fn code.function (code.unfolded 𝓤 H 𝓜 𝓡)
     (f-meets 𝓤 H (𝓖 .A) (givenOf 𝓤 H 𝓜 𝓖) (𝓜 .mem) (𝓡 .run) (tablesOf 𝓤 H 𝓜 (tables 𝓤 H 𝓜 𝓡 code.env))
     (cited 𝓤 H (Stand 𝓤 H (𝓖 .A) (𝓜 .mem) (𝓡 .run)) 𝓜 𝓡 code.env #stand stand-def.routine code.calls-permit·present·stands-before (stand-thm.met 𝓤 H 𝓜 𝓖 𝓡))
-    (cited 𝓤 H (Read 𝓤 H (𝓖 .A) (𝓜 .mem) (𝓡 .run)) 𝓜 𝓡 code.env #read read-def.routine code.calls-decoding·files·read-files (read-thm.met 𝓤 H 𝓜 𝓖 𝓡))
+    (cited 𝓤 H (Read 𝓤 H (𝓖 .A) (𝓜 .mem) (𝓡 .run)) 𝓜 𝓡 code.env #read read-def.routine code.calls-reader·read-files (read-thm.met 𝓤 H 𝓜 𝓖 𝓡))
     (cited 𝓤 H (PutE 𝓤 H (𝓖 .A) (𝓜 .mem) (𝓡 .run)) 𝓜 𝓡 code.env #put-entries put-entries-def.routine code.calls-decoding·store-claim (put-entries-thm.met 𝓤 H 𝓜 𝓖 𝓡))
     (cited 𝓤 H (PutN 𝓤 H (𝓖 .A) (𝓜 .mem) (𝓡 .run)) 𝓜 𝓡 code.env #put-nodes put-nodes-def.routine code.calls-decoding·store-proof (put-nodes-thm.met 𝓤 H 𝓜 𝓖 𝓡))
     (cited 𝓤 H (Rule 𝓤 H (𝓖 .A) (𝓜 .mem) (𝓡 .run)) 𝓜 𝓡 code.env #rule-on rule-on-def.routine code.calls-decoding·judge-records (rule-on-thm.met 𝓤 H 𝓜 𝓖 𝓡))

@@ -5,7 +5,7 @@ use native.Mathlib.Omega.{arith}
 use lib.ListN.{getD}
 use borrow.Author.Needs.{needs}
 use Rattle.verdict.specs.Sets.{elements}
-use Rattle.kept.specs.Part.{part, part-member}
+use Rattle.sequents.specs.Part.{part, part-member}
 use Rattle.kept.specs.AxiomParts.{clash-two, clash-other}
 use Rattle.kept.proofs.axioms.clash.Statement.{statement}
 use Rattle.kept.proofs.axioms.clash.Tie as tie

@@ -5,7 +5,7 @@ use lib.ListN.{getD}
 use borrow.Author.Needs.{needs}
 use Rattle.verdict.specs.Sets.{elements}
 use Rattle.formula.specs.Plain.{tableOf-kind}
-use Rattle.kept.specs.Part.{part, part-member}
+use Rattle.sequents.specs.Part.{part, part-member}
 use Rattle.kept.specs.AxiomParts.{truth-one, truth-other}
 use Rattle.kept.proofs.axioms.truth.Statement.{statement}
 use Rattle.kept.proofs.axioms.truth.Tie as tie

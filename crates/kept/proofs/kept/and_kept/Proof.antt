@@ -11,9 +11,9 @@ use Rattle.formula.specs.Codes.{code, entryOf}
 use Rattle.formula.specs.Target.{targetA}
 use Rattle.formula.specs.PlainNodes.{codesAt}
 use Rattle.formula.specs.Kind
-use Rattle.kept.specs.Placed.{local}
+use Rattle.sequents.specs.Placed.{local}
 use Rattle.calculus.specs.Judge.{sides, and-kept as Kept}
-use Rattle.kept.specs.KeptLaws.{was-false, was-true, ChosenAB, chosen, and-chosen}
+use Rattle.sequents.specs.KeptLaws.{was-false, was-true, ChosenAB, chosen, and-chosen}
 use Rattle.kept.proofs.kept.and_kept.Statement.{statement}
 use Rattle.kept.proofs.kept.and_kept.Tie as tie
 

@@ -6,7 +6,7 @@ use lib.ListN.{getD}
 use borrow.Author.Tests.{eq-eqb, ne-eqb}
 use borrow.Author.Needs.{needs}
 use Rattle.calculus.specs.Judge.{focus-kept as FocusKept}
-use Rattle.kept.specs.KeptLaws.{was-false, was-true, belongs-small}
+use Rattle.sequents.specs.KeptLaws.{was-false, was-true, belongs-small}
 use Rattle.kept.proofs.kept.focus_kept.Statement.{statement}
 use Rattle.kept.proofs.kept.focus_kept.Tie as tie
 

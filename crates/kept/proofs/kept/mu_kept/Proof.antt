@@ -3,7 +3,7 @@ use mathlib.Core.Path.{refl}
 use borrow.Author.Needs.{needs}
 use Rattle.formula.specs.Kind
 use Rattle.calculus.specs.Judge.{mu-kept as Kept}
-use Rattle.kept.specs.KeptLaws.{was-false, ChosenA, chosen, mu-chosen}
+use Rattle.sequents.specs.KeptLaws.{was-false, ChosenA, chosen, mu-chosen}
 use Rattle.kept.proofs.kept.mu_kept.Statement.{statement}
 use Rattle.kept.proofs.kept.mu_kept.Tie as tie
 

@@ -4,7 +4,7 @@ use native.Mathlib.Omega.{arith}
 use borrow.Author.Needs.{needs}
 use Rattle.formula.specs.Kind
 use Rattle.calculus.specs.Judge.{nu-kept as Kept}
-use Rattle.kept.specs.KeptLaws.{was-false, ChosenA, chosen, nu-chosen}
+use Rattle.sequents.specs.KeptLaws.{was-false, ChosenA, chosen, nu-chosen}
 use Rattle.kept.proofs.kept.nu_kept.Statement.{statement}
 use Rattle.kept.proofs.kept.nu_kept.Tie as tie
 

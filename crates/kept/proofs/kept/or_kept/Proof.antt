@@ -4,7 +4,7 @@ use native.Mathlib.Omega.{arith}
 use borrow.Author.Needs.{needs}
 use Rattle.formula.specs.Kind
 use Rattle.calculus.specs.Judge.{or-kept as Kept}
-use Rattle.kept.specs.KeptLaws.{was-false, ChosenAB, chosen, or-chosen}
+use Rattle.sequents.specs.KeptLaws.{was-false, ChosenAB, chosen, or-chosen}
 use Rattle.kept.proofs.kept.or_kept.Statement.{statement}
 use Rattle.kept.proofs.kept.or_kept.Tie as tie
 

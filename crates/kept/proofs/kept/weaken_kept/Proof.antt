@@ -4,7 +4,7 @@ use Prim.Native.Nat.{_*_, _<_}
 use lib.ListN.{getD}
 use borrow.Author.Needs.{needs}
 use Rattle.calculus.specs.Judge.{weaken-kept as WeakenKept}
-use Rattle.kept.specs.KeptLaws.{was-false, was-true, belongs-small}
+use Rattle.sequents.specs.KeptLaws.{was-false, was-true, belongs-small}
 use Rattle.kept.proofs.kept.weaken_kept.Statement.{statement}
 use Rattle.kept.proofs.kept.weaken_kept.Tie as tie
 

@@ -4,9 +4,9 @@ use Prim.Native.Nat.{_≤_, _-_}
 use native.Mathlib.Omega.{arith}
 use borrow.Author.Needs.{needs}
 use Rattle.verdict.specs.Tests.{all}
-use Rattle.kept.specs.Part.{part, part-member}
+use Rattle.sequents.specs.Part.{part, part-member}
 use Rattle.kept.specs.BoxLaws.{boxed as Boxed, all-on, all-stop, all-end}
-use Rattle.kept.specs.KeptLaws.{was-false, was-true}
+use Rattle.sequents.specs.KeptLaws.{was-false, was-true}
 use Rattle.kept.proofs.modal.all_boxed.Statement.{statement}
 use Rattle.kept.proofs.modal.all_boxed.Tie as tie
 

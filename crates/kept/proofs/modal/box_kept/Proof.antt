@@ -11,9 +11,9 @@ use Rattle.formula.specs.Table.{kind}
 use Rattle.formula.specs.Plain.{tableOf}
 use Rattle.formula.specs.Codes.{entryOf}
 use Rattle.formula.specs.PlainNodes.{codesAt}
-use Rattle.kept.specs.Placed.{local}
+use Rattle.sequents.specs.Placed.{local}
 use Rattle.calculus.specs.Judge.{box-kept as Kept, sides}
-use Rattle.kept.specs.KeptLaws.{was-false, was-true, Chosen, chosen}
+use Rattle.sequents.specs.KeptLaws.{was-false, was-true, Chosen, chosen}
 use Rattle.kept.specs.BoxLaws.{boxed as Boxed, Modal, others-boxed, modal}
 use Rattle.kept.proofs.modal.box_kept.Statement.{statement}
 use Rattle.kept.proofs.modal.box_kept.Tie as tie

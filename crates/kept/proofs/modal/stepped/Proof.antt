@@ -8,8 +8,8 @@ use borrow.Author.Needs.{needs}
 use Rattle.verdict.specs.Sets.{elements}
 use Rattle.verdict.specs.Tests.{each}
 use Rattle.formula.specs.Plain.{tableOf}
-use Rattle.kept.specs.Part.{part, part-member}
-use Rattle.kept.specs.CodeSet.{Holds, holds-none, each-before, each-end}
+use Rattle.sequents.specs.Part.{part, part-member}
+use Rattle.sequents.specs.CodeSet.{Holds, holds-none, each-before, each-end}
 use Rattle.calculus.specs.Rules.{stepped as Stepped}
 use Rattle.kept.specs.BoxLaws.{Modal}
 use Rattle.kept.proofs.modal.stepped.Statement.{statement}

@@ -52,14 +52,14 @@ same-sequent-requires c κs =
     let start = c .before .before .before .before .before .before .before .before in
     let J = start .pre .0 .judged in
     let inside = companion-inside (start .pre .0) [] (start .args .v) (start .pre .1) (c .before .before .before .before .before .if1 .left) (c .before .before .before .before .companion .ensures) (not-false _ (c .before .before .if2 .left)) in
-    (placed J (start .args .v) (start .pre .1), rw (c .wide .ensures .0) (placed J _ inside))
+    (placed J (start .args .v) (start .pre .1), rw (c .wide .ensures) (placed J _ inside))
 
 returns-3 : tie.Need-returns-3
 returns-3 c =
     let start = c .before .before .before .before .before .before .before .before .before in
     let leaf = c .before .before .before .before .before .before .if1 .left in
     let companion = c .before .before .before .before .before .companion .ensures in (
-      (rw (c .before .wide .ensures .0) at (c .same-sequent .ensures))
+      (rw (c .before .wide .ensures) at (c .same-sequent .ensures))
           ∙ sym (leaf-compared (start .pre .0) _ _ (start .pre .1) leaf companion (not-false _ (c .before .before .before .if2 .left))),
       leaf-path (start .pre .0) [] _ (start .pre .1) leaf companion,
     )

@@ -29,8 +29,8 @@ walk-requires c κs = search needs
 returns : tie.Need-returns
 returns c = record {
   above = λ e. absurd (false≢true e);
-  fits = λ p N L real. sym (no-ancestor p _ _ _ _ _ N L real _ _ _ (c .before .before .before .wide .ensures .0) (c .before .before .walk .ensures) (not-true _ (c .if1 .taken)));
-  loops = λ p N L real leaf. sym (leaf-loop p _ _ _ _ _ N L real _ _ _ (c .before .before .before .wide .ensures .0) (c .before .before .walk .ensures) leaf);
+  fits = λ p N L real. sym (no-ancestor p _ _ _ _ _ N L real _ _ _ (c .before .before .before .wide .ensures) (c .before .before .walk .ensures) (not-true _ (c .if1 .taken)));
+  loops = λ p N L real leaf. sym (leaf-loop p _ _ _ _ _ N L real _ _ _ (c .before .before .before .wide .ensures) (c .before .before .walk .ensures) leaf);
 }
 
 element-copy-out-t17 : tie.Need-element-copy-out-t17
@@ -38,9 +38,9 @@ element-copy-out-t17 c = omega (arith, c .before .before .walk .ensures .above (
 
 returns-2 : tie.Need-returns-2
 returns-2 c = record {
-  above = λ _. rw (← c .before .before .before .before .wide .ensures .0) (c .before .before .before .walk .ensures .above (not-false _ (c .before .if1 .left)));
-  fits = λ p N L real. sym (some-ancestor p _ _ _ _ _ N L real _ _ _ (c .before .before .before .before .wide .ensures .0) (c .before .before .before .walk .ensures) (not-false _ (c .before .if1 .left)));
-  loops = λ p N L real leaf. sym (leaf-loop p _ _ _ _ _ N L real _ _ _ (c .before .before .before .before .wide .ensures .0) (c .before .before .before .walk .ensures) leaf);
+  above = λ _. rw (← c .before .before .before .before .wide .ensures) (c .before .before .before .walk .ensures .above (not-false _ (c .before .if1 .left)));
+  fits = λ p N L real. sym (some-ancestor p _ _ _ _ _ N L real _ _ _ (c .before .before .before .before .wide .ensures) (c .before .before .before .walk .ensures) (not-false _ (c .before .if1 .left)));
+  loops = λ p N L real leaf. sym (leaf-loop p _ _ _ _ _ N L real _ _ _ (c .before .before .before .before .wide .ensures) (c .before .before .before .walk .ensures) leaf);
 }
 
 pub companion-spec : {M : Type 1} → statement M

@@ -40,7 +40,7 @@ has-focus-requires : tie.Need-has-focus-requires
 has-focus-requires c κs = search needs
 
 returns-3 : tie.Need-returns-3
-returns-3 c = rw (ne-eqb _ _ (c .before .before .before .before .before .before .if1 .left), ne-eqb _ _ (c .before .before .before .before .before .if2 .left), ← c .before .before .before .wide .ensures .0, ← c .before .wide2 .ensures .0) (c .has-focus .ensures ∙ sym (and-true _))
+returns-3 c = rw (ne-eqb _ _ (c .before .before .before .before .before .before .if1 .left), ne-eqb _ _ (c .before .before .before .before .before .if2 .left), ← c .before .before .before .wide .ensures, ← c .before .wide2 .ensures) (c .has-focus .ensures ∙ sym (and-true _))
 
 pub may-loop-spec : {M : Type 1} → statement M
 may-loop-spec =

@@ -43,7 +43,7 @@ loop-less : tie.Need-loop-less Inv-loop μ-loop
 loop-less c = omega (arith, up (c .before .before .before .before))
 
 loop-again : tie.Need-loop-again Inv-loop μ-loop
-loop-again c = rw (c .wide .ensures .0)
+loop-again c = rw (c .wide .ensures)
     (omega (arith, up (c .before .before .before .before)), λ p N real. count-more p _ _ _ N _ _ (c .before .before .before .before .before .before .pre .1) real _ _ _ (omega arith) (c .before .before .before .before .loop-test .taken) (c .before .before .before .before .before .loop .inv .1 p N real))
 
 element-copy-out-t25 : tie.Need-element-copy-out-t25 Inv-loop μ-loop

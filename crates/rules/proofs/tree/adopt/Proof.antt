@@ -43,14 +43,14 @@ take-child-requires : tie.Need-take-child-requires
 take-child-requires c κs = search needs
 
 returns-2 : tie.Need-returns-2
-returns-2 c = first-refused _ _ _ _ _ (c .before .before .before .before .before .before .before .before .pre .0) (c .before .before .before .before .before .before .before .before .pre .2) (some-first (c .before .before .before .before .before)) (rw (c .before .before .wide .ensures .0) at (c .before .take-child .ensures)) (not-true _ (c .if2 .taken))
+returns-2 c = first-refused _ _ _ _ _ (c .before .before .before .before .before .before .before .before .pre .0) (c .before .before .before .before .before .before .before .before .pre .2) (some-first (c .before .before .before .before .before)) (rw (c .before .before .wide .ensures) at (c .before .take-child .ensures)) (not-true _ (c .if2 .taken))
 
 has-second-requires : tie.Need-has-second-requires
 has-second-requires c κs = search needs
 
 returns-3 : tie.Need-returns-3
 returns-3 c =
-    adopts-one _ _ _ _ _ (c .before .before .before .before .before .before .before .before .before .before .pre .0) (c .before .before .before .before .before .before .before .before .before .before .pre .2) (some-first (c .before .before .before .before .before .before .before)) (rw (c .before .before .before .before .wide .ensures .0) at (c .before .before .before .take-child .ensures)) (not-false _ (c .before .before .if2 .left))
+    adopts-one _ _ _ _ _ (c .before .before .before .before .before .before .before .before .before .before .pre .0) (c .before .before .before .before .before .before .before .before .before .before .pre .2) (some-first (c .before .before .before .before .before .before .before)) (rw (c .before .before .before .before .wide .ensures) at (c .before .before .before .take-child .ensures)) (not-false _ (c .before .before .if2 .left))
     (sym (c .before .has-second .ensures) ∙ not-true _ (c .if3 .taken))
 
 mul-wide-3 : tie.Need-mul-wide-3
@@ -73,9 +73,9 @@ take-child-requires-2 c κs = search needs
 
 returns-4 : tie.Need-returns-4
 returns-4 c =
-    adopts-two _ _ _ _ _ (c .before .before .before .before .before .before .before .before .before .before .before .before .before .before .pre .0) (c .before .before .before .before .before .before .before .before .before .before .before .before .before .before .pre .2) (some-first (c .before .before .before .before .before .before .before .before .before .before .before)) (rw (c .before .before .before .before .before .before .before .before .wide .ensures .0) at (c .before .before .before .before .before .before .before .take-child .ensures)) (not-false _ (c .before .before .before .before .before .before .if2 .left))
+    adopts-two _ _ _ _ _ (c .before .before .before .before .before .before .before .before .before .before .before .before .before .before .pre .0) (c .before .before .before .before .before .before .before .before .before .before .before .before .before .before .pre .2) (some-first (c .before .before .before .before .before .before .before .before .before .before .before)) (rw (c .before .before .before .before .before .before .before .before .wide .ensures) at (c .before .before .before .before .before .before .before .take-child .ensures)) (not-false _ (c .before .before .before .before .before .before .if2 .left))
     (sym (c .before .before .before .before .before .has-second .ensures) ∙ not-false _ (c .before .before .before .before .if3 .left))
-    (rw (c .before .wide2 .ensures .0) at (c .take-child2 .ensures))
+    (rw (c .before .wide2 .ensures) at (c .take-child2 .ensures))
 
 pub adopt-spec : {M : Type 1} → statement M
 adopt-spec =

@@ -1,0 +1,3 @@
+pub mod IfSet
+pub mod Bits
+pub mod WordLaws

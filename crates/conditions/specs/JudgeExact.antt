@@ -1,0 +1,258 @@
+-- the judge of 20 to 23 is exact
+use mathlib.Core.Path.{_≡_, refl, sym, _∙_, subst, subst⁻¹}
+use mathlib.Core.Logic.{_⊎_, inl, inr, _↔_}
+use mathlib.Core.Bool.{Bool, true, false, not, _||_, false≢true}
+use Prim.Native.Nat.{ℕ, _<_, _≤_}
+use native.Mathlib.Omega.{arith}
+use lib.ListN.{length}
+use borrow.Author.Tests.{not-false}
+use Rattle.formula.specs.Table.{Table}
+use Rattle.formula.specs.Shape.{Shape, leaf, two, step, fix, name, never, always, letter, negated, Fix, mu, nu, shape, Operand, Fixpoint}
+use Rattle.conditions.specs.Free.{Free, named, inside}
+use Rattle.formula.specs.TableLaws.{in-table}
+use Rattle.conditions.specs.Conditions.{Bad, OutOfBounds, NotAbove, Alternates, nu-in-mu, mu-in-nu, OwnUnguarded}
+use Rattle.conditions.specs.Formed.{InBounds, Fits, Earns, bounds, above, alternation, unguarded, Formed}
+use Rattle.verdict.specs.Tests.{choose}
+use Rattle.verdict.specs.Tells.{Tells, fails, fails-holds, not-tells}
+use Rattle.verdict.specs.Verdict.{Verdict, accepted, refused, scan}
+use Rattle.verdict.specs.VerdictLaws.{accepted-not-refused, First, Passes, scan-says, scan-holds, scan-refuses, scan-first}
+use Rattle.conditions.specs.Judge.{bad, frees, opens, isMu, isNu, marks, low, mixed, loose, judgeBy, judgeTable}
+use Rattle.conditions.specs.TestLaws.{bad-tells, under, operand-under, alternates-fix, own-fix, low-tells, mixed-tells, unguarded-tells, fits-tells}
+
+-- none of 20 to 23
+pub record Clean (t : Table) : Type 0 where
+  pub placed : (w : ℕ) → InBounds t w
+  pub fit : (w : ℕ) → Fits t w
+
+-- nothing is to be said past the table's end
+
+leaf-free : (t : Table) (e x : ℕ) → Free t e x → shape t e ≡ leaf never → ⊥
+leaf-free t e x (named q) p = let z : _≡_ {A = ℕ} 0 1 = cc in omega arith
+leaf-free t e x (inside {c = c} v q o k f) p = subst (λ (u : Shape). Operand u c) (sym q ∙ p) o
+
+out-in : (t : Table) (e : ℕ) → OutOfBounds t e → e < length t
+out-in t e h = in-table t e (λ p. subst (Bad t e) p h)
+
+above-in : (t : Table) (e : ℕ) → NotAbove t e → e < length t
+above-in t e (x, f, l) = in-table t e (leaf-free t e x f)
+
+alternates-in : (t : Table) (e : ℕ) → Alternates t e → e < length t
+alternates-in t e z = in-table t e (λ p. subst Fixpoint p (alternates-fix t e z))
+
+own-in : (t : Table) (e : ℕ) → OwnUnguarded t e → e < length t
+own-in t e z = in-table t e (λ p. subst Fixpoint p (own-fix t e z))
+
+placed-all : (t : Table) → ((w : ℕ) → w < length t → InBounds t w) → (w : ℕ) → InBounds t w
+placed-all t f w h = f w (out-in t w h) h
+
+fit-all : (t : Table) → ((w : ℕ) → w < length t → Fits t w) → (w : ℕ) → Fits t w
+fit-all t f w = record {
+  above = λ h. f w (above-in t w h) .above h;
+  alike = λ h. f w (alternates-in t w h) .alike h;
+  guarded = λ h. f w (own-in t w h) .guarded h;
+}
+
+module _ (t : Table) where
+  abbrev ok20 : ℕ → Bool
+  ok20 e = not (bad t e (shape t e))
+
+  abbrev num20 : ℕ → ℕ
+  num20 e = 20
+
+  abbrev lo : ℕ → Bool
+  lo e = low (frees t) e
+
+  abbrev mi : ℕ → Bool
+  mi e = mixed t (frees t) (marks isMu t) (marks isNu t) e
+
+  abbrev un : ℕ → Bool
+  un e = loose t (opens t) e
+
+  abbrev okRest : ℕ → Bool
+  okRest e = not (lo e || (mi e || un e))
+
+  abbrev numRest : ℕ → ℕ
+  numRest e = choose (lo e) 21 (choose (mi e) 22 23)
+
+  abbrev second : Verdict
+  second = scan okRest numRest (length t) 0 accepted
+
+  judge-is : judgeTable t ≡ scan ok20 num20 (length t) 0 second
+  unfolding judgeTable judgeBy
+  judge-is = refl
+
+  ok20-tells : (e : ℕ) → Tells (ok20 e) (InBounds t e)
+  ok20-tells e = not-tells (bad-tells t e (shape t e))
+
+  passes-placed : Passes ok20 0 (length t) → (w : ℕ) → InBounds t w
+  passes-placed f = placed-all t (λ w l. ok20-tells w .says (f w (omega arith) (omega arith)))
+
+  passes-fit : ((w : ℕ) → InBounds t w) → Passes okRest 0 (length t) → (w : ℕ) → Fits t w
+  passes-fit p f = fit-all t (λ w l. fits-tells t p w .says (f w (omega arith) (omega arith)))
+
+  accepted-clean : judgeTable t ≡ accepted → Clean t
+  accepted-clean h =
+      let (f, r) = scan-says ok20 num20 (length t) 0 second (sym judge-is ∙ h) in
+      let (g, s) = scan-says okRest numRest (length t) 0 accepted r in
+      record { placed = passes-placed f; fit = passes-fit (passes-placed f) g }
+
+  clean-accepted : Clean t → judgeTable t ≡ accepted
+  clean-accepted c =
+      judge-is
+      ∙ scan-holds ok20 num20 (length t) 0 second (λ w a b. ok20-tells w .holds (c .placed w))
+      ∙ scan-holds okRest numRest (length t) 0 accepted (λ w a b. fits-tells t (c .placed) w .holds (c .fit w))
+
+  -- clean is well formed, letters below 32, guarded
+
+  out-at : (e : ℕ) (v : Shape) → shape t e ≡ v → InBounds t e → Bad t e v → ⊥
+  out-at e v q k b = k (subst⁻¹ (Bad t e) q b)
+
+  fixpoint-known : (v : Shape) → ((Fixpoint v → ⊥) → ⊥) → Fixpoint v
+  fixpoint-known (leaf l) h = h (λ x. x)
+  fixpoint-known (two o a b) h = h (λ x. x)
+  fixpoint-known (step m a) h = h (λ x. x)
+  fixpoint-known (fix σ a) h = tt
+  fixpoint-known (name x) h = h (λ y. y)
+
+  one-kind : (e x a b : ℕ) (σ τ : Fix) → (Alternates t e → ⊥) → shape t e ≡ fix σ a → Free t e x → shape t x ≡ fix τ b → σ ≡ τ
+  one-kind e x a b mu mu n q f r = refl
+  one-kind e x a b mu nu n q f r = absurd (n (nu-in-mu x a b q f r))
+  one-kind e x a b nu mu n q f r = absurd (n (mu-in-nu x a b q f r))
+  one-kind e x a b nu nu n q f r = refl
+
+  letter-in : (e p : ℕ) → InBounds t e → (shape t e ≡ leaf (letter p)) ⊎ (shape t e ≡ leaf (negated p)) → p < 32
+  letter-in e p k (inl q) = under p 32 (out-at e (leaf (letter p)) q k)
+  letter-in e p k (inr q) = under p 32 (out-at e (leaf (negated p)) q k)
+
+  clean-formed : Clean t → Formed t
+  clean-formed c = record {
+    well = record {
+      operands-below = λ e d o. operand-under t e d (shape t e) (c .placed e) o;
+      names-above = λ e x q. let k = out-at e (name x) q (c .placed e) in
+          (under e x (λ h. k (inl h)), under x (length t) (λ h. k (inr (inl h))), fixpoint-known (shape t x) (λ h. k (inr (inr h))));
+      free-above = λ e x f. under e x (λ h. c .fit e .above (x, f, h));
+      no-alternation = λ e x a b σ τ q f r. one-kind e x a b σ τ (c .fit e .alike) q f r;
+    };
+    letters = λ e p s. letter-in e p (c .placed e) s;
+    guards = λ e a σ q u. c .fit e .guarded (σ, a, q, u);
+  }
+
+  formed-bounds : Formed t → (e : ℕ) (v : Shape) → shape t e ≡ v → Bad t e v → ⊥
+  formed-bounds w e (leaf never) q h = h
+  formed-bounds w e (leaf always) q h = h
+  formed-bounds w e (leaf (letter p)) q h = let l = w .letters e p (inl q) in omega arith
+  formed-bounds w e (leaf (negated p)) q h = let l = w .letters e p (inr q) in omega arith
+  formed-bounds w e (two o a b) q (inl h) = let l = w .well .operands-below e a (subst⁻¹ (λ (u : Shape). Operand u a) q (inl refl)) in omega arith
+  formed-bounds w e (two o a b) q (inr h) = let l = w .well .operands-below e b (subst⁻¹ (λ (u : Shape). Operand u b) q (inr refl)) in omega arith
+  formed-bounds w e (step m a) q h = let l = w .well .operands-below e a (subst⁻¹ (λ (u : Shape). Operand u a) q refl) in omega arith
+  formed-bounds w e (fix σ a) q h = let l = w .well .operands-below e a (subst⁻¹ (λ (u : Shape). Operand u a) q refl) in omega arith
+  formed-bounds w e (name x) q (inl h) = let (l, m, n) = w .well .names-above e x q in omega arith
+  formed-bounds w e (name x) q (inr (inl h)) = let (l, m, n) = w .well .names-above e x q in omega arith
+  formed-bounds w e (name x) q (inr (inr h)) = let (l, m, n) = w .well .names-above e x q in h n
+
+  formed-alike : Formed t → (e : ℕ) → Alternates t e → ⊥
+  formed-alike w e (nu-in-mu x a b q f r) = mu-nu (w .well .no-alternation e x a b mu nu q f r)
+    where
+      mu-nu : mu ≡ nu → ⊥
+      mu-nu p = let z : _≡_ {A = ℕ} 0 1 = cc in omega arith
+  formed-alike w e (mu-in-nu x a b q f r) = nu-mu (w .well .no-alternation e x a b nu mu q f r)
+    where
+      nu-mu : nu ≡ mu → ⊥
+      nu-mu p = let z : _≡_ {A = ℕ} 0 1 = cc in omega arith
+
+  formed-clean : Formed t → Clean t
+  formed-clean w = record {
+    placed = λ e. formed-bounds w e (shape t e) refl;
+    fit = λ e. record {
+      above = λ (x, f, h). let l = w .well .free-above e x f in omega arith;
+      alike = formed-alike w e;
+      guarded = λ (σ, a, q, u). w .guards e a σ q u;
+    };
+  }
+
+  -- accepted exactly where the table is well formed
+  pub judge-accepts : (judgeTable t ≡ accepted) ↔ Formed t
+  judge-accepts = (λ h. clean-formed (accepted-clean h), λ w. clean-accepted (formed-clean w))
+
+  -- what is refused
+
+  module _ (placed : (w : ℕ) → InBounds t w) where
+    fit-before : {e : ℕ} → ((w : ℕ) → 0 ≤ w → w < e → okRest w ≡ true) → (w : ℕ) → w < e → Fits t w
+    fit-before f w l = fits-tells t placed w .says (f w (omega arith) l)
+
+    earns-rest : (k e : ℕ) → First okRest numRest 0 (length t) k e → Earns t k e
+    earns-rest k e x = go (lo e) (low-tells t placed e) (mi e) (mixed-tells t placed e) (un e) (unguarded-tells t placed e) (not-false _ (x .bad)) (x .numbered)
+      where
+        go : (a : Bool) → Tells a (NotAbove t e) → (b : Bool) → Tells b (Alternates t e) → (c : Bool) → Tells c (OwnUnguarded t e)
+            → (a || (b || c)) ≡ true → choose a 21 (choose b 22 23) ≡ k → Earns t k e
+        go true p b q c r h n = subst (λ (j : ℕ). Earns t j e) n (above placed (fit-before (x .before)) (p .says refl))
+        go false p true q c r h n = subst (λ (j : ℕ). Earns t j e) n (alternation placed (fit-before (x .before)) (fails p refl) (q .says refl))
+        go false p false q true r h n = subst (λ (j : ℕ). Earns t j e) n (unguarded placed (fit-before (x .before)) (fails p refl) (fails q refl) (r .says refl))
+        go false p false q false r h n = absurd (false≢true h)
+
+    rest-earned : (k e : ℕ) → e < length t → ((w : ℕ) → w < e → Fits t w) → (lo e || (mi e || un e)) ≡ true → numRest e ≡ k → First okRest numRest 0 (length t) k e
+    rest-earned k e l f h n = record {
+      inside = (omega arith, omega arith);
+      bad = rw h refl;
+      numbered = n;
+      before = λ w a b. fits-tells t placed w .holds (f w b);
+    }
+
+  refused-earns : (k e : ℕ) → judgeTable t ≡ refused k e → Earns t k e
+  refused-earns k e h = go (scan-refuses ok20 num20 (length t) 0 second (sym judge-is ∙ h))
+    where
+      last : ((w : ℕ) → InBounds t w) → First okRest numRest 0 (length t) k e ⊎ (Passes okRest 0 (length t) × (accepted ≡ refused k e)) → Earns t k e
+      last p (inl x) = earns-rest p k e x
+      last p (inr (f, z)) = absurd (accepted-not-refused (sym z))
+
+      go : First ok20 num20 0 (length t) k e ⊎ (Passes ok20 0 (length t) × (second ≡ refused k e)) → Earns t k e
+      go (inl x) = subst (λ (j : ℕ). Earns t j e) (x .numbered)
+          (bounds (bad-tells t e (shape t e) .says (not-false _ (x .bad))) (λ w l. ok20-tells w .says (x .before w (omega arith) l)))
+      go (inr (f, r)) = last (passes-placed f) (scan-refuses okRest numRest (length t) 0 accepted r)
+
+  after-placed : {k e : ℕ} → ((w : ℕ) → InBounds t w) → First okRest numRest 0 (length t) k e → judgeTable t ≡ refused k e
+  after-placed p x =
+      judge-is
+      ∙ scan-holds ok20 num20 (length t) 0 second (λ w a b. ok20-tells w .holds (p w))
+      ∙ scan-first okRest numRest (length t) 0 accepted x
+
+  earned-refused : (k e : ℕ) → Earns t k e → judgeTable t ≡ refused k e
+  earned-refused k e (bounds o f) = judge-is ∙ scan-first ok20 num20 (length t) 0 second (record {
+    inside = (omega arith, omega (arith, out-in t e o));
+    bad = rw (bad-tells t e (shape t e) .holds o) refl;
+    numbered = refl;
+    before = λ w a b. ok20-tells w .holds (f w b);
+  })
+  earned-refused k e (above p f h) =
+      let q = low-tells t p e .holds h in
+      after-placed p (rest-earned p 21 e (above-in t e h) f (rw q refl) (rw q refl))
+  earned-refused k e (alternation p f n h) =
+      let q = fails-holds (low-tells t p e) n in
+      let r = mixed-tells t p e .holds h in
+      after-placed p (rest-earned p 22 e (alternates-in t e h) f (rw (q, r) refl) (rw (q, r) refl))
+  earned-refused k e (unguarded p f n m h) =
+      let q = fails-holds (low-tells t p e) n in
+      let r = fails-holds (mixed-tells t p e) m in
+      let s = unguarded-tells t p e .holds h in
+      after-placed p (rest-earned p 23 e (own-in t e h) f (rw (q, r, s) refl) (rw (q, r) refl))
+
+  -- refused with a number at an entry exactly where that is earned
+  pub judge-refuses : (k e : ℕ) → (judgeTable t ≡ refused k e) ↔ Earns t k e
+  judge-refuses k e = (refused-earns k e, earned-refused k e)
+
+  -- every table is well formed or earns a refusal, and at most one
+  pub formed-or-earns : Formed t ⊎ ((k : ℕ) × (e : ℕ) × Earns t k e)
+  formed-or-earns = go (judgeTable t) refl
+    where
+      go : (v : Verdict) → judgeTable t ≡ v → Formed t ⊎ ((k : ℕ) × (e : ℕ) × Earns t k e)
+      go accepted h = inl (judge-accepts .0 h)
+      go (refused k e) h = inr (k, e, refused-earns k e h)
+
+  pub formed-not-earns : (k e : ℕ) → Formed t → Earns t k e → ⊥
+  formed-not-earns k e w x = accepted-not-refused (sym (earned-refused k e x) ∙ judge-accepts .1 w)
+
+  pub earns-once : (k e j d : ℕ) → Earns t k e → Earns t j d → (k ≡ j) × (e ≡ d)
+  earns-once k e j d x y = (cc same, cc same)
+    where
+      same : refused k e ≡ refused j d
+      same = sym (earned-refused k e x) ∙ earned-refused j d y

@@ -1,0 +1,9 @@
+pub mod Truth
+pub mod Chain
+pub mod Bounds
+pub mod States
+pub mod StateLaws
+pub mod Meaning
+pub mod MeaningLaws
+pub mod FixLaws
+pub mod OwnLaws

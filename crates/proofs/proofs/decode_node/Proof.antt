@@ -1,0 +1,139 @@
+-- The place after the fields is the one where the definition looks for the count and the codes.
+use native.Mathlib.Omega.{arith}
+use mathlib.Core.Path.{_≡_, refl, ap, _∙_}
+use mathlib.Core.List.{List}
+use Prim.Native.Nat.{ℕ, _+_}
+use lib.Seq.{sets}
+use Rattle.proofs.specs.ProofDecode.{codesPlace, nodeAt, NodeFits, WithCodes, with-codes, no-codes}
+use borrow.Author.Needs.{needs}
+use Rattle.proofs.proofs.decode_node.Statement.{statement}
+use Rattle.proofs.proofs.decode_node.Tie as tie
+
+-- the node, and the place after its fields
+module _ (c : tie.After-link-width) where
+  abbrev file : List ℕ
+  file = c .before .before .before .before .before .before .args .bytes .now
+
+  abbrev here : ℕ
+  here = c .before .before .before .before .before .before .args .spot .at
+
+  abbrev codes-at : ℕ
+  codes-at = here + 2 + c .link-width .result
+
+  fits : NodeFits file here
+  fits = c .before .before .before .before .before .before .pre .0
+
+  placed : codes-at ≡ codesPlace file here
+  placed = omega (arith, c .link-width .ensures)
+
+coded : (c : tie.Else1) → WithCodes (file (c .before .before)) (here (c .before .before)) (codes-at (c .before .before))
+coded c = with-codes _ _ (c .if1 .left) _ (placed (c .before .before))
+
+add-rule : tie.Need-add-rule
+add-rule c = search needs
+
+shared-slice-read-rule : tie.Need-shared-slice-read-rule
+shared-slice-read-rule c = search needs
+
+element-write-rules : tie.Need-element-write-rules
+element-write-rules c = search needs
+
+add-decode-links : tie.Need-add-decode-links
+add-decode-links c = search needs
+
+decode-links-requires : tie.Need-decode-links-requires
+decode-links-requires c κs = omega (arith, c .before .before .before .before .pre)
+
+add-next : tie.Need-add-next
+add-next c = search needs
+
+link-width-requires : tie.Need-link-width-requires
+link-width-requires c κs = search needs
+
+cast-next : tie.Need-cast-next
+cast-next c = search needs
+
+add-next-2 : tie.Need-add-next-2
+add-next-2 c = search needs
+
+shared-slice-read-if1 : tie.Need-shared-slice-read-if1
+shared-slice-read-if1 c = search needs
+
+returns : tie.Need-returns
+unfolding nodeAt
+returns c =
+    let bare = no-codes (file (c .before .before)) (here (c .before .before)) (c .if1 .taken) _ (placed (c .before .before)) in
+    let start = c .before .before .before .before .before .before .before .before .args .spot .start in (
+      (bare .ends, omega (arith, bare .many)),
+      (refl, (c .before .before .before .decode-links .ensures, ap (sets (c .before .before .before .before .before .before .before .before .args .codes .now) start) (bare .are))),
+    )
+
+shared-slice-read-n : tie.Need-shared-slice-read-n
+shared-slice-read-n c = omega (arith, fits (c .before .before .before) .whole, coded (c .before) .ends)
+
+cast-n : tie.Need-cast-n
+cast-n c = omega (arith, fits (c .before .before .before) .few, coded (c .before) .many)
+
+add-copy-codes : tie.Need-add-copy-codes
+add-copy-codes c = search needs
+
+copy-codes-requires : tie.Need-copy-codes-requires
+copy-codes-requires c κs =
+    let node = c .before .before .before .before in
+    omega (arith, fits node .whole, fits node .few, coded (c .before .before) .ends, coded (c .before .before) .many, c .before .before .before .before .before .before .before .before .before .before .pre)
+
+add-t19 : tie.Need-add-t19
+add-t19 c = search needs
+
+mul-t12 : tie.Need-mul-t12
+mul-t12 c =
+    let node = c .before .before .before .before .before .before .before in
+    omega (arith, fits node .whole, fits node .few, coded (c .before .before .before .before .before) .ends, coded (c .before .before .before .before .before) .many, c .before .before .before .before .before .before .before .before .before .before .before .before .before .pre)
+
+add-t25 : tie.Need-add-t25
+add-t25 c =
+    let node = c .before .before .before .before .before .before .before in
+    omega (arith, fits node .whole, fits node .few, coded (c .before .before .before .before .before) .ends, coded (c .before .before .before .before .before) .many, c .before .before .before .before .before .before .before .before .before .before .before .before .before .pre)
+
+add-t26 : tie.Need-add-t26
+add-t26 c =
+    let node = c .before .before .before .before .before .before .before in
+    omega (arith, fits node .whole, fits node .few, coded (c .before .before .before .before .before) .ends, coded (c .before .before .before .before .before) .many, c .before .before .before .before .before .before .before .before .before .before .before .before .before .pre)
+
+same-length : tie.Need-same-length
+same-length c = search needs
+
+returns-2 : tie.Need-returns-2
+unfolding nodeAt
+returns-2 c =
+    let entry = c .before .before .before .before .before .before .before .before .before .before .before .before .before in
+    let full = coded (c .before .before .before .before .before) in (
+      (full .ends, ap (λ (n : ℕ). entry .args .spot .start + n) (full .many)),
+      (refl, (c .before .before .before .before .before .before .before .before .decode-links .ensures, c .before .before .copy-codes .ensures ∙ ap (sets (entry .args .codes .now) (entry .args .spot .start)) (full .are))),
+    )
+
+pub decode-node-spec : {M : Type 1} → statement M
+decode-node-spec =
+    tie.close
+    (tie.spec
+    add-rule
+    shared-slice-read-rule
+    element-write-rules
+    add-decode-links
+    decode-links-requires
+    add-next
+    link-width-requires
+    cast-next
+    add-next-2
+    shared-slice-read-if1
+    returns
+    shared-slice-read-n
+    cast-n
+    add-copy-codes
+    copy-codes-requires
+    add-t19
+    mul-t12
+    add-t25
+    add-t26
+    same-length
+    returns-2)

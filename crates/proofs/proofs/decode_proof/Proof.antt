@@ -1,0 +1,112 @@
+-- After i turns the first i nodes are stored, and the others stand from the place reached on.
+use borrow.Author.Needs.{needs}
+use native.Mathlib.Omega.{arith}
+use mathlib.Core.Path.{_≡_, refl, subst, _∙_}
+use Prim.Native.Nat.{ℕ, _-_, _<_, _≤_}
+use lib.ListN.{set}
+use Rattle.encoding.specs.Places.{wordAt}
+use Rattle.proofs.specs.ProofDecode.{proofIn, nodesAt-length}
+use Rattle.proofs.specs.ProofStored.{Storing, storing-begins, storing-steps, node-fits, stored-long, NodesStored, stored-nodes}
+use Rattle.proofs.proofs.decode_proof.Statement.{statement}
+use Rattle.proofs.proofs.decode_proof.Tie as tie
+
+abbrev Inv-loop : tie.InvT-loop
+Inv-loop bytes rules₀ links₀ starts₀ codes₀ n spot₀ i₀ rules links starts codes spot i = (i ≤ n) × (n ≡ wordAt bytes 4) × Storing bytes rules₀ links₀ starts₀ codes₀ rules links starts codes (spot .at) (spot .start) i
+
+abbrev μ-loop : tie.MeasureT-loop
+μ-loop bytes rules₀ links₀ starts₀ codes₀ n spot₀ i₀ rules links starts codes spot i = n - i
+
+-- in a turn there is a node left
+more : (c : tie.In-loop Inv-loop μ-loop) → c .before .loop .i < wordAt (c .before .before .before .before .before .args .bytes .now) 4
+more c = omega (arith, c .before .loop .inv .1, c .loop-test .taken)
+
+node-count-requires : tie.Need-node-count-requires Inv-loop μ-loop
+node-count-requires c κs = c .before .before .pre .0
+
+loop-holds : tie.Need-loop-holds Inv-loop μ-loop
+loop-holds c =
+    let entry = c .before .before .before in
+    let file = entry .args .bytes .now in
+    (omega arith, c .node-count .ensures ∙ nodesAt-length file 6 (wordAt file 4), storing-begins (entry .pre .0))
+
+cast-starts : tie.Need-cast-starts Inv-loop μ-loop
+cast-starts c = search needs
+
+mul-starts : tie.Need-mul-starts Inv-loop μ-loop
+mul-starts c = search needs
+
+element-write-starts : tie.Need-element-write-starts Inv-loop μ-loop
+element-write-starts c = search needs
+
+decode-node-requires : tie.Need-decode-node-requires Inv-loop μ-loop
+decode-node-requires c κs =
+    let entry = c .before .before .before .before .before .before .before .before .before in
+    let turn = c .before .before .before .before .before .loop in
+    let stored = turn .inv .2 in
+    let left = more (c .before .before .before .before) in
+    let few = entry .pre .0 .few in
+    let long = stored-long (entry .pre .0) (entry .pre .1) stored (omega arith) in
+    (node-fits (entry .pre .0) (entry .pre .1) stored left, omega (arith, stored .near), omega arith, omega (arith, stored .few, long, entry .pre .1 .codes))
+
+add-i : tie.Need-add-i Inv-loop μ-loop
+add-i c = search needs
+
+loop-less : tie.Need-loop-less Inv-loop μ-loop
+loop-less c = search needs
+
+loop-again : tie.Need-loop-again Inv-loop μ-loop
+loop-again c =
+    let entry = c .before .before .before .before .before .before .before .before .before .before .before .before in
+    let turn = c .before .before .before .before .before .before .before .before .loop in
+    let left = c .before .before .decode-node .ensures in (
+      omega arith,
+      turn .inv .1,
+      storing-steps (entry .pre .0) (entry .pre .1) (turn .inv .2) (more (c .before .before .before .before .before .before .before)) (left .1 .0) (left .1 .1 .0) refl (left .1 .1 .1) (left .0 .0) (left .0 .1),
+    )
+
+cast-starts-2 : tie.Need-cast-starts-2 Inv-loop μ-loop
+cast-starts-2 c = omega (arith, c .before .before .before .before .before .before .pre .0 .few, c .before .before .loop .inv .2 .few)
+
+mul-starts-2 : tie.Need-mul-starts-2 Inv-loop μ-loop
+mul-starts-2 c = search needs
+
+element-write-starts-2 : tie.Need-element-write-starts-2 Inv-loop μ-loop
+element-write-starts-2 c = search needs
+
+same-length : tie.Need-same-length Inv-loop μ-loop
+same-length c =
+    let entry = c .before .before .before .before .before .before in
+    stored-long (entry .pre .0) (entry .pre .1) (c .before .before .loop .inv .2) (omega (arith, c .before .before .loop .inv .1))
+
+returns : tie.Need-returns Inv-loop μ-loop
+returns c =
+    let entry = c .before .before .before .before .before .before in
+    let stored = c .before .before .loop .inv .2 in
+    let all : c .before .before .loop .i ≡ c .before .before .before .node-count .result = omega arith in
+    let last : c .before .before .loop .i ≡ wordAt (entry .args .bytes .now) 4 = all ∙ c .before .before .loop .inv .1 in (
+      c .before .before .before .node-count .ensures,
+      subst
+          (λ (k : ℕ). NodesStored (proofIn (entry .args .bytes .now)) (entry .args .rules .now) (entry .args .links .now) (entry .args .starts .now) (entry .args .codes .now) (c .before .before .loop .rules) (c .before .before .loop .links) (set (c .before .before .loop .starts) k (c .before .before .loop .spot .start)) (c .before .before .loop .codes))
+          all (stored-nodes (entry .pre .0) (entry .pre .1) stored last),
+    )
+
+pub decode-proof-spec : {M : Type 1} → statement M
+decode-proof-spec =
+    tie.close
+    (tie.spec
+    Inv-loop
+    μ-loop
+    node-count-requires
+    loop-holds
+    cast-starts
+    mul-starts
+    element-write-starts
+    decode-node-requires
+    add-i
+    loop-less
+    loop-again
+    cast-starts-2
+    mul-starts-2
+    element-write-starts-2
+    same-length
+    returns)

@@ -1,0 +1,60 @@
+-- of the table the reading of a proof takes only the kinds
+use mathlib.Core.Path.{_≡_, refl, sym, ap, _∙_, fun-ext}
+use mathlib.Core.List.{List, []}
+use mathlib.Core.Bool.{Bool, true, false}
+use Prim.Native.Nat.{ℕ, _<_}
+use native.Mathlib.Omega.{arith}
+use lib.ListN.{length, getD}
+use Rattle.verdict.specs.Tells.{fails, fails-holds}
+use Rattle.formula.specs.Table.{Table, kind}
+use Rattle.formula.specs.Codes.{Formula, entryOf}
+use Rattle.formula.specs.Nodes.{Node}
+use Rattle.formula.specs.Plain.{tableOf-length, tableOf-kind}
+use Rattle.encoding.specs.Parse.{Parser, seq, via, part, byte, two, count, listed, rising}
+use Rattle.encoding.specs.File.{readFile}
+use Rattle.formula.specs.Members.{isFormula, formula-tells}
+use Rattle.proofs.specs.ProofFile.{proofOpening}
+use Rattle.proofs.specs.ReadProof.{early, ruleByte, fields, isCode, sequent, made, node, nodes, readProof}
+use Rattle.proofs.specs.ProofParts.{kindTable}
+
+-- the kinds of a table's entries stand in a list
+pub record Kinds (t : Table) (ks : List ℕ) (n : ℕ) : Type 0 where
+  pub many : length t ≡ n
+  pub same : (e : ℕ) → e < n → kind t e ≡ getD ks e 0
+
+module _ {t : Table} {ks : List ℕ} {n : ℕ} (k : Kinds t ks n) where
+  formula-same : (e : ℕ) → isFormula t e ≡ isFormula (kindTable ks n) e
+  formula-same e = go (isFormula t e) refl
+    where
+      kinds-same : e < n → kind (kindTable ks n) e ≡ kind t e
+      kinds-same h = tableOf-kind ks [] [] n e h ∙ sym (k .same e h)
+
+      to : Formula t e → Formula (kindTable ks n) e
+      to f =
+          let h : e < n = omega (arith, f .inside, k .many) in
+          record { inside = omega (arith, tableOf-length ks [] [] n); no-name = λ i. f .no-name (sym (kinds-same h) ∙ i) }
+
+      from : Formula (kindTable ks n) e → Formula t e
+      from f =
+          let h : e < n = omega (arith, f .inside, tableOf-length ks [] [] n) in
+          record { inside = omega (arith, k .many); no-name = λ i. f .no-name (kinds-same h ∙ i) }
+
+      go : (b : Bool) → isFormula t e ≡ b → isFormula t e ≡ isFormula (kindTable ks n) e
+      go true i = i ∙ sym (formula-tells (kindTable ks n) e .holds (to (formula-tells t e .says i)))
+      go false i = i ∙ sym (fails-holds (formula-tells (kindTable ks n) e) (λ f. fails (formula-tells t e) i (from f)))
+
+  code-same : isCode t ≡ isCode (kindTable ks n)
+  unfolding isFormula
+  code-same = fun-ext (λ c. formula-same (entryOf c))
+
+  sequent-same : sequent t ≡ sequent (kindTable ks n)
+  unfolding sequent
+  sequent-same = ap {B = Parser (List ℕ)} (λ (ok : ℕ → Bool) (s : List ℕ) (at : ℕ). rising (count 24 32 (byte early)) ok 34 (two early) s at) code-same
+
+  node-same : node t ≡ node (kindTable ks n)
+  unfolding node
+  node-same = ap {B = Parser Node} (λ (q : Parser (List ℕ)) (s : List ℕ) (at : ℕ). via made (seq ruleByte (λ h. seq (fields (h .0)) (λ _. part [] (h .1) q))) s at) sequent-same
+
+  pub by-kinds : (s : List ℕ) → readProof t s ≡ readProof (kindTable ks n) s
+  unfolding readProof nodes
+  by-kinds s = ap (λ (q : Parser Node). readFile proofOpening 30 early (λ s at. listed (count 1024 32 (two early)) q s at) s) node-same

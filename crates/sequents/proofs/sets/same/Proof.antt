@@ -1,0 +1,71 @@
+-- `same` meets its contract: sets are the same where all eight words are, and only there.
+use mathlib.Core.Path.{_≡_}
+use Prim.Native.Nat.{ℕ, _≤_, _<_, _-_}
+use native.Mathlib.Omega.{arith}
+use lib.ListN.{getD}
+use mir.Syntax.{w64}
+use mir.Val.{Fits}
+use borrow.Author.Count.{below-more}
+use borrow.Author.Needs.{needs}
+use Rattle.sequents.specs.CodeSet.{same-words, other-words}
+use Rattle.sequents.proofs.sets.same.Statement.{statement}
+use Rattle.sequents.proofs.sets.same.Tie as tie
+
+abbrev Inv-loop : tie.InvT-loop
+Inv-loop x y i₀ i = (i ≤ 8) × ((k : ℕ) → k < i → getD x k 0 ≡ getD y k 0)
+
+abbrev μ-loop : tie.MeasureT-loop
+μ-loop x y i₀ i = 8 - i
+
+loop-holds : tie.Need-loop-holds Inv-loop μ-loop
+loop-holds c = (search needs, λ k h. omega arith)
+
+mul-if1 : tie.Need-mul-if1 Inv-loop μ-loop
+mul-if1 c = search needs
+
+array-read-if1 : tie.Need-array-read-if1 Inv-loop μ-loop
+array-read-if1 c = search needs
+
+mul-if1-2 : tie.Need-mul-if1-2 Inv-loop μ-loop
+mul-if1-2 c = search needs
+
+array-read-if1-2 : tie.Need-array-read-if1-2 Inv-loop μ-loop
+array-read-if1-2 c = search needs
+
+returns : tie.Need-returns Inv-loop μ-loop
+returns c l m X Y =
+    let a = c .before .before .before .args in
+    let x : Fits w64 (getD (a .t1) (c .before .before .loop .i) 0) = search needs in
+    let y : Fits w64 (getD (a .t2) (c .before .before .loop .i) 0) = search needs in
+    other-words (a .t1) (a .t2) l m X Y (c .before .before .loop .i) (x .fits) (y .fits) (c .if1 .taken)
+
+add-i : tie.Need-add-i Inv-loop μ-loop
+add-i c = search needs
+
+loop-less : tie.Need-loop-less Inv-loop μ-loop
+loop-less c = search needs
+
+loop-again : tie.Need-loop-again Inv-loop μ-loop
+loop-again c = (search needs, below-more _ _ (c .before .before .loop .inv .1) (c .if1 .left))
+
+returns-2 : tie.Need-returns-2 Inv-loop μ-loop
+returns-2 c l m X Y =
+    let a = c .before .before .args in
+    same-words (a .t1) (a .t2) l m X Y (search needs) (search needs) (λ k h. c .before .loop .inv .1 k (omega arith))
+
+pub same-spec : {M : Type 1} → statement M
+same-spec =
+    tie.close
+    (tie.spec
+    Inv-loop
+    μ-loop
+    loop-holds
+    mul-if1
+    array-read-if1
+    mul-if1-2
+    array-read-if1-2
+    returns
+    add-i
+    loop-less
+    loop-again
+    returns-2)

@@ -1,0 +1,23 @@
+-- `same_sequent` meets its contract, from what `sequent` and `same` promise.
+use borrow.Author.Needs.{needs}
+use Rattle.formula.specs.PlainNodes.{codesAt}
+use Rattle.sequents.proofs.sets.same_sequent.Statement.{statement}
+use Rattle.sequents.proofs.sets.same_sequent.Tie as tie
+
+sequent-requires : tie.Need-sequent-requires
+sequent-requires c κs = search needs
+
+sequent-requires-2 : tie.Need-sequent-requires-2
+sequent-requires-2 c κs = search needs
+
+same-requires : tie.Need-same-requires
+same-requires c κs = search needs
+
+returns : tie.Need-returns
+returns c =
+    let a = c .before .before .before .before .args in
+    c .same .ensures (codesAt (a .starts .now) (a .codes .now) (a .v)) (codesAt (a .starts .now) (a .codes .now) (a .w))
+    (c .before .before .sequent .ensures) (c .before .sequent2 .ensures)
+
+pub same-sequent-spec : {M : Type 1} → statement M
+same-sequent-spec = tie.close (tie.spec sequent-requires sequent-requires-2 same-requires returns)

@@ -1,0 +1,6 @@
+-- sequents as words
+pub mod Part
+pub mod CodeSet
+-- nodes as they stand in the lists, and the test of each rule over them
+pub mod Placed
+pub mod KeptLaws

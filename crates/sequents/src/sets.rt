@@ -1,0 +1,135 @@
+// A sequent as a set of codes: 512 bits in eight words, code c as bit c % 64 of word c / 64.
+ghost use mathlib.Core.Path.{_≡_};
+ghost use mathlib.Core.List.{List, _∷_};
+ghost use Prim.Native.Nat.{ℕ, _<_};
+ghost use lib.ListN.{take};
+ghost use Rattle.verdict.specs.Tests.{member, same as sameSet, remove, each};
+ghost use Rattle.formula.specs.Codes.{code as codeOf, entryOf};
+ghost use Rattle.formula.specs.PlainNodes.{codesAt, proofOf};
+ghost use Rattle.sequents.specs.CodeSet.{Holds};
+ghost use Rattle.sequents.specs.Part.{part, Span};
+ghost use Rattle.sequents.specs.Placed.{Placed, Members, inFocus};
+ghost use Rattle.calculus.specs.View.{plain};
+ghost use Rattle.calculus.specs.Judge.{root};
+use bits::wide;
+
+// The set with a code more.
+pub fn with(set: [u64; 8], code: u16) -> [u64; 8]
+    requires { ⌜ code < 512 ⌝ }
+    ensures { λ r. ⌜ ((l : List ℕ) → Holds set l → Holds r (code ∷ l)) ⌝ }
+{
+    let place = code as usize;
+    let word = place / 64;
+    let mut changed = set;
+    changed[word] = changed[word] | (1u64 << (place % 64));
+    changed
+}
+
+// The set without a code.
+pub fn without(set: [u64; 8], code: u16) -> [u64; 8]
+    requires { ⌜ code < 512 ⌝ }
+    ensures { λ r. ⌜ ((l : List ℕ) → Holds set l → Holds r (remove code l)) ⌝ }
+{
+    let place = code as usize;
+    let word = place / 64;
+    let bit = 1u64 << (place % 64);
+    let mut changed = set;
+    let old = changed[word];
+    changed[word] = old ^ (old & bit);
+    changed
+}
+
+// Whether a code is in the set; one of 512 or more is in none.
+pub fn has(set: [u64; 8], code: u16) -> bool
+    ensures { λ r. ⌜ ((l : List ℕ) → Holds set l → r ≡ member l code) ⌝ }
+{
+    let place = code as usize;
+    if 512 <= place {
+        return false;
+    }
+    let word = set[place / 64];
+    (word >> (place % 64)) & 1 == 1
+}
+
+// Whether two sets are the same.
+pub fn same(x: [u64; 8], y: [u64; 8]) -> bool
+    ensures { λ r. ⌜ ((l m : List ℕ) → Holds x l → Holds y m → r ≡ sameSet l m) ⌝ }
+{
+    let mut i: usize = 0;
+    while i < 8 {
+        if x[i] != y[i] {
+            return false;
+        }
+        i += 1;
+    }
+    true
+}
+
+// The codes from one place up to another.
+pub fn set_of(codes: &[u16], from: usize, to: usize) -> [u64; 8]
+    requires { ⌜ Span (now codes) from to ⌝ }
+    ensures { λ r. ⌜ Holds r (part (now (codes .entry)) from to) ⌝ }
+{
+    let mut set = [0u64; 8];
+    let mut i = to;
+    while from < i {
+        i -= 1;
+        let more = with(set, codes[i]);
+        set = more;
+    }
+    set
+}
+
+// The entry of a code, as an index.
+pub fn entry_of(code: u16) -> usize
+    ensures { λ r. ⌜ r ≡ entryOf code ⌝ }
+{
+    (code / 2) as usize
+}
+
+// 2 × entry + focus.
+pub fn code_of(entry: u16, focus: u16) -> u16
+    requires { ⌜ (entry < 256) × (focus < 2) ⌝ }
+    ensures { λ r. ⌜ (r < 512) × (r ≡ codeOf entry focus) ⌝ }
+{
+    2 * entry + focus
+}
+
+// The sequent of node v.
+pub fn sequent(starts: &[u16; 1025], codes: &[u16], v: usize) -> [u64; 8]
+    requires { ⌜ Placed (now starts) (now codes) v ⌝ }
+    ensures { λ r. ⌜ Holds r (codesAt (now (starts .entry)) (now (codes .entry)) v) ⌝ }
+{
+    set_of(codes, wide(starts[v]), wide(starts[v + 1]))
+}
+
+// Whether nodes v and w have the same sequent, as a back leaf and its companion have.
+pub fn same_sequent(starts: &[u16; 1025], codes: &[u16], v: usize, w: usize) -> bool
+    requires { ⌜ Placed (now starts) (now codes) v × Placed (now starts) (now codes) w ⌝ }
+    ensures { λ r. ⌜ r ≡ sameSet (codesAt (now (starts .entry)) (now (codes .entry)) v) (codesAt (now (starts .entry)) (now (codes .entry)) w) ⌝ }
+{
+    same(sequent(starts, codes, v), sequent(starts, codes, w))
+}
+
+// The claim's members, all in focus.
+fn claim_set(members: &[u16; 24], count: usize) -> [u64; 8]
+    requires { ⌜ Members (now members) count ⌝ }
+    ensures { λ r. ⌜ Holds r (each inFocus (take count (now (members .entry)))) ⌝ }
+{
+    let mut set = [0u64; 8];
+    let mut i = count;
+    while 0 < i {
+        i -= 1;
+        let more = with(set, code_of(members[i], 1));
+        set = more;
+    }
+    set
+}
+
+// Whether the root's members are the claim's, all in focus (refusal 36).
+pub fn root_is_claim(members: &[u16; 24], count: usize, starts: &[u16; 1025], codes: &[u16]) -> bool
+    requires { ⌜ Members (now members) count × Placed (now starts) (now codes) 0 ⌝ }
+    ensures { λ r. ⌜ ((rs ls : List ℕ) (n : ℕ) → 0 < n → r ≡ root (take count (now (members .entry))) (plain (proofOf rs ls (now (starts .entry)) (now (codes .entry)) n))) ⌝ }
+{
+    same(sequent(starts, codes, 0), claim_set(members, count))
+}
