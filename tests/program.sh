@@ -11,11 +11,25 @@ if [ ! -x "$program" ]; then
     exit 1
 fi
 
+for tool in cc mkfifo timeout; do
+    if ! command -v "$tool" >/dev/null; then
+        echo "program: $tool is not installed" >&2
+        exit 1
+    fi
+done
+
 scratch=$(mktemp -d)
 trap 'rm -rf "$scratch"' EXIT
 work="$scratch/work"
 passed=0
 failed=0
+
+# Reads that fail or come in pieces: the library says how.
+failing="$scratch/failing_read.so"
+if ! cc -O1 -Wall -Wextra -shared -fPIC -o "$failing" tests/program/failing_read.c; then
+    echo 'program: cc builds no shared library of tests/program/failing_read.c' >&2
+    exit 1
+fi
 
 # A fresh folder with the files of a sample, nu-of-box if none is named.
 fresh() {
@@ -24,10 +38,12 @@ fresh() {
     cp "$samples/${1:-nu-of-box}/claim.bin" "$samples/${1:-nu-of-box}/proof.bin" "$work"
 }
 
-# A hang or a crash must not pass on what was printed before it.
+# A hang or a crash must not pass on what was printed before it. The next run's reads are the system's own again.
+settings=()
 run() {
     status=0
-    (cd "$work" && timeout 10 "$program") >"$scratch/out" 2>"$scratch/err" </dev/null || status=$?
+    (cd "$work" && timeout 10 env "${settings[@]}" "$program") >"$scratch/out" 2>"$scratch/err" </dev/null || status=$?
+    settings=()
     [ "$status" -lt 124 ]
 }
 
@@ -61,6 +77,20 @@ no_verdict() {
         good=yes
     fi
     report "$1" "stdout '', stderr one line that begins with '$2'" "$good"
+}
+
+# The next run's reads of FILE, by settings of tests/program/failing_read.c
+reads_of() {
+    settings=(LD_PRELOAD="$failing" READ_FILE="$1" "${@:2}")
+}
+
+# FILE of the folder becomes a named pipe, through which its first COUNT bytes come, and after a while the rest and what follows
+piped() {
+    mv "$work/$1" "$scratch/whole"
+    printf '%s' "${3:-}" >>"$scratch/whole"
+    mkfifo "$work/$1"
+    timeout 10 bash -c 'exec >"$1"; head -c "$2" "$3"; sleep 0.3; tail -c +"$(($2 + 1))" "$3"' \
+        - "$work/$1" "$2" "$scratch/whole" 2>/dev/null &
 }
 
 # A sample without a line here would go untested, so it fails. A folder without
@@ -107,6 +137,58 @@ for file in claim.bin proof.bin; do
     rm "$work/$file"
     mkdir "$work/$file"
     no_verdict "folder in place of $file" "$file"
+done
+
+# A file is judged only if it was read to its end. A read that fails once and then goes on must not make the rest of the file, or its
+# start, be judged as if it were all: whichever read it is, and whatever the error.
+eintr=4
+eio=5
+for file in claim.bin proof.bin; do
+    case "$file" in
+        claim.bin) size=22 more='refuse 11 at 22' ;;
+        proof.bin) size=38 more='refuse 31 at 38' ;;
+    esac
+
+    fresh
+    reads_of "$file" READ_FAILS=1 READ_ERRNO=$eio
+    no_verdict "EIO on the first read of $file" "$file: Input/output error"
+
+    fresh
+    reads_of "$file" READ_FAILS=1 READ_ERRNO=$eintr
+    no_verdict "EINTR on the first read of $file" "$file: Interrupted system call"
+
+    fresh
+    reads_of "$file" READ_FAILS=2 READ_ERRNO=$eintr
+    no_verdict "EINTR on the second read of $file, at its end" "$file: Interrupted system call"
+
+    for nth in 2 3; do
+        fresh
+        reads_of "$file" READ_PIECE=9 READ_FAILS=$nth READ_ERRNO=$eio
+        no_verdict "EIO in the middle of $file, on read $nth" "$file: Input/output error"
+    done
+
+    fresh
+    piped "$file" "$size" x
+    reads_of "$file" READ_FAILS=2 READ_ERRNO=$eintr
+    no_verdict "$file through a pipe, EINTR, one byte more" "$file: Interrupted system call"
+
+    fresh
+    reads_of "$file" READ_PIECE=1
+    verdict "$file byte by byte" 'accept'
+
+    fresh
+    piped "$file" 15
+    verdict "$file through a pipe in two pieces" 'accept'
+
+    fresh
+    piped "$file" "$size" x
+    verdict "$file through a pipe, one byte more in a later piece" "$more"
+
+    # A full buffer is enough: no read is tried after it.
+    fresh
+    truncate -s 65536 "$work/$file"
+    reads_of "$file" READ_FAILS=2 READ_ERRNO=$eio
+    verdict "$file of 65536 bytes, EIO after them" "$more"
 done
 
 echo "program: $passed passed, $failed failed"

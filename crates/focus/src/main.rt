@@ -1,20 +1,42 @@
 // The single check as a program: claim.bin and proof.bin of its working folder, and one line, `accept` or `refuse 38 at 3`.
 //
 // A buffer holds 65,536 bytes, more than any good file has: of a longer file its start earns the same refusal, 11 or 31 at the first
-// byte that follows. A file that cannot be read gets a line on standard error, and there is no verdict.
+// byte that follows. A file is whole once a read has met its end; one that cannot be opened, or of which a read fails, gets a line on
+// standard error, and there is no verdict.
 use libc::STDOUT_FILENO;
 use verdict::Verdict;
+ghost use Rattle.io.specs.Counts.{Counts};
 
-// Whether fd's file was read to its end or to the buffer's: io::read_full stops at an error as at the end, and a further read tells.
-fn was_read(fd: i32, path: &[u8]) -> bool {
-    let mut next = [0u8; 1];
-    let got = libc::read(fd, &mut next);
-    if got < 0 {
-        os::fail(path);
-        return false;
+// How many bytes of a file came, and whether they are all of it, or as many as the buffer holds: not so after a read that failed.
+struct FileRead {
+    count: usize,
+    whole: bool,
+}
+
+// Reads fd's file to its end, to the buffer's, or to the first read that fails, as one does that a signal interrupts. A read that brings
+// less than was asked is no end: a pipe's bytes come in pieces.
+fn read_file(fd: i32, buf: &mut [u8]) -> FileRead
+    ensures { λ r. ⌜ Counts (r .count) (now (buf .exit)) ⌝ }
+{
+    let mut done = 0;
+    while done < buf.len() {
+        let got = libc::read(fd, &mut buf[done..]);
+        if got < 0 {
+            return FileRead {
+                count: done,
+                whole: false,
+            };
+        }
+        let more = io::count(got, &buf[done..]);
+        if more == 0 {
+            break;
+        }
+        done += more;
     }
-    libc::close(fd);
-    true
+    FileRead {
+        count: done,
+        whole: true,
+    }
 }
 
 fn write_number(number: u16) -> bool {
@@ -59,10 +81,14 @@ fn judge_with(claim: &[u8]) {
         return;
     }
     let mut proof = io::large_buffer();
-    let n = io::read_full(fd, &mut proof);
-    if was_read(fd, b"proof.bin") {
+    let read = read_file(fd, &mut proof);
+    let n = read.count;
+    if read.whole {
         judge(claim, &proof[..n]);
+    } else {
+        os::fail(b"proof.bin");
     }
+    libc::close(fd);
 }
 
 fn main() {
@@ -72,8 +98,12 @@ fn main() {
         return;
     }
     let mut claim = io::large_buffer();
-    let n = io::read_full(fd, &mut claim);
-    if was_read(fd, b"claim.bin") {
+    let read = read_file(fd, &mut claim);
+    let n = read.count;
+    if read.whole {
         judge_with(&claim[..n]);
+    } else {
+        os::fail(b"claim.bin");
     }
+    libc::close(fd);
 }
