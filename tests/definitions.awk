@@ -3,7 +3,7 @@
 #   name FILE BLOCK NAME                  the block defines the name: its own, a constructor's (also TYPE.NAME), an exported function's contract's
 #   field FILE BLOCK NAME                 it has a field of that name (also TYPE.NAME); of an .rt file, an item of that name
 #   in FILE BLOCK OUTER                   it stands in a module with parameters, whose header is the block OUTER
-#   line FILE BLOCK TEXT                  a line of the block, without its comment
+#   line FILE BLOCK TEXT                  a line of the block, without its comment, and without the field or the constructor that it declares
 # A block is a signature with its clauses, a data or record declaration with what stands in it, or a module's header. Layout is by
 # `rt fmt`: two spaces for what stands inside, four for a line that goes on.
 BEGIN { FS = " "; OFS = "\t" }
@@ -55,12 +55,14 @@ rust {
 header { say("line", text); if (text ~ /where$/) header = 0; next }
 { while (depth && column < body[depth]) { depth--; block = 0 } }
 column > body[depth] {
-    say("line", text)
     if (column == body[depth] + 2 && holds != "" && text ~ /^[^(){}]+ :( |$)/) {
-        sub(/^pub /, "", text)
-        sub(/ :( .*)?$/, "", text)
-        named(holds, text, type)
+        label = text
+        sub(/^pub /, "", label)
+        sub(/ :( .*)?$/, "", label)
+        named(holds, label, type)
+        sub(/^[^:]* :/, ":", text)
     }
+    say("line", text)
     next
 }
 text ~ /^(pub )?module / || text ~ /^mutual/ {
