@@ -1,4 +1,4 @@
--- section 3 of soundness.md: a refuted node has a refuted child, and the rank falls at a box
+-- one step of soundness: a refuted node has a refuted child, and the rank falls at a box
 use mathlib.Core.Path.{_≡_, refl}
 use mathlib.Core.Logic.{_≢_, _⊎_, inl, inr, ⊎-elim}
 use Prim.Native.Nat.{ℕ, pred, _+_, _<_, _≤_}

@@ -1,4 +1,4 @@
--- section 4 of soundness.md: a refuted node reaches a refuted back leaf whose companion lies above the node
+-- going up: a refuted node reaches a refuted back leaf whose companion lies above the node
 use mathlib.Core.Path.{_≡_, ap, subst, sym, _∙_}
 use mathlib.Core.Logic.{_⊎_, inl, inr, ⊎-elim}
 use Prim.Native.Nat.{ℕ, zero, suc, _+_, _<_, _≤_}
@@ -31,7 +31,7 @@ pub record RefutedLeaf {t : Table} {m : Model} (M : Falsity t m) (p : Proof) : T
 abbrev pub companion : {t : Table} {m : Model} {M : Falsity t m} {p : Proof} → RefutedLeaf M p → ℕ
 companion {p} l = node p (l .leaf) .back
 
--- what S(v) gives where v is refuted within j
+-- what holds of v where it is refuted within j
 pub record Reached {t : Table} {m : Model} (M : Falsity t m) (p : Proof) (v j : ℕ) : Type 0 where
   pub to : RefutedLeaf M p
   pub above : Ancestor p (companion to) v
@@ -117,7 +117,7 @@ module _ {t : Table} {m : Model} (M : Falsity t m) (p : Proof) where
     from-child = ⊎-elim (λ n. inl (again n)) (λ a. inr (reached a)) (ends up)
 
   module _ (ok : CorrectNodes t p) where
-    -- S(v)
+    -- for every node, from the last one down
     abbrev pub Statement : ℕ → Type 0
     Statement v = (j s : ℕ) → RefutesWithin M j s (sequent p v) → Reached M p v j
 

@@ -1,4 +1,4 @@
--- the conclusions of soundness.md: in a correct proof no state refutes the claim, the root or any other node
+-- soundness: in a correct proof no state refutes the claim, the root or any other node
 use mathlib.Core.Path.{_≡_, refl, subst, sym}
 use mathlib.Core.Logic.{_⊎_, inl, inr, ⊎-elim}
 use mathlib.Core.List.{List, [], _∷_, List·Memᴰ, List·Memᴰ·head, List·Memᴰ·tail, List·Memᴰ·cases-cons, List·Memᴰ·not-nil}
@@ -35,7 +35,7 @@ module _ {t : Table} {m : Model} (M : Falsity t m) (p : Proof) (ok : CorrectNode
       let up = ancestor-below (ok .tree) (ρ .above) in
       none-below n (companion (ρ .to)) (omega arith) (omega arith) (ρ .to .rank) (ρ .to .state) (companion-refuted M p (ρ .to))
 
-  -- T-14
+  -- not the root alone: no node
   pub no-node-refuted : (v : ℕ) → v < length p → (s : ℕ) → Refutes M s (sequent p v) → ⊥
   no-node-refuted v real s r =
       let (j, f) = all-within M s (r .inside) (node p v .codes) (λ c n. ok .members v c real n) (r .all) in

@@ -37,6 +37,18 @@ module _ (s : List ℕ) (limit : ℕ) {g : Got Entry} {r : EntryRead} (t : Entry
 after-kind : Got ℕ → Got Entry
 after-kind g = bind g (λ k r o. bind (fields k r o) (λ w t z. got (made (k, w)) t z))
 
+after-kind-is : (s : List ℕ) (at : ℕ) → entryAt s at ≡ after-kind (kindByte (drop at s) at)
+unfolding entryAt after-kind
+after-kind-is s at = go (kindByte (drop at s) at)
+  where
+    go : (g : Got ℕ) → bind (bind g (λ k r o. bind (fields k r o) (λ w t z. got (k, w) t z))) (λ p r o. got (made p) r o) ≡ after-kind g
+    go (fault n q) = refl
+    go (got k r o) = again (fields k r o)
+      where
+        again : (h : Got (ℕ × ℕ)) → bind (bind h (λ w t z. got (k, w) t z)) (λ p r o. got (made p) r o) ≡ bind h (λ w t z. got (made (k, w)) t z)
+        again (fault n q) = refl
+        again (got w t z) = refl
+
 -- then B
 after-a : ℕ → ℕ → Got ℕ → Got Entry
 after-a k a g = bind g (λ b t z. got (made (k, (a, b))) t z)

@@ -69,7 +69,7 @@ pub struct ClaimRead {
 }
 
 // How many entries and members a claim has.
-pub struct ClaimCounts {
+struct ClaimCounts {
     pub entries: usize,
     pub members: usize,
 }
@@ -316,7 +316,7 @@ fn scan_claim(
 }
 
 // What a file earns as a claim, 10 to 14 at their places. Nothing that is lent is written.
-pub fn judge_claim(bytes: &[u8]) -> Verdict
+fn judge_claim(bytes: &[u8]) -> Verdict
     ensures { λ r. ⌜ shown r ≡ verdictOf (readClaim (now (bytes .entry))) ⌝ }
 {
     let mut kinds = [0u8; 256];
@@ -328,7 +328,7 @@ pub fn judge_claim(bytes: &[u8]) -> Verdict
 }
 
 // The decoding of a file that is a claim, and nothing beyond it.
-pub fn decode_claim(
+fn decode_claim(
     bytes: &[u8],
     kinds: &mut [u8; 256],
     a: &mut [u16; 256],

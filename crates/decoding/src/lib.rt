@@ -130,7 +130,7 @@ fn judge_nodes(
     judge_columns(found, codes, kinds, a, b, &rules, &links, &starts)
 }
 
-// "The judge reads what stands in the lent records": the rules over the table and the proof that stand there, where nothing was refused before.
+// The rules over the table and the proof that stand in the lent records, where nothing was refused before.
 pub fn judge_records(found: Found, entries: &[Entry], nodes: &[Node], codes: &[u16]) -> Verdict
     requires { ⌜ FitsEntries found (now entries) × FitsNodes found (now nodes) (now codes) × Judgeable found (firstEntries (now entries) (found .entries)) (standing (firstNodes (now nodes) (found .nodes)) (now codes)) (now codes) ⌝ }
     ensures { λ r. ⌜ shown r ≡ ruled (shown (found .verdict)) (judged (firstEntries (now (entries .entry)) (found .entries)) (take (found .listed) (found .members)) (standing (firstNodes (now (nodes .entry)) (found .nodes)) (now (codes .entry)))) ⌝ }

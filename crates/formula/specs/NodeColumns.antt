@@ -3,14 +3,15 @@ use mathlib.Core.Path.{_≡_, refl, sym, ap, _∙_}
 use mathlib.Core.List.{List, [], _∷_, _++_, append-assoc, append-nil}
 use Prim.Native.Nat.{ℕ, zero, suc, _+_, _*_, _-_, _<_, _≤_}
 use native.Mathlib.Nat.{le-of-suc-le-suc}
+use native.Mathlib.Numerals.{add-one}
 use native.Mathlib.Omega.{arith}
 use lib.ListN.{length, getD, take, drop, length-append, List·getD-append}
-use lib.Seq.{getD-append-add, ext-getD}
+use lib.Seq.{take-append-seam, drop-append-seam, getD-append-add, take-suc, split-at, ext-getD}
 use Rattle.verdict.specs.Lists.{written}
 use Rattle.formula.specs.Rule
 use Rattle.formula.specs.Nodes.{Node, Proof, node}
 use Rattle.formula.specs.Records.{allCodes}
-use Rattle.formula.specs.PlainNodes.{plainNode, proofOf, proofOf-length, proofOf-node}
+use Rattle.formula.specs.PlainNodes.{codesAt, plainNode, proofOf, proofOf-length, proofOf-node}
 
 -- what each node adds to a column, one after the other
 unfoldable pub spread : (Node → List ℕ) → Proof → List ℕ
@@ -74,6 +75,9 @@ unfolding allCodes spread
 all-spread [] = refl
 all-spread (v ∷ p) = ap (λ (l : List ℕ). v .codes ++ l) (all-spread p)
 
+codes-append : (p q : Proof) → allCodes (p ++ q) ≡ allCodes p ++ allCodes q
+codes-append p q = rw (all-spread (p ++ q), all-spread p, all-spread q) (spread-append (λ v. v .codes) p q)
+
 pub codes-more : (p : Proof) (v : Node) → allCodes (p ++ (v ∷ [])) ≡ allCodes p ++ v .codes
 codes-more p v = rw (all-spread (p ++ (v ∷ [])), all-spread p) (spread-more (λ v. v .codes) p v)
 
@@ -100,7 +104,19 @@ starts-at k (w ∷ p) old (suc v) h =
     let j : k + length (w .codes) + length (allCodes (take v p)) ≡ k + length (w .codes ++ allCodes (take v p)) = omega (arith, length-append (w .codes) (allCodes (take v p))) in
     rw i (starts-at (k + length (w .codes)) p old v (le-of-suc-le-suc h)) ∙ j
 
--- where the codes of node v start, once the columns are written
+-- what stands in the lists at node v once the columns are written there
+module _ (p : Proof) (v : ℕ) (h : v < length p) where
+  rule-stands : (rs : List ℕ) → getD (written (rulesOf p) rs) v 0 ≡ node p v .rule
+  rule-stands rs =
+      let e : v ≡ 1 * v + 0 = omega arith in
+      ap (λ (i : ℕ). getD (written (rulesOf p) rs) i 0) e ∙ spread-at ruleOf 1 (λ _. refl) p (drop (length (rulesOf p)) rs) v 0 h (omega arith)
+
+  link-stands : (ls : List ℕ) (j : ℕ) → j < 4 → getD (written (linksOf p) ls) (4 * v + j) 0 ≡ getD (fourLinks (node p v)) j 0
+  link-stands ls j l = spread-at fourLinks 4 (λ _. refl) p (drop (length (linksOf p)) ls) v j h l
+
+  principal-stands : (ls : List ℕ) → getD (written (linksOf p) ls) (4 * v) 0 ≡ node p v .principal
+  principal-stands ls = let e : 4 * v ≡ 4 * v + 0 = omega arith in ap (λ (i : ℕ). getD (written (linksOf p) ls) i 0) e ∙ link-stands ls 0 (omega arith)
+
 pub start-stands : (p : Proof) (ss : List ℕ) (v : ℕ) → v ≤ length p → getD (written (startsOf p) ss) v 0 ≡ length (allCodes (take v p))
 unfolding startsOf
 start-stands p ss v h =
@@ -108,6 +124,26 @@ start-stands p ss v h =
     let e : length (allCodes p) ≡ 0 + length (allCodes p) = omega arith in
     let i : 0 + length (allCodes (take v p)) ≡ length (allCodes (take v p)) = omega arith in
     ap (λ (n : ℕ). getD ((startsFrom 0 p ++ (n ∷ [])) ++ left) v 0) e ∙ starts-at 0 p left v h ∙ i
+
+-- the codes of node v stand from its start to the next
+codes-stand : (p : Proof) (ss cs : List ℕ) (v : ℕ) → v < length p → codesAt (written (startsOf p) ss) (written (allCodes p) cs) v ≡ node p v .codes
+unfolding allCodes
+codes-stand p ss cs v h =
+    let blank : Node = record { rule = Rule.AX1; principal = 0; first = 0; second = 0; back = 0; codes = [] } in
+    let before = allCodes (take v p) in
+    let here = node p v .codes in
+    let after = allCodes (drop (suc v) p) in
+    let left = drop (length (allCodes p)) cs in
+    let whole : allCodes p ≡ before ++ (here ++ after) = ap allCodes (split-at p v blank h) ∙ codes-append (take v p) (node p v ∷ drop (suc v) p) in
+    let next : allCodes (take (v + 1) p) ≡ before ++ here =
+    ap (λ (n : ℕ). allCodes (take n p)) (add-one v) ∙ ap allCodes (take-suc p v blank h) ∙ codes-more (take v p) (node p v) in
+    let from = start-stands p ss v (omega arith) in
+    let width : getD (written (startsOf p) ss) (v + 1) 0 - getD (written (startsOf p) ss) v 0 ≡ length here =
+    omega (arith, start-stands p ss (v + 1) (omega arith), from, ap length next, length-append before here) in
+    ap (λ (w : ℕ). take w (drop (getD (written (startsOf p) ss) v 0) (written (allCodes p) cs))) width
+    ∙ ap (λ (n : ℕ). take (length here) (drop n (written (allCodes p) cs))) from
+    ∙ ap (λ (l : List ℕ). take (length here) (drop (length before) (l ++ left))) whole
+    ∙ rw (append-assoc before (here ++ after) left, drop-append-seam before ((here ++ after) ++ left), append-assoc here after left) (take-append-seam here (after ++ left))
 
 -- reading the columns back gives the table
 pub proof-of-columns : (p : Proof) (rs ls ss cs : List ℕ)

@@ -1,4 +1,4 @@
--- the lent slices of records by what they show, and what stores of a decoding leave in them
+-- the lent slices of records, by what the records in them show
 use mathlib.Core.Path.{refl}
 use mathlib.Core.List.{List}
 use Prim.Native.Nat.{ℕ}

@@ -14,7 +14,7 @@ use conditions::judge;
 use proofs::read_proof;
 use verdict::Verdict;
 
-// 12 to 19 and 30 to 39: the proof's bytes, and then the rules.
+// 30 to 34: the proof's bytes; then 35 to 39: the rules.
 fn judge_proof_file(
     proof: &[u8],
     kinds: &[u8; 256],

@@ -3,6 +3,7 @@ ghost use mathlib.Core.Path.{_≡_};
 ghost use Prim.Native.Nat.{_+_, _*_, _<_};
 ghost use lib.ListN.{getD};
 ghost use Rattle.formula.specs.Table.{Table};
+ghost use Rattle.formula.specs.Rule.{BACK};
 ghost use Rattle.formula.specs.Plain.{tableOf};
 ghost use Rattle.formula.specs.PlainNodes.{proofOf};
 ghost use Rattle.sequents.specs.Placed.{local, Placed, NodeReady};
@@ -186,7 +187,7 @@ pub fn kept(
     nodes: usize,
     v: usize,
 ) -> bool
-    requires { ⌜ Judged (now kinds) (now a) (now b) count (now rules) (now links) (now starts) (now codes) nodes × (v < nodes) × (getD (now rules) v 0 ≡ 11 → ⊥) ⌝ }
+    requires { ⌜ Judged (now kinds) (now a) (now b) count (now rules) (now links) (now starts) (now codes) nodes × (v < nodes) × (getD (now rules) v 0 ≡ BACK → ⊥) ⌝ }
     ensures { λ r. ⌜ r ≡ keeps (tableOf (now (kinds .entry)) (now (a .entry)) (now (b .entry)) count) (plain (proofOf (now (rules .entry)) (now (links .entry)) (now (starts .entry)) (now (codes .entry)) nodes)) v ⌝ }
 {
     let rule = rules[v];

@@ -76,7 +76,7 @@ fn deny(number: u16, state: State) -> Taken
 }
 
 // Opens a closed gate.
-pub fn open_step(state: State) -> Changed
+fn open_step(state: State) -> Changed
     ensures { λ r. ⌜ Stepped (opening (stateOf state)) state r ⌝ }
 {
     let phase = state.phase;
@@ -90,7 +90,7 @@ pub fn open_step(state: State) -> Changed
 }
 
 // Closes an open gate and drops any permit.
-pub fn close_step(state: State) -> Changed
+fn close_step(state: State) -> Changed
     ensures { λ r. ⌜ Stepped (closing (stateOf state)) state r ⌝ }
 {
     let phase = state.phase;
@@ -104,7 +104,7 @@ pub fn close_step(state: State) -> Changed
 }
 
 // Hands out the permit's tag and leaves the gate open.
-pub fn take_step(state: State) -> Taken
+fn take_step(state: State) -> Taken
     ensures { λ r. ⌜ TookStep (taking (stateOf state)) state r ⌝ }
 {
     let phase = state.phase;

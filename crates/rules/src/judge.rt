@@ -5,6 +5,7 @@ ghost use Prim.Native.Nat.{ℕ, _+_, _<_, _≤_};
 ghost use lib.ListN.{take};
 ghost use Rattle.verdict.specs.Verdict.{accepted, scan};
 ghost use Rattle.verdict.specs.Shown.{shown};
+ghost use Rattle.formula.specs.Rule.{BACK};
 ghost use Rattle.formula.specs.Plain.{tableOf};
 ghost use Rattle.formula.specs.PlainNodes.{proofOf};
 ghost use Rattle.calculus.specs.View.{plain};
@@ -69,7 +70,7 @@ fn node_stands(
 
 // The number that a node earns which does not keep its rule.
 fn refusal_of(rule: u8) -> u16
-    ensures { λ r. ⌜ (rule ≡ 11 → r ≡ 38) × ((rule ≡ 11 → ⊥) → r ≡ 37) ⌝ }
+    ensures { λ r. ⌜ (rule ≡ BACK → r ≡ 38) × ((rule ≡ BACK → ⊥) → r ≡ 37) ⌝ }
 {
     if rule == Rule::BACK {
         return 38;

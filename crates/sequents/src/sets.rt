@@ -66,7 +66,7 @@ pub fn same(x: [u64; 8], y: [u64; 8]) -> bool
 }
 
 // The codes from one place up to another.
-pub fn set_of(codes: &[u16], from: usize, to: usize) -> [u64; 8]
+fn set_of(codes: &[u16], from: usize, to: usize) -> [u64; 8]
     requires { ⌜ Span (now codes) from to ⌝ }
     ensures { λ r. ⌜ Holds r (part (now (codes .entry)) from to) ⌝ }
 {
