@@ -1,6 +1,7 @@
 #!/usr/bin/env bash
-# The example loader, built as its comment says: a permit for a good pair only,
-# and the number and place of what a bad one earns.
+# The examples that call the gate, built as their comments say: the loader gives a
+# permit for a good pair only, and the number and place of what a bad one earns; the
+# evaluation prints each entry's states; the caller in Rust says what the loader says.
 set -euo pipefail
 cd "$(dirname "$0")/.."
 
@@ -19,16 +20,20 @@ flags=(-std=c11 -Wall -Wextra -Werror -pedantic -Iinclude)
 # asserts are the layout test for C.
 gcc "${flags[@]}" -fsyntax-only -x c include/focus_gate.h
 gcc "${flags[@]}" -O1 -g examples/loader/loader.c "$archive" -o "$scratch/loader"
+gcc "${flags[@]}" -O1 -g examples/evaluate/evaluate.c "$archive" -o "$scratch/evaluate"
+rustc --edition 2021 -O examples/caller/caller.rs -C link-arg="$archive" -o "$scratch/caller"
 
 passed=0
 failed=0
+
+program=loader
 
 # run NAME STATUS LINES ARGUMENTS...: both streams and the exit status, compared
 # as bytes. No line on standard error is expected unless LINES is empty.
 run() {
     local name=$1 expected=$2 lines=$3 status=0 good=yes
     shift 3
-    timeout 10 "$scratch/loader" "$@" >"$scratch/out" 2>"$scratch/err" </dev/null || status=$?
+    timeout 10 "$scratch/$program" "$@" >"$scratch/out" 2>"$scratch/err" </dev/null || status=$?
     if [ -n "$lines" ]; then
         printf '%s\n' "$lines" | cmp -s - "$scratch/out" && [ ! -s "$scratch/err" ] || good=no
     else
@@ -101,6 +106,18 @@ not_tried 'no arguments'
 for tag in '' 4294967296 -1 7x ' 7' 99999999999999999999; do
     not_tried "tag '$tag'" "$tag" "$claim" "$proof"
 done
+
+program=evaluate
+run 'mu of box on a circle' 0 $'entry 0, kind 10:\nentry 1, kind 7:\nentry 2, kind 8:' "$samples/mu-of-box/claim.bin" "$samples/evaluate/circle.bin"
+run 'nu of box on a circle' 0 $'entry 0, kind 10: 0\nentry 1, kind 7: 0\nentry 2, kind 9: 0' "$samples/nu-of-box/claim.bin" "$samples/evaluate/circle.bin"
+run 'mu of box on a dead end' 0 $'entry 0, kind 10: 0 1\nentry 1, kind 7: 0 1\nentry 2, kind 8: 0 1' "$samples/mu-of-box/claim.bin" "$samples/evaluate/dead-end.bin"
+run 'a proof in place of a model' 1 'refuse 60 at 0' "$samples/nu-of-box/claim.bin" "$samples/nu-of-box/proof.bin"
+run 'a missing model' 2 '' "$samples/nu-of-box/claim.bin" "$scratch/none.bin"
+
+program=caller
+run 'a good pair from Rust' 0 'accept' "${files[@]}"
+run 'a cut proof from Rust' 1 'refuse 30 at 0' "$claim" /dev/null
+run 'a missing proof from Rust' 2 '' "$claim" "$scratch/none.bin"
 
 echo "loader: $passed passed, $failed failed"
 [ "$failed" -eq 0 ]
