@@ -488,20 +488,20 @@ pub fn evaluate(
     b: &[u16],
     count: usize,
     masks: &[u32; 64],
-    marks: &[[u8; 64]; 64],
+    marks: [[u8; 64]; 64],
     size: usize,
     words: &mut [u64],
 )
     requires { ⌜ Given (now kinds) (now a) (now b) count (now words) ⌝ }
     requires { ⌜ size ≤ 64 ⌝ }
-    ensures { λ _. ⌜ now (words .exit) ≡ written (wordsIn (now (masks .entry)) (now (marks .entry)) size (tableOf (now (kinds .entry)) (now (a .entry)) (now (b .entry)) count)) (now (words .entry)) ⌝ }
+    ensures { λ _. ⌜ now (words .exit) ≡ written (wordsIn (now (masks .entry)) marks size (tableOf (now (kinds .entry)) (now (a .entry)) (now (b .entry)) count)) (now (words .entry)) ⌝ }
 {
     fill_words(
         &kinds[..count],
         &a[..count],
         &b[..count],
         masks,
-        marks,
+        &marks,
         size,
         &mut words[..count],
     );

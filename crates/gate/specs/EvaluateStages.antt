@@ -32,10 +32,7 @@ use Rattle.model.specs.ModelFile.{State, FitModel}
 use Rattle.model.specs.Described.{blank, state, modelOf, successorTable}
 use Rattle.model.specs.ReadModel.{readModel}
 use Rattle.model.specs.ModelExact.{good-model}
-use Rattle.model.specs.Decoded.{maskTable}
-use Rattle.model.specs.ReadTells.{ModelTells, masksAfter, marksAfter, answerOf, read-decoded}
-use Rattle.model.specs.declared.read.ModelRead.{ModelRead}
-use Rattle.model.specs.declared.read.ModelRead.the-variants.{Read, Refused}
+use Rattle.model.specs.Decoded.{GoodModel, statesOf, good-states, maskTable}
 use Rattle.states.specs.Words.{words}
 use Rattle.states.specs.PlainModel.{plainModel, wordsIn, plain-described}
 use Rattle.evaluator.specs.Claim.{Given}
@@ -84,43 +81,29 @@ mask-at {m} f s = go (decLt s 64)
         List·getD-eq-default (maskTable m) 0 past ∙ sym (ap (λ (x : State). x .mask) (List·getD-eq-default m blank none))
 
 -- the model by bytes, and each entry's word in it
-module _ (t : Table) (s : List ℕ) {masks₀ masks : List ℕ} {marks₀ marks : List (List ℕ)} {r : ModelRead} (tells : ModelTells r s masks₀ masks marks₀ marks) where
-  pub model-refused : {n q : ℕ} → r ≡ Refused n q → (l : LentWords) → afterModel t (readModel s) l ≡ unevaluated n q l
-  model-refused {n} {q} h l = go (readModel s) (sym (tells .answer) ∙ h)
+module _ (t : Table) (s : List ℕ) where
+  pub model-refused : {n q : ℕ} → verdictOf (readModel s) ≡ verdicts.refused n q → (l : LentWords) → afterModel t (readModel s) l ≡ unevaluated n q l
+  model-refused {n} {q} h l = go (readModel s) h
     where
-      go : (g : Reading (List State)) → answerOf g ≡ Refused n q → afterModel t g l ≡ unevaluated n q l
+      go : (g : Reading (List State)) → verdictOf g ≡ verdicts.refused n q → afterModel t g l ≡ unevaluated n q l
       go (refused m o) e = let i : m ≡ n = cc in let j : o ≡ q = cc in rw (i, j) refl
-      go (good m) e = let z : _≡_ {A = ℕ} 0 1 = cc in absurd (omega arith)
+      go (good m) e = absurd (accepted-not-refused (sym e))
 
-  module _ (bs : Bytes s) {n : ℕ} (h : r ≡ Read n) where
-    -- the states that were read
-    record Modelled : Type 0 where
-      pub states : List State
-      pub was : readModel s ≡ good states
-      pub many : length states ≡ n
-      pub fits : FitModel states
+  module _ (bs : Bytes s) (g : GoodModel s) where
+    described : plainModel (maskTable (statesOf s)) (successorTable (statesOf s)) (length (statesOf s)) ≡ modelOf (statesOf s)
+    described = let f = good-model bs (good-states s g) .fits in plain-described f (maskTable (statesOf s)) (mask-at f)
 
-    modelled : Modelled
-    modelled = let (m, g, l) = read-decoded s (sym (tells .answer) ∙ h) in record { states = m; was = g; many = l; fits = good-model bs g .fits }
-
-    pub model-small : n ≤ 64
-    model-small = omega (arith, modelled .many, modelled .fits .count)
-
-    described : plainModel masks marks n ≡ modelOf (modelled .states)
-    described =
-        ap (λ (l : List ℕ). plainModel l marks n) (tells .masks-after ∙ ap (λ (g : Reading (List State)). masksAfter g masks₀) (modelled .was))
-        ∙ ap (λ (l : List (List ℕ)). plainModel (maskTable (modelled .states)) l n) (tells .marks-after ∙ ap (λ (g : Reading (List State)). marksAfter g marks₀) (modelled .was))
-        ∙ ap (plainModel (maskTable (modelled .states)) (successorTable (modelled .states))) (sym (modelled .many))
-        ∙ plain-described (modelled .fits) (maskTable (modelled .states)) (mask-at (modelled .fits))
-
-    pub model-evaluated : {k : ℕ} {ws₀ ws : List ℕ} → length t ≡ k → k ≤ 256 → ws ≡ written (wordsIn masks marks n t) ws₀
+    -- over the letter masks, the successor table and the state count as they were decoded
+    pub model-evaluated : {masks : List ℕ} {marks : List (List ℕ)} {n k : ℕ} {ws₀ ws : List ℕ}
+        → masks ≡ maskTable (statesOf s) → marks ≡ successorTable (statesOf s) → n ≡ length (statesOf s)
+        → length t ≡ k → k ≤ 256 → ws ≡ written (wordsIn masks marks n t) ws₀
         → Staged t (afterModel t (readModel s)) ws₀ (record { answer = 0; entries = k }) ws
-    model-evaluated {k} {ws₀} {ws} len few e = record {
+    model-evaluated {masks} {marks} {n} {k} {ws₀} {ws} by-masks by-marks many len few e = record {
       few = few;
       inside = omega arith;
-      right = λ es. right-same {t = t} refl (ap (λ (g : Reading (List State)). afterModel t g (record { entries = es; words = ws₀ })) (modelled .was)) (record {
+      right = λ es. right-same {t = t} refl (ap (λ (r : Reading (List State)). afterModel t r (record { entries = es; words = ws₀ })) (good-states s g)) (record {
         answer = refl;
-        words = e ∙ ap (λ (M : Model). written (words M t) ws₀) described;
+        words = e ∙ ap (λ (M : Model). written (words M t) ws₀) (rw (by-masks, by-marks, many) described);
         entries = ap (λ (u : Table). written u es) (sym (take-all k t (omega arith)));
       });
     }

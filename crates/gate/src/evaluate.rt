@@ -1,4 +1,4 @@
-// An evaluation in plain numbers: the claim's refusals, then the model's, then each entry's word. The records are stored by the caller, as many as the answer says.
+// An evaluation: the claim's refusals, then the model's, then each entry's word, over columns of the call's own; last, the lent records are stored.
 ghost use Prim.Native.Nat.{_≤_};
 ghost use mathlib.Core.Path.{_≡_};
 ghost use lib.ListN.{length};
@@ -15,8 +15,9 @@ use claims::read_claim;
 use conditions::judge;
 use decoding::store_claim;
 use evaluator::evaluate;
-use model::read::ModelRead;
-use model::read::read_model;
+use model::judge::judge_model;
+use model::tables::decode_model;
+use model::tables::state_count;
 use records::Entry;
 use verdict::Verdict;
 
@@ -35,6 +36,7 @@ fn refuse(number: u16, place: u16) -> Evaluation
 }
 
 // 60 to 64: the model's bytes, and then "one 64-bit word per entry".
+// The successor table goes by value, from the model reader to the evaluator.
 fn after_model(
     model: &[u8],
     kinds: &[u8; 256],
@@ -46,12 +48,13 @@ fn after_model(
     requires { ⌜ Given (now kinds) (now a) (now b) count (now words) ⌝ }
     ensures { λ r. ⌜ Staged (tableOf (now (kinds .entry)) (now (a .entry)) (now (b .entry)) count) (afterModel (tableOf (now (kinds .entry)) (now (a .entry)) (now (b .entry)) count) (readModel (now (model .entry)))) (now (words .entry)) r (now (words .exit)) ⌝ }
 {
-    let mut masks = [0u32; 64];
-    let mut marks = [[0u8; 64]; 64];
-    match read_model(model, &mut masks, &mut marks) {
-        ModelRead::Refused { number, place } => refuse(number, place),
-        ModelRead::Read { states } => {
-            evaluate(kinds, a, b, count, &masks, &marks, states, words);
+    match judge_model(model) {
+        Verdict::Refused { number, place } => refuse(number, place),
+        Verdict::Accepted => {
+            let mut masks = [0u32; 64];
+            let marks = decode_model(model, &mut masks);
+            let states = state_count(model);
+            evaluate(kinds, a, b, count, &masks, marks, states, words);
             Evaluation {
                 answer: 0,
                 entries: count,

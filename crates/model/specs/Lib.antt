@@ -20,4 +20,3 @@ pub mod Decoded
 pub mod SuccessorRun
 pub mod Decoding
 pub mod Tables
-pub mod ReadTells

@@ -4,7 +4,6 @@ ghost use Rattle.model.specs.ReadModel.{map-fits};
 
 mod header;
 pub mod judge;
-pub mod read;
 pub mod tables;
 
 pub const OPENING: [u8; 4] = *b"MDL1";

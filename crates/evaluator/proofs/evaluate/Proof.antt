@@ -21,23 +21,28 @@ slice-relend-prefix-fill-words c = search needs
 
 slice-aggregate-fill-words-4 : tie.Need-slice-aggregate-fill-words-4
 slice-aggregate-fill-words-4 c =
-    sym (length-take-le _ _ (c .before .before .before .before .before .before .before .before .pre .0 .words-there))
+    let entry = c .before .before .before .before .before .before .before .before .before in
+    sym (length-take-le _ _ (entry .pre .0 .words-there))
 
 fill-words-requires : tie.Need-fill-words-requires
-fill-words-requires c κs = (
-  first-claim (c .before .before .before .before .before .before .before .before .pre .0),
-  (
-    c .before .before .before .before .before .before .before .before .pre .1,
-    length-take-le _ _ (c .before .before .before .before .before .before .before .before .pre .0 .words-there) ∙ sym (length-take-le _ _ (c .before .before .before .before .before .before .before .before .pre .0 .kinds-there)),
-  ),
-)
+fill-words-requires c κs =
+    let entry = c .before .before .before .before .before .before .before .before .before in
+    let given = entry .pre .0 in (
+      first-claim given,
+      (
+        entry .pre .1,
+        length-take-le _ _ (given .words-there) ∙ sym (length-take-le _ _ (given .kinds-there)),
+      ),
+    )
 
 same-length : tie.Need-same-length
 same-length c = search needs
 
 returns : tie.Need-returns
 returns c =
-    first-written (c .before .before .before .before .before .before .before .before .before .before .before .pre .0) (c .before .before .before .before .before .before .before .before .before .before .before .args .masks .now) (c .before .before .before .before .before .before .before .before .before .before .before .args .marks .now) _ _ (c .before .before .fill-words .ensures)
+    let entry = c .before .before .before .before .before .before .before .before .before .before .before .before in
+    -- t6: the successor table, which came by value
+    first-written (entry .pre .0) (entry .args .masks .now) (entry .args .t6) _ _ (c .before .before .fill-words .ensures)
 
 pub evaluate-spec : {M : Type 1} → statement M
 evaluate-spec =
