@@ -1,6 +1,6 @@
 -- document 01's proved samples as one table, computed from the definitions: files, models and the gate
 use mathlib.Core.Path.{_≡_, refl}
-use mathlib.Core.List.{List, [], _∷_}
+use mathlib.Core.List.{List, [], _∷_, _++_}
 use Prim.Native.Nat.{ℕ}
 use lib.ListN.{take, replicate}
 use Rattle.verdict.specs.Verdict.{Verdict, accepted, refused}
@@ -11,6 +11,10 @@ use Rattle.gate.specs.Check.{verdict}
 use Rattle.gate.specs.Present.{presenting}
 use Rattle.gate.specs.Evaluate.{evaluating}
 use Rattle.samples.specs.Files.{nuBox, muBox, loopOfNu, loopOfMu, loopOfMuWithF, loopOfFocusedMu, boxBesideBox, twoBoxes, emptyLoop, orOfLetters, orThenAx1, muOfOwnName, diamondAbove, noSuccessor, ownSuccessor}
+use Rattle.samples.specs.NearMisses.{nuOfBoxOrLetter, letterDropped, letterUnfocused, nuOfBoxTwice, goodLoopThenBad, loopOutOfFocus, loopFocusedOnce, loopWithoutD}
+use Rattle.samples.specs.NearMisses.{onlyTrue, byAx2, twoTrue, secondDropped, focusedTwice, unfocusedTwice, orphan, trueAndTrue, oneChildTwice}
+use Rattle.samples.specs.NearMisses.{nameThroughFixpoint, fixpointUnderBox, trueBesideLetter, codeTwice, nameAsMember, leafWithName, mapOfAx2, mapOfTrue}
+use Rattle.samples.specs.NearMisses.{endsAtEntryCount, endsAtMemberCount, endsAtNodeCount, endsAtCodeCount, endsAtStateCount}
 
 -- what a sample asks, and what a definition answers
 pub data Question : Type 0 where
@@ -83,6 +87,74 @@ samples =
     -- two readings that look sound: mu unfolded with its focus kept; a box step that keeps another box
     ∷ record { question = check muBox loopOfFocusedMu; answer = verdictIs (refused 37 1) }
     ∷ record { question = check twoBoxes boxBesideBox; answer = verdictIs (refused 37 0) }
+    -- near misses: each fails one condition and keeps all others. Soundness does not need most of these conditions, so that a definition and
+    -- its test without one of them would still be proved; each comment says what they would then answer
+    -- no rule on a loop is 9: a loop in focus with a box is good, and U on it is its only fault; without 'or 9': accepted
+    ∷ record { question = check nuOfBoxOrLetter letterDropped; answer = verdictIs accepted }
+    ∷ record { question = check nuOfBoxOrLetter letterUnfocused; answer = verdictIs (refused 39 6) }
+    -- every loop is walked: the first is good, the second has no box; with the first alone walked: accepted
+    ∷ record { question = check nuOfBoxTwice goodLoopThenBad; answer = verdictIs (refused 39 6) }
+    -- each sequent has a focused member: none has one, all else is right; without it: accepted, and mu of box is false on a circle
+    ∷ record { question = check muBox loopOutOfFocus; answer = verdictIs (refused 39 4) }
+    -- focus at one node alone needs F there; where one focused node is enough and F is allowed: accepted. (Focus at the two ends alone: the third sample)
+    ∷ record { question = check muBox loopFocusedOnce; answer = verdictIs (refused 39 5) }
+    -- a back link leads to rule 10: an ancestor of rule 6 with the same sequent; with any rule: accepted
+    ∷ record { question = check nuBox loopWithoutD; answer = verdictIs (refused 38 2) }
+    -- the principal belongs to the sequent: W of a code that does not leaves the sequent as it is; without it: accepted
+    ∷ record { question = check (twoTrue (0 ∷ [])) (secondDropped (1 ∷ [])); answer = verdictIs (refused 37 0) }
+    -- F from out of focus, U from focus: with either focus: accepted
+    ∷ record { question = check onlyTrue focusedTwice; answer = verdictIs (refused 37 0) }
+    ∷ record { question = check onlyTrue unfocusedTwice; answer = verdictIs (refused 37 1) }
+    -- the root has the members in focus, and all of them: with either focus, or with fewer members: accepted
+    ∷ record { question = check onlyTrue (byAx2 0); answer = verdictIs (refused 36 0) }
+    ∷ record { question = check (twoTrue (0 ∷ 1 ∷ [])) (byAx2 1); answer = verdictIs (refused 36 0) }
+    -- every node but 0 is a child once: an orphan, then one child in both places of an and; without either half: accepted
+    ∷ record { question = check onlyTrue orphan; answer = verdictIs (refused 35 1) }
+    ∷ record { question = check trueAndTrue oneChildTwice; answer = verdictIs (refused 35 0) }
+    -- guardedness goes down bodies: the outer's name stands unguarded in the inner fixpoint; where a fixpoint ends the walk or guards: accepted
+    ∷ record { question = check nameThroughFixpoint (byAx2 13); answer = verdictIs (refused 23 5) }
+    -- a box above the inner fixpoint guards; where only a box right above the name does: 23 at 3
+    ∷ record { question = check (fixpointUnderBox 8 8) (byAx2 9); answer = verdictIs accepted }
+    -- alternation: the same with a mu inside a nu, and a nu inside a mu; without it, or with one half: accepted
+    ∷ record { question = check (fixpointUnderBox 9 8) (byAx2 9); answer = verdictIs (refused 22 1) }
+    ∷ record { question = check (fixpointUnderBox 8 9) (byAx2 9); answer = verdictIs (refused 22 1) }
+    -- letters 0 to 31, plain and negated: with 32 allowed: accepted; with 31 not allowed: 20 at 1
+    ∷ record { question = check (trueBesideLetter 2 31) (byAx2 1); answer = verdictIs accepted }
+    ∷ record { question = check (trueBesideLetter 2 32) (byAx2 1); answer = verdictIs (refused 20 1) }
+    ∷ record { question = check (trueBesideLetter 3 32) (byAx2 1); answer = verdictIs (refused 20 1) }
+    -- members strictly rising: falling, and twice the same; as sets: accepted
+    ∷ record { question = check (twoTrue (1 ∷ 0 ∷ [])) (secondDropped (1 ∷ 3 ∷ [])); answer = verdictIs (refused 14 14) }
+    ∷ record { question = check (twoTrue (0 ∷ 0 ∷ [])) (byAx2 1); answer = verdictIs (refused 14 14) }
+    -- codes strictly rising: falling, and twice the same; as sets: accepted
+    ∷ record { question = check (twoTrue (0 ∷ 1 ∷ [])) (secondDropped (3 ∷ 1 ∷ [])); answer = verdictIs (refused 34 15) }
+    ∷ record { question = check onlyTrue codeTwice; answer = verdictIs (refused 34 13) }
+    -- members are never names, a claim's: 34 where a name may be a member there alone, accepted where it may in both; a sequent's: 37 at 2
+    ∷ record { question = check nameAsMember (secondDropped (1 ∷ 3 ∷ [])); answer = verdictIs (refused 14 24) }
+    ∷ record { question = check nuBox leafWithName; answer = verdictIs (refused 34 36) }
+    -- bits 5 to 7 of a node's map are zero, and an entry's map has no bit but its kind's: unread bits: accepted
+    ∷ record { question = check onlyTrue (mapOfAx2 0x30); answer = verdictIs (refused 33 6) }
+    ∷ record { question = check onlyTrue (mapOfAx2 0x50); answer = verdictIs (refused 33 6) }
+    ∷ record { question = check onlyTrue (mapOfAx2 0x90); answer = verdictIs (refused 33 6) }
+    ∷ record { question = check (mapOfTrue 4) (byAx2 1); answer = verdictIs (refused 13 6) }
+    -- no bytes follow: unread bytes: accepted
+    ∷ record { question = check (onlyTrue ++ (0 ∷ [])) (byAx2 1); answer = verdictIs (refused 11 12) }
+    ∷ record { question = check onlyTrue (byAx2 1 ++ (0 ∷ [])); answer = verdictIs (refused 31 11) }
+    -- the counts: 1 to 256 entries, 24 members, 1,024 nodes, 24 codes, 64 states; one in range is read past, to the early end of the file
+    ∷ record { question = check (endsAtEntryCount 0 0) (byAx2 1); answer = verdictIs (refused 12 4) }
+    ∷ record { question = check (endsAtEntryCount 0 1) (byAx2 1); answer = verdictIs (refused 11 6) }
+    ∷ record { question = check (endsAtEntryCount 1 1) (byAx2 1); answer = verdictIs (refused 12 4) }
+    ∷ record { question = check (endsAtMemberCount 0) (byAx2 1); answer = verdictIs (refused 12 8) }
+    ∷ record { question = check (endsAtMemberCount 24) (byAx2 1); answer = verdictIs (refused 11 10) }
+    ∷ record { question = check (endsAtMemberCount 25) (byAx2 1); answer = verdictIs (refused 12 8) }
+    ∷ record { question = check onlyTrue (endsAtNodeCount 0 0); answer = verdictIs (refused 32 4) }
+    ∷ record { question = check onlyTrue (endsAtNodeCount 0 4); answer = verdictIs (refused 31 6) }
+    ∷ record { question = check onlyTrue (endsAtNodeCount 1 4); answer = verdictIs (refused 32 4) }
+    ∷ record { question = check onlyTrue (endsAtCodeCount 0); answer = verdictIs (refused 32 8) }
+    ∷ record { question = check onlyTrue (endsAtCodeCount 24); answer = verdictIs (refused 31 9) }
+    ∷ record { question = check onlyTrue (endsAtCodeCount 25); answer = verdictIs (refused 32 8) }
+    ∷ record { question = evaluate onlyTrue (endsAtStateCount 0); answer = wordsAre (refused 62 4) (0 ∷ 0 ∷ 0 ∷ []) }
+    ∷ record { question = evaluate onlyTrue (endsAtStateCount 64); answer = wordsAre (refused 61 5) (0 ∷ 0 ∷ 0 ∷ []) }
+    ∷ record { question = evaluate onlyTrue (endsAtStateCount 65); answer = wordsAre (refused 62 4) (0 ∷ 0 ∷ 0 ∷ []) }
     ∷ []
 
 pub answers : List Sample → List Answer

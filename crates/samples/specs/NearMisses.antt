@@ -1,0 +1,177 @@
+-- files that fail one condition of document 01 and keep all others, laid down from their parts
+use mathlib.Core.List.{List, [], _∷_, _++_}
+use Prim.Native.Nat.{ℕ}
+use lib.ListN.{length}
+
+abbrev twoBytes : List ℕ → List ℕ
+twoBytes [] = []
+twoBytes (n ∷ l) = n ∷ 0 ∷ twoBytes l
+
+abbrev joined : List (List ℕ) → List ℕ
+joined [] = []
+joined (part ∷ l) = part ++ joined l
+
+abbrev claimOpening : List ℕ
+claimOpening = 0x43 ∷ 0x4C ∷ 0x4D ∷ 0x31 ∷ []
+
+abbrev proofOpening : List ℕ
+proofOpening = 0x50 ∷ 0x52 ∷ 0x46 ∷ 0x31 ∷ []
+
+abbrev modelOpening : List ℕ
+modelOpening = 0x4D ∷ 0x44 ∷ 0x4C ∷ 0x31 ∷ []
+
+-- the entry true; an entry with A alone; one with A and B
+abbrev truth : List ℕ
+truth = 0 ∷ 1 ∷ []
+
+abbrev entryA : ℕ → ℕ → List ℕ
+entryA kind a = 1 ∷ kind ∷ a ∷ 0 ∷ []
+
+abbrev entryAB : ℕ → ℕ → ℕ → List ℕ
+entryAB kind a b = 3 ∷ kind ∷ a ∷ 0 ∷ b ∷ 0 ∷ []
+
+abbrev claimOf : List (List ℕ) → List ℕ → List ℕ
+claimOf entries members = claimOpening ++ (length entries ∷ 0 ∷ joined entries) ++ (length members ∷ 0 ∷ twoBytes members)
+
+abbrev sequent : List ℕ → List ℕ
+sequent codes = length codes ∷ twoBytes codes
+
+-- a node with a principal and one child, by its rule; rule 3, 10, 11; an axiom
+abbrev step : ℕ → ℕ → ℕ → List ℕ → List ℕ
+step rule principal child codes = 0x13 ∷ rule ∷ principal ∷ 0 ∷ child ∷ 0 ∷ sequent codes
+
+abbrev and : ℕ → ℕ → ℕ → List ℕ → List ℕ
+and principal first second codes = 0x17 ∷ 3 ∷ principal ∷ 0 ∷ first ∷ 0 ∷ second ∷ 0 ∷ sequent codes
+
+abbrev discharge : ℕ → List ℕ → List ℕ
+discharge child codes = 0x12 ∷ 10 ∷ child ∷ 0 ∷ sequent codes
+
+abbrev back : ℕ → List ℕ → List ℕ
+back link codes = 0x18 ∷ 11 ∷ link ∷ 0 ∷ sequent codes
+
+abbrev axiom2 : List ℕ → List ℕ
+axiom2 codes = 0x10 ∷ 1 ∷ sequent codes
+
+abbrev proofOf : List (List ℕ) → List ℕ
+proofOf nodes = proofOpening ++ (length nodes ∷ 0 ∷ joined nodes)
+
+-- true alone, and Ax2 for a code: whatever its other entries are, a claim on true alone is accepted with it unless it is ill formed
+abbrev pub onlyTrue : List ℕ
+onlyTrue = claimOf (truth ∷ []) (0 ∷ [])
+
+abbrev pub byAx2 : ℕ → List ℕ
+byAx2 code = proofOf (axiom2 (code ∷ []) ∷ [])
+
+-- entry 4 is the nu of 'box of its name, or letter 0'
+abbrev pub nuOfBoxOrLetter : List ℕ
+nuOfBoxOrLetter = claimOf (entryA 10 4 ∷ entryA 7 0 ∷ entryA 2 0 ∷ entryAB 4 1 2 ∷ entryA 9 3 ∷ []) (4 ∷ [])
+
+-- D, nu, or, W of the letter, box, back leaf
+abbrev pub letterDropped : List ℕ
+letterDropped =
+    proofOf
+    (discharge 1 (9 ∷ []) ∷ step 6 9 2 (9 ∷ []) ∷ step 2 7 3 (7 ∷ []) ∷ step 7 5 4 (3 ∷ 5 ∷ []) ∷ step 4 3 5 (3 ∷ []) ∷ back 0 (9 ∷ []) ∷ [])
+
+-- the same, and U takes the letter out of focus before W drops it; the box stays in focus
+abbrev pub letterUnfocused : List ℕ
+letterUnfocused =
+    proofOf
+    (discharge 1 (9 ∷ []) ∷ step 6 9 2 (9 ∷ []) ∷ step 2 7 3 (7 ∷ []) ∷ step 9 5 4 (3 ∷ 5 ∷ []) ∷ step 7 4 5 (3 ∷ 4 ∷ []) ∷ step 4 3 6 (3 ∷ []) ∷ back 0 (9 ∷ []) ∷ [])
+
+-- entry 3 is nu of box and itself
+abbrev pub nuOfBoxTwice : List ℕ
+nuOfBoxTwice = claimOf (entryA 10 2 ∷ entryA 7 0 ∷ entryA 9 1 ∷ entryAB 5 2 2 ∷ []) (3 ∷ [])
+
+-- the loop of nu for the first child of the and, D then a back leaf for the second
+abbrev pub goodLoopThenBad : List ℕ
+goodLoopThenBad =
+    proofOf
+    (and 7 1 5 (7 ∷ []) ∷ discharge 2 (5 ∷ []) ∷ step 6 5 3 (5 ∷ []) ∷ step 4 3 4 (3 ∷ []) ∷ back 1 (5 ∷ []) ∷ discharge 6 (5 ∷ []) ∷ back 5 (5 ∷ []) ∷ [])
+
+-- mu of box, taken out of focus before the loop
+abbrev pub loopOutOfFocus : List ℕ
+loopOutOfFocus = proofOf (step 9 5 1 (5 ∷ []) ∷ discharge 2 (4 ∷ []) ∷ step 5 4 3 (4 ∷ []) ∷ step 4 2 4 (2 ∷ []) ∷ back 1 (4 ∷ []) ∷ [])
+
+-- the same with F on the loop: the mu that is unfolded is in focus, and no other sequent has one
+abbrev pub loopFocusedOnce : List ℕ
+loopFocusedOnce =
+    proofOf
+    (step 9 5 1 (5 ∷ []) ∷ discharge 2 (4 ∷ []) ∷ step 8 4 3 (4 ∷ []) ∷ step 5 5 4 (5 ∷ []) ∷ step 4 2 5 (2 ∷ []) ∷ back 1 (4 ∷ []) ∷ [])
+
+-- the loop of nu without its D
+abbrev pub loopWithoutD : List ℕ
+loopWithoutD = proofOf (step 6 5 1 (5 ∷ []) ∷ step 4 3 2 (3 ∷ []) ∷ back 0 (5 ∷ []) ∷ [])
+
+-- the loop of nu with the name in its leaf, where the box step leads to the nu
+abbrev pub leafWithName : List ℕ
+leafWithName = proofOf (discharge 1 (5 ∷ []) ∷ step 6 5 2 (5 ∷ []) ∷ step 4 3 3 (3 ∷ []) ∷ back 0 (1 ∷ []) ∷ [])
+
+-- entry 5, the outer fixpoint, over entry 4, the inner: the inner's body is the outer's name or a box of its own; 6 is true
+abbrev pub nameThroughFixpoint : List ℕ
+nameThroughFixpoint =
+    claimOf (entryA 10 5 ∷ entryA 10 4 ∷ entryA 7 1 ∷ entryAB 4 0 2 ∷ entryA 8 3 ∷ entryA 8 4 ∷ truth ∷ []) (6 ∷ [])
+
+-- entry 3, the outer fixpoint, a box, and the inner fixpoint over the outer's name; 4 is true
+abbrev pub fixpointUnderBox : ℕ → ℕ → List ℕ
+fixpointUnderBox outer inner = claimOf (entryA 10 3 ∷ entryA inner 0 ∷ entryA 7 1 ∷ entryA outer 2 ∷ truth ∷ []) (4 ∷ [])
+
+-- true, and an entry of kind 2 or 3 for a letter
+abbrev pub trueBesideLetter : ℕ → ℕ → List ℕ
+trueBesideLetter kind letter = claimOf (truth ∷ entryA kind letter ∷ []) (0 ∷ [])
+
+-- true under two numbers
+abbrev pub twoTrue : List ℕ → List ℕ
+twoTrue members = claimOf (truth ∷ truth ∷ []) members
+
+-- W of entry 1, then Ax2
+abbrev pub secondDropped : List ℕ → List ℕ
+secondDropped codes = proofOf (step 7 3 1 codes ∷ axiom2 (1 ∷ []) ∷ [])
+
+-- F of a code that is in focus; U, then U of the code that is out of focus
+abbrev pub focusedTwice : List ℕ
+focusedTwice = proofOf (step 8 1 1 (1 ∷ []) ∷ axiom2 (1 ∷ []) ∷ [])
+
+abbrev pub unfocusedTwice : List ℕ
+unfocusedTwice = proofOf (step 9 1 1 (1 ∷ []) ∷ step 9 0 2 (0 ∷ []) ∷ axiom2 (0 ∷ []) ∷ [])
+
+-- two roots
+abbrev pub orphan : List ℕ
+orphan = proofOf (axiom2 (1 ∷ []) ∷ axiom2 (1 ∷ []) ∷ [])
+
+-- true and true, with one node for both children
+abbrev pub trueAndTrue : List ℕ
+trueAndTrue = claimOf (truth ∷ entryAB 5 0 0 ∷ []) (1 ∷ [])
+
+abbrev pub oneChildTwice : List ℕ
+oneChildTwice = proofOf (and 3 1 1 (3 ∷ []) ∷ axiom2 (1 ∷ []) ∷ [])
+
+-- D, whose sequent has one code twice, then Ax2
+abbrev pub codeTwice : List ℕ
+codeTwice = proofOf (discharge 1 (1 ∷ 1 ∷ []) ∷ axiom2 (1 ∷ []) ∷ [])
+
+-- true, and a nu of box whose name is entry 1; members 0 and 1
+abbrev pub nameAsMember : List ℕ
+nameAsMember = claimOf (truth ∷ entryA 10 3 ∷ entryA 7 1 ∷ entryA 9 2 ∷ []) (0 ∷ 1 ∷ [])
+
+-- one Ax2 node, one entry true, with a map of its own
+abbrev pub mapOfAx2 : ℕ → List ℕ
+mapOfAx2 map = proofOf ((map ∷ 1 ∷ sequent (1 ∷ [])) ∷ [])
+
+abbrev pub mapOfTrue : ℕ → List ℕ
+mapOfTrue map = claimOf ((map ∷ 1 ∷ []) ∷ []) (0 ∷ [])
+
+-- files that end after a count, of two bytes or of one: a count in range is read past, and the file then ends early
+abbrev pub endsAtEntryCount : ℕ → ℕ → List ℕ
+endsAtEntryCount low high = claimOpening ++ (low ∷ high ∷ [])
+
+abbrev pub endsAtMemberCount : ℕ → List ℕ
+endsAtMemberCount n = claimOpening ++ (1 ∷ 0 ∷ truth) ++ (n ∷ 0 ∷ [])
+
+abbrev pub endsAtNodeCount : ℕ → ℕ → List ℕ
+endsAtNodeCount low high = proofOpening ++ (low ∷ high ∷ [])
+
+abbrev pub endsAtCodeCount : ℕ → List ℕ
+endsAtCodeCount n = proofOpening ++ (1 ∷ 0 ∷ 0x10 ∷ 1 ∷ n ∷ [])
+
+abbrev pub endsAtStateCount : ℕ → List ℕ
+endsAtStateCount n = modelOpening ++ (n ∷ [])
