@@ -1,0 +1,251 @@
+//! Each limit of document 01 met, and exceeded by one, on the built gate: number
+//! and place as written there, through every call that reads the file.
+
+use gate_tests::decode::{decode, entries, Decoding};
+use gate_tests::lent::{Lent, LentWords};
+use gate_tests::{check, evaluate, present, Gate};
+use reference::draft::{self, DraftNode, DraftState};
+use reference::generate::extremes;
+use reference::{describe, Entry, Kind, Rule};
+
+const OPEN: Gate = Gate {
+    phase: Gate::OPEN,
+    tag: 3,
+};
+
+/// The single check, and presenting in slices of the least lengths, answer this,
+/// and so does the reference.
+fn assert_checked(claim: &[u8], proof: &[u8], expected: &str) {
+    assert_eq!(describe(reference::check(claim, proof)), expected);
+    assert_eq!(describe(check(claim, proof)), expected);
+    let (mut gate, mut lent) = (OPEN, Lent::least());
+    let got = present(&mut gate, 7, claim, proof, &mut lent);
+    assert_eq!(describe(got), expected);
+    let decoded = matches!(got >> 16, 0 | 35..=39);
+    let decoding = if decoded {
+        decode(claim, proof)
+    } else {
+        Decoding::default()
+    };
+    lent.assert_holds(&decoding, expected);
+    let held = Gate {
+        phase: Gate::HOLDING,
+        tag: 7,
+    };
+    assert_eq!(gate, if got == 0 { held } else { OPEN }, "{expected}");
+}
+
+/// The evaluation answers this, and so does the reference.
+fn assert_evaluated(claim: &[u8], model: &[u8], expected: &str) {
+    let outcome = reference::evaluate(claim, model);
+    let answer = outcome.as_ref().map_or_else(|r| r.packed(), |_| 0);
+    assert_eq!(describe(answer), expected);
+    let mut lent = LentWords::least();
+    assert_eq!(describe(evaluate(claim, model, &mut lent)), expected);
+    match outcome {
+        Ok(words) => lent.assert_holds(&entries(claim), &words, expected),
+        Err(_) => lent.assert_untouched(expected),
+    }
+}
+
+/// A claim is read by the check and by the evaluation.
+fn assert_claim(claim: &[u8], proof: &[u8], expected: &str) {
+    assert_checked(claim, proof, expected);
+    assert_evaluated(claim, &states(1), expected);
+}
+
+fn truths(count: usize) -> Vec<Entry> {
+    vec![Entry::new(Kind::True, 0, 0); count]
+}
+
+fn ax2() -> DraftNode {
+    DraftNode::new(Rule::Ax2, 0, vec![1])
+}
+
+/// States without letters and successors.
+fn states(count: usize) -> Vec<u8> {
+    draft::model(&vec![DraftState::default(); count]).bytes
+}
+
+/// The file with another byte at an offset.
+fn with_byte(mut file: Vec<u8>, offset: usize, byte: u8) -> Vec<u8> {
+    file[offset] = byte;
+    file
+}
+
+#[test]
+fn entries_1_to_256() {
+    let proof = draft::proof(&[ax2()]).bytes;
+    let claim = |count| draft::claim(&truths(count), &[0]).bytes;
+    assert_claim(&claim(1), &proof, "accept");
+    assert_claim(&claim(256), &proof, "accept");
+    assert_claim(&claim(257), &proof, "refuse 12 at 4");
+    assert_claim(&claim(0), &proof, "refuse 12 at 4");
+}
+
+#[test]
+fn members_1_to_24() {
+    for (count, expected) in [
+        (1, "accept"),
+        (24, "accept"),
+        // Behind the opening, the entry count and 25 entries of two bytes.
+        (25, "refuse 12 at 56"),
+    ] {
+        let (claim, proof) = extremes::weakened(count);
+        assert_claim(&claim.bytes, &proof.bytes, expected);
+    }
+    let none = draft::claim(&truths(1), &[]).bytes;
+    let proof = draft::proof(&[ax2()]).bytes;
+    assert_claim(&none, &proof, "refuse 12 at 8");
+}
+
+#[test]
+fn members_rise_and_are_no_names() {
+    let proof = draft::proof(&[ax2()]).bytes;
+    let claim = |members: &[u16]| {
+        let nu = [
+            Entry::new(Kind::True, 0, 0),
+            Entry::new(Kind::Name, 3, 0),
+            Entry::new(Kind::Box, 1, 0),
+            Entry::new(Kind::Nu, 2, 0),
+        ];
+        draft::claim(&nu, members).bytes
+    };
+    assert_claim(&claim(&[0]), &proof, "accept");
+    // The members stand behind 20 bytes of entries and their count.
+    assert_claim(&claim(&[2, 3, 0]), &proof, "refuse 14 at 26");
+    assert_claim(&claim(&[0, 0]), &proof, "refuse 14 at 24");
+    assert_claim(&claim(&[0, 1]), &proof, "refuse 14 at 24");
+    assert_claim(&claim(&[0, 4]), &proof, "refuse 14 at 24");
+}
+
+#[test]
+fn letters_0_to_31() {
+    for (number, expected) in [
+        (0, "accept"),
+        (31, "accept"),
+        (32, "refuse 20 at 0"),
+        (65_535, "refuse 20 at 0"),
+    ] {
+        let (claim, proof) = extremes::letter(number);
+        assert_claim(&claim.bytes, &proof.bytes, expected);
+    }
+    let negated = [
+        Entry::new(Kind::True, 0, 0),
+        Entry::new(Kind::Negated, 32, 0),
+    ];
+    let claim = draft::claim(&negated, &[0]).bytes;
+    assert_claim(&claim, &draft::proof(&[ax2()]).bytes, "refuse 20 at 1");
+}
+
+#[test]
+fn nodes_1_to_1024() {
+    for (count, expected) in [(1, "accept"), (1024, "accept"), (1025, "refuse 32 at 4")] {
+        let (claim, proof) = extremes::chain(count);
+        assert_checked(&claim.bytes, &proof.bytes, expected);
+    }
+    let (claim, _) = extremes::chain(1);
+    assert_checked(&claim.bytes, b"PRF1\x00\x00", "refuse 32 at 4");
+}
+
+/// The code count of node 0 is behind its map, rule, principal and first child.
+#[test]
+fn codes_1_to_24() {
+    let (claim, proof) = extremes::weakened(24);
+    assert_checked(&claim.bytes, &proof.bytes, "accept");
+    let (_, proof) = extremes::weakened(25);
+    assert_checked(&claim.bytes, &proof.bytes, "refuse 32 at 12");
+    let (claim, proof) = extremes::chain(1);
+    let none = with_byte(proof.bytes, 8, 0);
+    assert_checked(&claim.bytes, &none, "refuse 32 at 8");
+}
+
+#[test]
+fn codes_rise_and_are_no_names() {
+    let nu = [
+        Entry::new(Kind::True, 0, 0),
+        Entry::new(Kind::Name, 3, 0),
+        Entry::new(Kind::Box, 1, 0),
+        Entry::new(Kind::Nu, 2, 0),
+    ];
+    let claim = draft::claim(&nu, &[0, 3]).bytes;
+    let proof = |codes: &[u16]| {
+        let mut weakening = DraftNode::new(Rule::W, 7, codes.to_vec());
+        weakening.first = 1;
+        draft::proof(&[weakening, ax2()]).bytes
+    };
+    assert_checked(&claim, &proof(&[1, 7]), "accept");
+    assert_checked(&claim, &proof(&[7, 1]), "refuse 34 at 15");
+    assert_checked(&claim, &proof(&[1, 1, 7]), "refuse 34 at 15");
+    assert_checked(&claim, &proof(&[1, 7, 7]), "refuse 34 at 17");
+    assert_checked(&claim, &proof(&[1, 2, 7]), "refuse 34 at 15");
+    assert_checked(&claim, &proof(&[1, 3, 7]), "refuse 34 at 15");
+    assert_checked(&claim, &proof(&[1, 7, 8]), "refuse 34 at 17");
+}
+
+/// 24 codes in each of 1,024 nodes, 24,576 in all, fill the lent codes to the
+/// last: D over D, and an Ax1 that 24 codes do not keep.
+#[test]
+fn codes_24_576_in_all() {
+    let members: Vec<u16> = (0..24).collect();
+    let codes: Vec<u16> = members.iter().map(|member| 2 * member + 1).collect();
+    let claim = draft::claim(&truths(24), &members).bytes;
+    let mut nodes: Vec<DraftNode> = (1..1024)
+        .map(|child| {
+            let mut node = DraftNode::new(Rule::D, 0, codes.clone());
+            node.first = child;
+            node
+        })
+        .collect();
+    nodes.push(DraftNode::new(Rule::Ax1, 0, codes));
+    let proof = draft::proof(&nodes).bytes;
+    assert_eq!(decode(&claim, &proof).codes.len(), 24_576);
+    assert_checked(&claim, &proof, "refuse 37 at 1023");
+    assert_checked(
+        &claim,
+        &proof[..proof.len() - 1],
+        &format!("refuse 31 at {}", proof.len() - 1),
+    );
+}
+
+/// "Bits 5 to 7 are zero"; an entry's map has the bits of its kind alone.
+#[test]
+fn other_bits_of_a_map() {
+    let (claim, proof) = extremes::chain(1);
+    for bit in 5..8 {
+        let proof = with_byte(proof.bytes.clone(), 6, 0x10 | 1 << bit);
+        assert_checked(&claim.bytes, &proof, "refuse 33 at 6");
+    }
+    for bit in 0..8 {
+        let claim = with_byte(claim.bytes.clone(), 6, 1 << bit);
+        assert_claim(&claim, &proof.bytes, "refuse 13 at 6");
+    }
+}
+
+#[test]
+fn states_1_to_64() {
+    let claim = draft::claim(&truths(1), &[0]).bytes;
+    assert_evaluated(&claim, &states(1), "accept");
+    assert_evaluated(&claim, &states(64), "accept");
+    assert_evaluated(&claim, &states(65), "refuse 62 at 4");
+    assert_evaluated(&claim, &states(0), "refuse 62 at 4");
+}
+
+/// 64 successors in each of 64 states, and one that is no state.
+#[test]
+fn successors_64() {
+    let claim = draft::claim(&truths(1), &[0]).bytes;
+    let model = |last: u8| {
+        let mut successors: Vec<u8> = (0..64).collect();
+        successors[63] = last;
+        let state = DraftState {
+            letters: u32::MAX,
+            successors,
+        };
+        draft::model(&vec![state; 64]).bytes
+    };
+    assert_evaluated(&claim, &model(63), "accept");
+    // Map, mask and count of state 0, and 63 successors, stand before the last.
+    assert_evaluated(&claim, &model(64), "refuse 64 at 74");
+    assert_evaluated(&claim, &model(62), "refuse 64 at 74");
+}
