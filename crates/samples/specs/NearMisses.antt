@@ -76,7 +76,19 @@ letterDropped =
 abbrev pub letterUnfocused : List ℕ
 letterUnfocused =
     proofOf
-    (discharge 1 (9 ∷ []) ∷ step 6 9 2 (9 ∷ []) ∷ step 2 7 3 (7 ∷ []) ∷ step 9 5 4 (3 ∷ 5 ∷ []) ∷ step 7 4 5 (3 ∷ 4 ∷ []) ∷ step 4 3 6 (3 ∷ []) ∷ back 0 (9 ∷ []) ∷ [])
+    (discharge 1 (9 ∷ []) ∷ step 6 9 2 (9 ∷ []) ∷ step 2 7 3 (7 ∷ []) ∷ step 9 5 4 (3 ∷ 5 ∷ []) ∷ step 7 4 5 (3 ∷ 4 ∷ []) ∷ step 4 3 6 (3 ∷ [])
+    ∷ back 0 (9 ∷ []) ∷ [])
+
+-- entry 5 is the nu of 'box of its name, or a mu over letter 0'
+abbrev pub nuOfBoxOrMu : List ℕ
+nuOfBoxOrMu = claimOf (entryA 10 5 ∷ entryA 7 0 ∷ entryA 2 0 ∷ entryA 8 2 ∷ entryAB 4 1 3 ∷ entryA 9 4 ∷ []) (5 ∷ [])
+
+-- the same loop, where mu leaves the letter out of focus and F puts it there before W drops it
+abbrev pub letterFocused : List ℕ
+letterFocused =
+    proofOf
+    (discharge 1 (11 ∷ []) ∷ step 6 11 2 (11 ∷ []) ∷ step 2 9 3 (9 ∷ []) ∷ step 5 7 4 (3 ∷ 7 ∷ []) ∷ step 8 4 5 (3 ∷ 4 ∷ [])
+    ∷ step 7 5 6 (3 ∷ 5 ∷ []) ∷ step 4 3 7 (3 ∷ []) ∷ back 0 (11 ∷ []) ∷ [])
 
 -- entry 3 is nu of box and itself
 abbrev pub nuOfBoxTwice : List ℕ
@@ -86,7 +98,8 @@ nuOfBoxTwice = claimOf (entryA 10 2 ∷ entryA 7 0 ∷ entryA 9 1 ∷ entryAB 5 
 abbrev pub goodLoopThenBad : List ℕ
 goodLoopThenBad =
     proofOf
-    (and 7 1 5 (7 ∷ []) ∷ discharge 2 (5 ∷ []) ∷ step 6 5 3 (5 ∷ []) ∷ step 4 3 4 (3 ∷ []) ∷ back 1 (5 ∷ []) ∷ discharge 6 (5 ∷ []) ∷ back 5 (5 ∷ []) ∷ [])
+    (and 7 1 5 (7 ∷ []) ∷ discharge 2 (5 ∷ []) ∷ step 6 5 3 (5 ∷ []) ∷ step 4 3 4 (3 ∷ []) ∷ back 1 (5 ∷ [])
+    ∷ discharge 6 (5 ∷ []) ∷ back 5 (5 ∷ []) ∷ [])
 
 -- mu of box, taken out of focus before the loop
 abbrev pub loopOutOfFocus : List ℕ

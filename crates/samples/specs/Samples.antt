@@ -11,7 +11,8 @@ use Rattle.gate.specs.Check.{verdict}
 use Rattle.gate.specs.Present.{presenting}
 use Rattle.gate.specs.Evaluate.{evaluating}
 use Rattle.samples.specs.Files.{nuBox, muBox, loopOfNu, loopOfMu, loopOfMuWithF, loopOfFocusedMu, boxBesideBox, twoBoxes, emptyLoop, orOfLetters, orThenAx1, muOfOwnName, diamondAbove, noSuccessor, ownSuccessor}
-use Rattle.samples.specs.NearMisses.{nuOfBoxOrLetter, letterDropped, letterUnfocused, nuOfBoxTwice, goodLoopThenBad, loopOutOfFocus, loopFocusedOnce, loopWithoutD}
+use Rattle.samples.specs.NearMisses.{nuOfBoxOrLetter, letterDropped, letterUnfocused, nuOfBoxOrMu, letterFocused, nuOfBoxTwice}
+use Rattle.samples.specs.NearMisses.{goodLoopThenBad, loopOutOfFocus, loopFocusedOnce, loopWithoutD}
 use Rattle.samples.specs.NearMisses.{onlyTrue, byAx2, twoTrue, secondDropped, focusedTwice, unfocusedTwice, orphan, trueAndTrue, oneChildTwice}
 use Rattle.samples.specs.NearMisses.{nameThroughFixpoint, fixpointUnderBox, trueBesideLetter, codeTwice, nameAsMember, leafWithName, mapOfAx2, mapOfTrue}
 use Rattle.samples.specs.NearMisses.{endsAtEntryCount, endsAtMemberCount, endsAtNodeCount, endsAtCodeCount, endsAtStateCount}
@@ -92,6 +93,8 @@ samples =
     -- no rule on a loop is 9: a loop in focus with a box is good, and U on it is its only fault; without 'or 9': accepted
     ∷ record { question = check nuOfBoxOrLetter letterDropped; answer = verdictIs accepted }
     ∷ record { question = check nuOfBoxOrLetter letterUnfocused; answer = verdictIs (refused 39 6) }
+    -- nor 8: F as the only fault; without '8 or': accepted
+    ∷ record { question = check nuOfBoxOrMu letterFocused; answer = verdictIs (refused 39 7) }
     -- every loop is walked: the first is good, the second has no box; with the first alone walked: accepted
     ∷ record { question = check nuOfBoxTwice goodLoopThenBad; answer = verdictIs (refused 39 6) }
     -- each sequent has a focused member: none has one, all else is right; without it: accepted, and mu of box is false on a circle
