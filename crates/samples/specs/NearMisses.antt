@@ -3,6 +3,7 @@ use mathlib.Core.List.{List, [], _∷_, _++_}
 use Prim.Native.Nat.{ℕ}
 use lib.ListN.{length}
 
+-- little-endian, each number below 256
 abbrev twoBytes : List ℕ → List ℕ
 twoBytes [] = []
 twoBytes (n ∷ l) = n ∷ 0 ∷ twoBytes l
@@ -36,7 +37,7 @@ claimOf entries members = claimOpening ++ (length entries ∷ 0 ∷ joined entri
 abbrev sequent : List ℕ → List ℕ
 sequent codes = length codes ∷ twoBytes codes
 
--- a node with a principal and one child, by its rule; rule 3, 10, 11; an axiom
+-- a node with a principal and one child, by its rule; rule 3, 10, 11; Ax2. A code is 2 × entry + focus
 abbrev step : ℕ → ℕ → ℕ → List ℕ → List ℕ
 step rule principal child codes = 0x13 ∷ rule ∷ principal ∷ 0 ∷ child ∷ 0 ∷ sequent codes
 

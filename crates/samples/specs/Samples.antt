@@ -1,4 +1,4 @@
--- document 01's proved samples as one table, computed from the definitions: files, models and the gate
+-- document 01's proved samples, then near misses, as one table computed from the definitions: files, models and the gate
 use mathlib.Core.Path.{_≡_, refl}
 use mathlib.Core.List.{List, [], _∷_, _++_}
 use Prim.Native.Nat.{ℕ}
