@@ -7,3 +7,4 @@ pub mod Meaning
 pub mod MeaningLaws
 pub mod FixLaws
 pub mod OwnLaws
+pub mod KindMeaning
