@@ -5,11 +5,15 @@ use Prim.Native.Nat.{ℕ, zero, suc}
 use native.Mathlib.Omega.{arith}
 use Rattle.formula.specs.Kind
 use Rattle.formula.specs.Table.{Table, entry, kind}
-use Rattle.formula.specs.Shape.{Shape, leaf, two, step, fix, name, always, letter, negated, or, and, diamond, box, mu, nu, shapeOf, shape}
+use Rattle.formula.specs.Shape.{Shape, leaf, two, step, fix, name, never, always, letter, negated, or, and, diamond, box, mu, nu, shapeOf, shape}
 use Rattle.formula.specs.Target.{targetOf, target}
 use Rattle.formula.specs.TableLaws.{target-at}
 
 module _ (t : Table) (e : ℕ) where
+  pub false-shape : kind t e ≡ Kind.FALSE → shape t e ≡ leaf never
+  unfolding shape shapeOf
+  false-shape q = rw q refl
+
   pub true-shape : kind t e ≡ Kind.TRUE → shape t e ≡ leaf always
   unfolding shape shapeOf
   true-shape q = rw q refl

@@ -45,6 +45,8 @@ Refutes M t s ms = elements ms ⊆ (λ e. own M t e s ≡ false)
 pub record Irrefutable (claim : List ℕ) : Type 0 where
   pub entries : Table
   pub members : List ℕ
+  -- 10 to 23: the claim is well formed
   pub claim-file : ClaimFile claim entries members
+  pub formed : Formed entries
   pub some-true : (M : Model) (s : ℕ) → s < M .size → (e : ℕ) × elements members e × (own M entries e s ≡ true)
   pub none-refutes : (M : Model) (s : ℕ) → s < M .size → Refutes M entries s members → ⊥

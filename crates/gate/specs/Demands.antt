@@ -1,45 +1,60 @@
 -- the demands on the gate over the definitions, each with its proof; `Bytes s`: the numbers of s are below 256
 use mathlib.Core.Path.{_≡_}
-use mathlib.Core.Logic.{_↔_}
+use mathlib.Core.Logic.{_↔_, _⊎_}
 use mathlib.Core.Bool.{true, false}
 use mathlib.Core.List.{List}
 use Prim.Native.Nat.{ℕ, suc, _<_}
-use lib.ListN.{length}
+use lib.ListN.{length, getD}
 use Rattle.verdict.specs.Verdict.{accepted, refused}
+use Rattle.verdict.specs.Sets.{elements}
 use Rattle.encoding.specs.Encode.{Bytes}
 use Rattle.encoding.specs.File.{good}
-use Rattle.formula.specs.Table.{Table}
+use Rattle.formula.specs.Kind
+use Rattle.formula.specs.Table.{Table, entry, kind}
 use Rattle.formula.specs.Nodes.{Proof}
-use Rattle.formula.specs.Shape.{Fix, fix, mu, nu, shape}
+use Rattle.formula.specs.Shape.{mu, nu}
+use Rattle.formula.specs.ShapeLaws.{mu-shape, nu-shape}
 use Rattle.formula.specs.Codes.{entryOf}
+use Rattle.bits.specs.Bits.{bit}
 use Rattle.conditions.specs.Free.{Free}
 use Rattle.conditions.specs.WellFormed.{WellFormed}
-use Rattle.meaning.specs.States.{Model, StateSet, Sub, SameStates, start}
+use Rattle.meaning.specs.States.{Model, Successor, StateSet, Sub, SameStates, start}
 use Rattle.meaning.specs.Chain.{iter}
 use Rattle.meaning.specs.Meaning.{Env, meaning, round, own}
 use Rattle.meaning.specs.MeaningLaws.{meaning-local}
-use Rattle.meaning.specs.FixLaws.{fix-settles, fix-is, mu-least, nu-greatest}
-use Rattle.claims.specs.ClaimFile.{FitClaim, encodeClaim}
+use Rattle.meaning.specs.FixLaws.{fix-settles}
+use Rattle.meaning.specs.KindMeaning as by-kind
+use Rattle.claims.specs.ClaimFile.{ClaimFile, FitClaim, encodeClaim}
 use Rattle.claims.specs.ReadClaim.{readClaim}
-use Rattle.claims.specs.ClaimExact.{claim-decodes, claim-encodes}
+use Rattle.claims.specs.ClaimExact.{claim-decodes, claim-encodes, one-claim}
 use Rattle.proofs.specs.ProofFile.{FitProof, encodeProof}
 use Rattle.proofs.specs.ReadProof.{readProof}
 use Rattle.proofs.specs.ProofExact.{proof-decodes, proof-encodes}
 use Rattle.calculus.specs.Sequents.{sequent}
+use Rattle.model.specs.Described.{modelOf}
 use Rattle.permit.specs.GateState.{Gate, opened}
-use Rattle.gate.specs.Slices.{Lent, short}
+use Rattle.gate.specs.Slices.{Lent, short, LentWords}
 use Rattle.gate.specs.Check.{verdict}
 use Rattle.gate.specs.Present.{presenting}
 use Rattle.gate.specs.PresentLaws.{Granted, presented-verdict, presented-granted}
+use Rattle.gate.specs.Evaluate.{evaluating}
 use Rattle.gate.specs.Correct.{Correct, Irrefutable}
 use Rattle.gate.specs.Earned.{Earned}
+use Rattle.gate.specs.EvaluationEarned.{EvaluationEarned, Evaluable}
 use Rattle.gate.specs.CheckExact as check
+use Rattle.gate.specs.EvaluateExact as evaluation
 use Rattle.gate.specs.Sound as soundness
+use Rattle.gate.specs.Refutable.{muOfBox, falseAlone, mu-of-box-refuted, false-refuted}
 
 module _ (claim proof : List ℕ) (bc : Bytes claim) (bp : Bytes proof) where
   -- 3, first half: what is accepted is irrefutable in every finite model, of any number of states
   pub accepted-sound : verdict claim proof ≡ accepted → Irrefutable claim
   accepted-sound h = soundness.sound (check.verdict-correct claim proof bc bp h)
+
+  -- the same of the table and the members that the file encodes: in every finite model every state has a true member
+  pub accepted-true : verdict claim proof ≡ accepted → (es : Table) (ms : List ℕ) → ClaimFile claim es ms
+      → (M : Model) (s : ℕ) → s < M .size → (e : ℕ) × elements ms e × (own M es e s ≡ true)
+  accepted-true h es ms f = soundness.irrefutable-true (accepted-sound h) es ms f
 
   -- 3, second half: accepted exactly when claim and proof are well formed and keep every rule
   pub accepted-exact : (verdict claim proof ≡ accepted) ↔ Correct claim proof
@@ -56,37 +71,112 @@ module _ (claim proof : List ℕ) (bc : Bytes claim) (bp : Bytes proof) where
       let granted = presented-granted tag claim proof l g h in
       (granted, accepted-sound (granted .accepts))
 
-  -- gate open, no permit held, slices long enough: whatever the tag, accepted exactly when correct
+  -- gate open, no permit held, slices long enough: whatever the tag, accepted exactly when correct, and refused as earned
   pub presented-exact : (tag : ℕ) (l : Lent) → short l ≡ false → (presenting opened tag claim proof l .answer ≡ accepted) ↔ Correct claim proof
   presented-exact tag l long = rw (presented-verdict tag claim proof l long) accepted-exact
+
+  pub presented-refused : {n q : ℕ} (tag : ℕ) (l : Lent) → short l ≡ false
+      → (presenting opened tag claim proof l .answer ≡ refused n q) ↔ Earned claim proof n q
+  presented-refused {n} {q} tag l long = rw (presented-verdict tag claim proof l long) (refused-exact {n = n} {q = q})
 
 -- every node of a correct proof: in every finite model every state has a true member of its sequent
 pub every-node : {claim proof : List ℕ} (k : Correct claim proof) (M : Model) (s : ℕ) → s < M .size
     → (v : ℕ) → v < length (k .nodes) → (c : ℕ) × sequent (k .nodes) v c × (own M (k .entries) (entryOf c) s ≡ true)
 every-node k M s h = soundness.node-true k M s h
 
+-- not every claim is irrefutable: mu of box is false at one state with itself as successor, and false alone is false there
+pub mu-of-box : Irrefutable muOfBox → ⊥
+mu-of-box = mu-of-box-refuted
+
+pub false-alone : Irrefutable falseAlone → ⊥
+false-alone = false-refuted
+
+-- 2: an evaluation of a claim in a model, with the slices it is lent
+module _ (claim model : List ℕ) (l : LentWords) (bc : Bytes claim) (bm : Bytes model) where
+  -- it is refused as earned: 1, the claim by bytes, 20 over all entries, 21 to 23 entry by entry, then the model by bytes
+  pub evaluation-refused : {n q : ℕ} → (evaluating claim model l .answer ≡ refused n q) ↔ EvaluationEarned claim model l n q
+  evaluation-refused = evaluation.refusal claim model l bc bm
+
+  -- it finishes exactly when slices are long enough, the claim is well formed and the model is a model file
+  pub evaluation-exact : (evaluating claim model l .answer ≡ accepted) ↔ Evaluable claim model l
+  evaluation-exact = evaluation.exact claim model l bc bm
+
+  -- then bit s of an entry's word says whether the entry by itself is true at state s
+  pub evaluated-word : (k : Evaluable claim model l) (e s : ℕ) → e < length (k .entries) → s < length (k .states)
+      → bit (getD (evaluating claim model l .lent .words) e 0) s ≡ own (modelOf (k .states)) (k .entries) e s
+  evaluated-word k e s h = evaluation.word-bit claim model l k e h s
+
 -- 2: meaning. In a model M over a well-formed table, with names set as ρ says:
 module _ (M : Model) (t : Table) (wf : WellFormed t) where
-  -- a fixpoint's meaning is its body's, set for its own name
-  pub fixpoint-is : (e a : ℕ) (σ : Fix) → shape t e ≡ fix σ a → (ρ : Env) → SameStates (M .size) (meaning M t e ρ) (round M t e a ρ (meaning M t e ρ))
-  fixpoint-is e a σ q ρ = fix-is M t wf e a σ q ρ
+  module _ (e : ℕ) (ρ : Env) (s : ℕ) where
+    -- kind 0 is true at no state, kind 1 at all
+    pub false-nowhere : kind t e ≡ Kind.FALSE → meaning M t e ρ s ≡ false
+    false-nowhere = by-kind.false-meaning M t wf e ρ s
 
-  -- a mu is the least such set
-  pub mu-is-least : (e a : ℕ) → shape t e ≡ fix mu a → (ρ : Env) (S : StateSet) → Sub (M .size) (round M t e a ρ S) S → Sub (M .size) (meaning M t e ρ) S
-  mu-is-least = mu-least M t wf
+    pub true-everywhere : kind t e ≡ Kind.TRUE → meaning M t e ρ s ≡ true
+    true-everywhere = by-kind.true-meaning M t wf e ρ s
 
-  -- a nu is the greatest
-  pub nu-is-greatest : (e a : ℕ) → shape t e ≡ fix nu a → (ρ : Env) (S : StateSet) → Sub (M .size) S (round M t e a ρ S) → Sub (M .size) S (meaning M t e ρ)
-  nu-is-greatest = nu-greatest M t wf
+    -- a letter is true where the state has it, its negation elsewhere
+    pub letter-where : kind t e ≡ Kind.LETTER → (meaning M t e ρ s ≡ true) ↔ (M .letter s (entry t e .a) ≡ true)
+    letter-where = by-kind.letter-meaning M t wf e ρ s
+
+    pub negated-where : kind t e ≡ Kind.NEGATED → (meaning M t e ρ s ≡ true) ↔ (M .letter s (entry t e .a) ≡ false)
+    negated-where = by-kind.negated-meaning M t wf e ρ s
+
+    -- A or B where at least one of the two is, A and B where both are
+    pub or-where : kind t e ≡ Kind.OR
+        → (meaning M t e ρ s ≡ true) ↔ ((meaning M t (entry t e .a) ρ s ≡ true) ⊎ (meaning M t (entry t e .b) ρ s ≡ true))
+    or-where = by-kind.or-meaning M t wf e ρ s
+
+    pub and-where : kind t e ≡ Kind.AND
+        → (meaning M t e ρ s ≡ true) ↔ ((meaning M t (entry t e .a) ρ s ≡ true) × (meaning M t (entry t e .b) ρ s ≡ true))
+    and-where = by-kind.and-meaning M t wf e ρ s
+
+    -- a diamond where some successor has its operand true, a box where all have
+    pub diamond-where : kind t e ≡ Kind.DIAMOND
+        → (meaning M t e ρ s ≡ true) ↔ ((u : ℕ) × Successor M s u × (meaning M t (entry t e .a) ρ u ≡ true))
+    diamond-where = by-kind.diamond-meaning M t wf e ρ s
+
+    pub box-where : kind t e ≡ Kind.BOX
+        → (meaning M t e ρ s ≡ true) ↔ ((u : ℕ) → Successor M s u → meaning M t (entry t e .a) ρ u ≡ true)
+    box-where = by-kind.box-meaning M t wf e ρ s
+
+    -- a name is true on the set of states set for its fixpoint
+    pub name-where : kind t e ≡ Kind.NAME → meaning M t e ρ s ≡ ρ (entry t e .a) s
+    name-where = by-kind.name-meaning M t wf e ρ s
+
+  -- a mu is the least set of states that, set for its own name, is also its body's meaning
+  pub mu-is-least : (e : ℕ) (ρ : Env) → kind t e ≡ Kind.MU
+      → SameStates (M .size) (meaning M t e ρ) (round M t e (entry t e .a) ρ (meaning M t e ρ))
+      × ((S : StateSet) → Sub (M .size) (round M t e (entry t e .a) ρ S) S → Sub (M .size) (meaning M t e ρ) S)
+  mu-is-least = by-kind.mu-meaning M t wf
+
+  -- a nu the greatest
+  pub nu-is-greatest : (e : ℕ) (ρ : Env) → kind t e ≡ Kind.NU
+      → SameStates (M .size) (meaning M t e ρ) (round M t e (entry t e .a) ρ (meaning M t e ρ))
+      × ((S : StateSet) → Sub (M .size) S (round M t e (entry t e .a) ρ S) → Sub (M .size) S (meaning M t e ρ))
+  nu-is-greatest = by-kind.nu-meaning M t wf
 
   -- iterated from no state (mu) or all states (nu), it settles within as many rounds as there are states
-  pub settles : (e a : ℕ) (σ : Fix) → shape t e ≡ fix σ a → (ρ : Env)
-      → SameStates (M .size) (iter (round M t e a ρ) (M .size) (start σ)) (iter (round M t e a ρ) (suc (M .size)) (start σ))
-  settles e a σ q ρ = fix-settles M t wf e a σ q ρ
+  pub mu-settles : (e : ℕ) (ρ : Env) → kind t e ≡ Kind.MU → let F = round M t e (entry t e .a) ρ in
+      SameStates (M .size) (iter F (M .size) (start mu)) (iter F (suc (M .size)) (start mu))
+  mu-settles e ρ q = fix-settles M t wf e _ mu (mu-shape t e q) ρ
+
+  pub nu-settles : (e : ℕ) (ρ : Env) → kind t e ≡ Kind.NU → let F = round M t e (entry t e .a) ρ in
+      SameStates (M .size) (iter F (M .size) (start nu)) (iter F (suc (M .size)) (start nu))
+  nu-settles e ρ q = fix-settles M t wf e _ nu (nu-shape t e q) ρ
 
   -- it depends on free names only
   pub free-names-only : (e : ℕ) (ρ σ : Env) → ((x : ℕ) → Free t e x → SameStates (M .size) (ρ x) (σ x)) → SameStates (M .size) (meaning M t e ρ) (meaning M t e σ)
   free-names-only = meaning-local M t wf
+
+  -- an entry by itself has each free name set to that fixpoint's own meaning
+  pub by-itself : (e : ℕ) (ρ : Env) → ((x : ℕ) → Free t e x → SameStates (M .size) (ρ x) (own M t x)) → SameStates (M .size) (own M t e) (meaning M t e ρ)
+  by-itself = by-kind.own-meaning M t wf
+
+-- a file encodes one table and one list of members
+pub one-table : {bytes : List ℕ} {es fs : Table} {ms ns : List ℕ} → ClaimFile bytes es ms → ClaimFile bytes fs ns → (es ≡ fs) × (ms ≡ ns)
+one-table = one-claim
 
 -- the round trips: decoding an encoding gives the records back, encoding what was decoded gives the bytes back
 pub claim-round-trip : (es : Table) (ms : List ℕ) → FitClaim (es, ms) → readClaim (encodeClaim es ms) ≡ good (es, ms)

@@ -204,7 +204,7 @@ module _ (claim model : List ℕ) {w : ClaimRead} {ks₀ ks xs₀ xs ys₀ ys ms
         }
 
 -- 1: the lengths
-module _ (n : ℕ) (claim model ws₀ : List ℕ) where
+module _ (n : ℕ) (claim model ws₀ : List ℕ) (bc : Bytes claim) (bm : Bytes model) where
   lengths : (es : Table) → length es ≡ n → (b : Bool) → (ltb n 256 || ltb (length ws₀) 256) ≡ b
       → evaluating claim model (record { entries = es; words = ws₀ }) ≡ ifLong b (record { entries = es; words = ws₀ }) (afterClaim (readClaim claim) model (record { entries = es; words = ws₀ }))
   unfolding evaluating
@@ -215,6 +215,8 @@ module _ (n : ℕ) (claim model ws₀ : List ℕ) where
   short-right : (ltb n 256 || ltb (length ws₀) 256) ≡ true → {r : Evaluation} → r ≡ refusal 1 0 → EvaluatedFiles n claim model ws₀ r ws₀
   short-right h i = rw i (record {
     stored = (omega arith, omega arith, omega arith);
+    claim-bytes = bc;
+    model-bytes = bm;
     right = λ es e. right-same {t = tableIn claim} refl (lengths es e true h) (right-refused (tableIn claim) es ws₀ 1 0);
   })
 
@@ -227,5 +229,7 @@ module _ (n : ℕ) (claim model ws₀ : List ℕ) where
   pub files-evaluated : 256 ≤ n → 256 ≤ length ws₀ → {r : Evaluation} {ws : List ℕ} → Staged (tableIn claim) (afterClaim (readClaim claim) model) ws₀ r ws → EvaluatedFiles n claim model ws₀ r ws
   files-evaluated h k s = record {
     stored = (s .few, omega (arith, s .few), s .inside);
+    claim-bytes = bc;
+    model-bytes = bm;
     right = λ es e. right-same {t = tableIn claim} refl (lengths es e false (rw (le-ltb n 256 h, le-ltb (length ws₀) 256 k) refl)) (s .right es);
   }

@@ -1,4 +1,4 @@
--- every refusal's number is at least 10, so its packed form is not 0
+-- every refusal's number is at least 1, so its packed form is not 0
 use mathlib.Core.Path.{_≡_, refl}
 use mathlib.Core.List.{List}
 use Prim.Native.Nat.{ℕ, _≤_}
@@ -16,7 +16,12 @@ use Rattle.claims.specs.ClaimDocument.{ClaimStage, at-entry-count, at-entry, at
 use Rattle.proofs.specs.ProofDocument as proofs
 use Rattle.proofs.specs.ProofDocument.{ProofStage, at-node-count, at-node, at-code-count, at-code}
 use Rattle.calculus.specs.Faults as rules
+use Rattle.model.specs.ModelDocument as models
+use Rattle.model.specs.ModelDocument.{StateStage, StateWrong, unfit-map, zero-mask, zero-count, unfit-successor, ModelStage, at-state-count, at-state}
 use Rattle.gate.specs.Earned.{Earned, by-claim, by-table, by-proof, by-rules}
+use Rattle.gate.specs.EvaluationEarned as evaluation
+use Rattle.gate.specs.EvaluationEarned.{EvaluationEarned}
+use Rattle.gate.specs.Slices.{LentWords}
 use Rattle.gate.specs.Check.{verdict}
 use Rattle.gate.specs.CheckExact.{verdict-earned}
 
@@ -36,6 +41,16 @@ proof-wrong t (at-node m p) w n x = omega (arith, unfit-number x)
 proof-wrong t (proofs.at-fields m p r b) w n x = absurd x
 proof-wrong t (at-code-count m p r v) w n x = omega (arith, unfit-number x)
 proof-wrong t (at-code m p r v k cs) w n x = omega (arith, unfit-number x)
+
+state-wrong : {k : ℕ} {σ : StateStage} {w : List ℕ} {n : ℕ} → StateWrong k σ w n → 10 ≤ n
+state-wrong (unfit-map m o k) = omega arith
+state-wrong (zero-mask m l k) = omega arith
+state-wrong (zero-count w f k) = omega arith
+state-wrong (unfit-successor h us u o k) = omega arith
+
+model-wrong : (σ : ModelStage) (w : List ℕ) (n : ℕ) → models.Wrong σ w n → 10 ≤ n
+model-wrong at-state-count w n x = omega (arith, unfit-number x)
+model-wrong (at-state k m σ) w n x = state-wrong x
 
 file-number : {A : Type 0} {opening : List ℕ} {number early : ℕ} {enc : A → List ℕ} {Ok : A → Type 0} {X : Stages} {bytes : List ℕ} {n q : ℕ}
     → 10 ≤ number → 10 ≤ early → ((σ : X .Stage) (w : List ℕ) (n : ℕ) → X .Wrong σ w n → 10 ≤ n)
@@ -64,6 +79,12 @@ earned-number (by-claim e) = file-number (omega arith) (omega arith) claim-wrong
 earned-number (by-table es ms f e) = table-number e
 earned-number (by-proof es ms f w e) = file-number (omega arith) (omega arith) (proof-wrong es) e
 earned-number (by-rules es ms p f w g e) = rules-number e
+
+pub evaluation-number : {claim model : List ℕ} {l : LentWords} {n q : ℕ} → EvaluationEarned claim model l n q → 1 ≤ n
+evaluation-number (evaluation.by-lengths h) = omega arith
+evaluation-number (evaluation.by-claim w e) = omega (arith, file-number (omega arith) (omega arith) claim-wrong e)
+evaluation-number (evaluation.by-table es ms w f e) = omega (arith, table-number e)
+evaluation-number (evaluation.by-model es ms w f k e) = omega (arith, file-number (omega arith) (omega arith) model-wrong e)
 
 -- 0 for accepted, and for nothing else
 pub packed-zero : (claim proof : List ℕ) → Bytes claim → Bytes proof → packed (verdict claim proof) ≡ 0 → verdict claim proof ≡ accepted

@@ -20,7 +20,9 @@ use Rattle.gate.specs.Check.{Checked, unread, decoded, check}
 use Rattle.gate.specs.Present.{presentedBy, ifLong, presenting}
 use Rattle.gate.specs.PresentLaws.{Granted, presented-verdict}
 use Rattle.gate.specs.Correct.{Correct, Irrefutable}
-use Rattle.gate.specs.Demands.{presented-sound, presented-exact}
+use Rattle.gate.specs.Earned.{Earned}
+use Rattle.gate.specs.RefusedAs.{RefusedAs, refused-as}
+use Rattle.gate.specs.Demands.{presented-sound, presented-exact, presented-refused}
 use Rattle.gate.specs.Numbered.{packed-zero}
 use Rattle.gate.specs.PresentStep.{right, PresentedStep}
 
@@ -36,6 +38,8 @@ pub record PresentCall (s : State) (tag : ℕ) (claim proof : List ℕ) (es : Li
   pub holds : r ≡ 0 → s′ ≡ record { phase = 2; tag = tag }
   -- slices long enough, gate open, no permit held: accepted exactly when claim and proof are well formed and keep every rule
   pub exact : stateOf s ≡ opened → short (lentOf es vs cs) ≡ false → (r ≡ 0) ↔ Correct claim proof
+  -- and any other answer is the refusal that they earn
+  pub refuses : stateOf s ≡ opened → short (lentOf es vs cs) ≡ false → RefusedAs (Earned claim proof) r
 
 module _ (tag : ℕ) (claim proof : List ℕ) (bc : Bytes claim) (bp : Bytes proof) (l : Lent) where
   too-short : short l ≡ true → presenting opened tag claim proof l .answer ≡ refused 1 0
@@ -69,14 +73,22 @@ module _ {s : State} {tag : ℕ} {claim proof : List ℕ} {es : List Entry} {vs 
   holds : n .answer ≡ 0 → n .state ≡ record { phase = 2; tag = tag }
   holds z = step .state ∙ rw (accepts z, sound z .0 .holds) refl
 
-  exact : stateOf s ≡ opened → short (lentOf es vs cs) ≡ false → (n .answer ≡ 0) ↔ Correct claim proof
-  exact was-open long =
-      let same : answered ≡ presenting opened tag claim proof (lentOf es vs cs) .answer = ap (λ (g : Gate). presenting g tag claim proof (lentOf es vs cs) .answer) was-open in
-      let right-if = presented-exact claim proof bc bp tag (lentOf es vs cs) long in
-      (λ z. right-if .0 (sym same ∙ accepts z), λ k. step .answer ∙ ap packed (same ∙ right-if .1 k))
+  module _ (was-open : stateOf s ≡ opened) (long : short (lentOf es vs cs) ≡ false) where
+    same : answered ≡ presenting opened tag claim proof (lentOf es vs cs) .answer
+    same = ap (λ (g : Gate). presenting g tag claim proof (lentOf es vs cs) .answer) was-open
+
+    exact : (n .answer ≡ 0) ↔ Correct claim proof
+    exact =
+        let right-if = presented-exact claim proof bc bp tag (lentOf es vs cs) long in
+        (λ z. right-if .0 (sym same ∙ accepts z), λ k. step .answer ∙ ap packed (same ∙ right-if .1 k))
+
+    refuses : RefusedAs (Earned claim proof) (n .answer)
+    refuses =
+        refused-as (presenting opened tag claim proof (lentOf es vs cs) .answer) (λ n q. presented-refused claim proof bc bp tag (lentOf es vs cs) long)
+        (n .answer) (step .answer ∙ ap packed same)
 
   pub present-call : PresentCall s tag claim proof es vs cs (n .answer) (n .state) es′ vs′ cs′
-  present-call = record { answer = step .answer; state = step .state; lent = step .lent; sound = λ z. sound z .1; holds = holds; exact = exact }
+  present-call = record { answer = step .answer; state = step .state; lent = step .lent; sound = λ z. sound z .1; holds = holds; exact = exact; refuses = refuses }
 
 -- ---- the numbers that are left stand for the state that the definition leaves, with a refusal too
 module _ (s : State) (tag : ℕ) (claim proof : List ℕ) (l : Lent) where

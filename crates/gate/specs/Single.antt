@@ -6,8 +6,10 @@ use Prim.Native.Nat.{ℕ}
 use Rattle.verdict.specs.Verdict.{packed}
 use Rattle.encoding.specs.Encode.{Bytes}
 use Rattle.gate.specs.Correct.{Correct, Irrefutable}
+use Rattle.gate.specs.Earned.{Earned}
+use Rattle.gate.specs.RefusedAs.{RefusedAs, refused-as}
 use Rattle.gate.specs.Check.{verdict}
-use Rattle.gate.specs.Demands.{accepted-sound, accepted-exact}
+use Rattle.gate.specs.Demands.{accepted-sound, accepted-exact, refused-exact}
 use Rattle.gate.specs.Numbered.{packed-zero}
 
 pub record SingleCheck (claim proof : List ℕ) (r : ℕ) : Type 0 where
@@ -17,6 +19,8 @@ pub record SingleCheck (claim proof : List ℕ) (r : ℕ) : Type 0 where
   pub sound : r ≡ 0 → Irrefutable claim
   -- accepted exactly when claim and proof are well formed and keep every rule
   pub exact : (r ≡ 0) ↔ Correct claim proof
+  -- any other answer is the refusal that they earn, and what they earn is answered
+  pub refuses : RefusedAs (Earned claim proof) r
 
 pub single : (claim proof : List ℕ) → Bytes claim → Bytes proof → (r : ℕ) → r ≡ packed (verdict claim proof) → SingleCheck claim proof r
 single claim proof bc bp r h = record {
@@ -26,4 +30,5 @@ single claim proof bc bp r h = record {
     λ z. accepted-exact claim proof bc bp .0 (packed-zero claim proof bc bp (rw h at z)),
     λ k. rw (h, accepted-exact claim proof bc bp .1 k) refl,
   );
+  refuses = refused-as (verdict claim proof) (λ n q. refused-exact claim proof bc bp) r h;
 }

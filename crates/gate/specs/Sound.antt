@@ -11,6 +11,8 @@ use Rattle.formula.specs.Codes.{entryOf}
 use Rattle.formula.specs.Nodes.{node}
 use Rattle.meaning.specs.States.{Model}
 use Rattle.meaning.specs.Meaning.{own}
+use Rattle.claims.specs.ClaimFile.{ClaimFile}
+use Rattle.claims.specs.ClaimExact.{one-claim}
 use Rattle.proofs.specs.ProofRecords.{node-count}
 use Rattle.calculus.specs.Sequents.{sequent}
 use Rattle.calculus.specs.CorrectNodes as rules
@@ -63,6 +65,12 @@ module _ {claim proof : List ℕ} (k : Correct claim proof) where
     entries = k .entries;
     members = k .members;
     claim-file = k .claim-file;
+    formed = k .formed;
     some-true = λ M s h. member-true M s h;
     none-refutes = λ M s h f. none-refutes M s h f;
   }
+
+-- of whatever table the file encodes: there is one only
+pub irrefutable-true : {claim : List ℕ} → Irrefutable claim → (es : Table) (ms : List ℕ) → ClaimFile claim es ms
+    → (M : Model) (s : ℕ) → s < M .size → (e : ℕ) × elements ms e × (own M es e s ≡ true)
+irrefutable-true k es ms f = let (p, q) = one-claim (k .claim-file) f in rw (← p, ← q) (k .some-true)

@@ -7,9 +7,7 @@ use native.Mathlib.Omega.{arith}
 use Rattle.verdict.specs.Tells.{Tells, and-tells, or-tells, if-tells}
 use Rattle.formula.specs.Kind
 use Rattle.formula.specs.Table.{Table, entry, kind}
-use Rattle.formula.specs.Shape.{Shape, shape, box, nu}
-use Rattle.calculus.specs.Falsity.{diamond}
-use Rattle.calculus.specs.Rules.{mu}
+use Rattle.formula.specs.Shape.{Shape, shape, diamond, box, mu, nu}
 use Rattle.formula.specs.ShapeLaws.{false-shape, true-shape, letter-shape, negated-shape, or-shape, and-shape, diamond-shape, box-shape, mu-shape, nu-shape, name-shape}
 use Rattle.conditions.specs.Free.{Free}
 use Rattle.conditions.specs.WellFormed.{WellFormed}

@@ -1,0 +1,62 @@
+-- claims that are not irrefutable: mu of box, and false alone, by a model of one state with itself as successor
+use mathlib.Core.Path.{_≡_, refl, sym, _∙_, subst}
+use mathlib.Core.Logic.{⊎-elim}
+use mathlib.Core.List.{List, [], _∷_, List·Memᴰ, List·Memᴰ·cases-cons, List·Memᴰ·not-nil}
+use mathlib.Core.Bool.{true, false, true≢false}
+use Prim.Native.Nat.{ℕ}
+use native.Mathlib.Omega.{arith}
+use Rattle.encoding.specs.File.{good}
+use Rattle.formula.specs.Kind
+use Rattle.formula.specs.Table.{Table}
+use Rattle.formula.specs.Shape.{shape}
+use Rattle.meaning.specs.Truth.{every}
+use Rattle.meaning.specs.Chain.{iter}
+use Rattle.formula.specs.Below.{recur}
+use Rattle.meaning.specs.States.{Model, leafSet, stepSet, start}
+use Rattle.meaning.specs.Meaning.{put, meaning, owns, own}
+use Rattle.claims.specs.ReadClaim.{readClaim}
+use Rattle.claims.specs.ClaimExact.{claim-good}
+use Rattle.gate.specs.Correct.{Refutes, Irrefutable}
+
+-- the name of entry 2, its box, and the mu; member 2
+abbrev pub muOfBox : List ℕ
+muOfBox = 0x43 ∷ 0x4C ∷ 0x4D ∷ 0x31 ∷ 3 ∷ 0 ∷ 1 ∷ 10 ∷ 2 ∷ 0 ∷ 1 ∷ 7 ∷ 0 ∷ 0 ∷ 1 ∷ 8 ∷ 1 ∷ 0 ∷ 1 ∷ 0 ∷ 2 ∷ 0 ∷ []
+
+-- false, and member 0
+abbrev pub falseAlone : List ℕ
+falseAlone = 0x43 ∷ 0x4C ∷ 0x4D ∷ 0x31 ∷ 1 ∷ 0 ∷ 0 ∷ 0 ∷ 1 ∷ 0 ∷ 0 ∷ 0 ∷ []
+
+-- one state, itself as successor
+abbrev pub circle : Model
+circle = record { size = 1; letter = λ s p. false; succ = λ s u. true }
+
+abbrev muTable : Table
+muTable = record { kind = Kind.NAME; a = 2; b = 0 } ∷ record { kind = Kind.BOX; a = 0; b = 0 } ∷ record { kind = Kind.MU; a = 1; b = 0 } ∷ []
+
+abbrev falseTable : Table
+falseTable = record { kind = Kind.FALSE; a = 0; b = 0 } ∷ []
+
+-- what the file of an irrefutable claim decodes to has no member that is false on the circle
+module _ {claim : List ℕ} {t : Table} {e : ℕ} (read : readClaim claim ≡ good (t, e ∷ [])) (fails : own circle t e 0 ≡ false) (k : Irrefutable claim) where
+  refutes : Refutes circle (k .entries) 0 (k .members)
+  refutes =
+      let same : _≡_ {A = Table × List ℕ} (t, e ∷ []) (k .entries, k .members) = inside (sym read ∙ claim-good (k .claim-file)) in
+      subst (λ (c : Table × List ℕ). Refutes circle (c .0) 0 (c .1)) same
+      (λ c m. ⊎-elim (λ (q : c ≡ e). rw q fails) (λ (n : List·Memᴰ c []). absurd (List·Memᴰ·not-nil n)) (List·Memᴰ·cases-cons m))
+    where
+      inside : {c d : Table × List ℕ} → good c ≡ good d → c ≡ d
+      inside h = cc
+
+  no-member-true : ⊥
+  no-member-true = let (c, m, q) = k .some-true circle 0 (omega arith) in true≢false (sym q ∙ refutes c m)
+
+  no-state-refutes : ⊥
+  no-state-refutes = k .none-refutes circle 0 (omega arith) refutes
+
+pub mu-of-box-refuted : Irrefutable muOfBox → ⊥
+unfolding readClaim own owns meaning put recur iter start stepSet every shape
+mu-of-box-refuted = no-member-true {t = muTable} {e = 2} refl refl
+
+pub false-refuted : Irrefutable falseAlone → ⊥
+unfolding readClaim own owns meaning put recur start leafSet shape
+false-refuted = no-state-refutes {t = falseTable} {e = 0} refl refl
