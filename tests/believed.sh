@@ -19,7 +19,7 @@ case "${1:-}" in
     --names) list=1 ;;
     *) echo 'believed: no option but --names' >&2; exit 2 ;;
 esac
-roots='crates/gate/specs/Correct.antt:Correct crates/gate/specs/Correct.antt:Irrefutable crates/gate/specs/Earned.antt:Earned'
+roots='crates/demands/specs/Correct.antt:Correct crates/demands/specs/Correct.antt:Irrefutable crates/demands/specs/Earned.antt:Earned'
 
 find crates -path '*/specs/*.antt' -o -path '*/src/*.rt' | sort | xargs awk -f tests/definitions.awk |
     awk -F '\t' -v list="$list" -v roots="$roots" '

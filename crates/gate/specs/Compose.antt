@@ -44,9 +44,9 @@ use Rattle.calculus.specs.Given.{Given}
 use Rattle.calculus.specs.Judge.{judge}
 use Rattle.sequents.specs.Placed.{Members}
 use Rattle.rules.specs.JudgeStages.{Laid}
-use Rattle.gate.specs.Check.{Checked, afterProof, afterTable, answer, verdict}
-use Rattle.gate.specs.CheckLaws.{past-claim, check-claim, verdict-unread}
-use Rattle.gate.specs.CheckExact.{given}
+use Rattle.demands.specs.Check.{Checked, afterProof, afterTable, answer, verdict}
+use Rattle.demands.specs.CheckLaws.{past-claim, check-claim, verdict-unread}
+use Rattle.demands.specs.CheckExact.{given}
 
 -- a lent slice of bytes is a byte string
 pub lent-bytes : (s : List ℕ) → ((i : ℕ) → Fits w8 (getD s i 0)) → Bytes s

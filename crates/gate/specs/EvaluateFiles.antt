@@ -12,13 +12,13 @@ use Rattle.formula.specs.Table.{Table}
 use Rattle.reader.specs.Files.{tableIn}
 use Rattle.records.specs.Records.{shownEntry, shownEntries}
 use Rattle.records.specs.declared.Entry.{Entry}
-use Rattle.gate.specs.Slices.{LentWords}
+use Rattle.demands.specs.Slices.{LentWords}
 use Rattle.gate.specs.LentSlices.{lentWordsOf}
-use Rattle.gate.specs.Evaluate.{Evaluated, evaluating}
-use Rattle.gate.specs.EvaluationEarned.{EvaluationEarned, Evaluable}
-use Rattle.gate.specs.EvaluateExact as exactly
-use Rattle.gate.specs.RefusedAs.{RefusedAs, refused-as, zero-accepts}
-use Rattle.gate.specs.Numbered.{evaluation-number}
+use Rattle.demands.specs.Evaluate.{Evaluated, evaluating}
+use Rattle.demands.specs.EvaluationEarned.{EvaluationEarned, Evaluable}
+use Rattle.demands.specs.EvaluateExact as exactly
+use Rattle.demands.specs.RefusedAs.{RefusedAs, refused-as, zero-accepts}
+use Rattle.demands.specs.Numbered.{evaluation-number}
 use Rattle.gate.specs.declared.evaluate.Evaluation.{Evaluation}
 
 -- the answer, the words as they are left, and of the table t so many entries as are to be stored over es: what x says

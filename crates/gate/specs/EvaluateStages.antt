@@ -36,8 +36,8 @@ use Rattle.model.specs.Decoded.{GoodModel, statesOf, good-states, maskTable}
 use Rattle.states.specs.Words.{words}
 use Rattle.states.specs.PlainModel.{plainModel, wordsIn, plain-described}
 use Rattle.evaluator.specs.Claim.{Given}
-use Rattle.gate.specs.Slices.{LentWords}
-use Rattle.gate.specs.Evaluate.{Evaluated, unevaluated, afterModel, afterTable, afterClaim, ifLong, evaluating}
+use Rattle.demands.specs.Slices.{LentWords}
+use Rattle.demands.specs.Evaluate.{Evaluated, unevaluated, afterModel, afterTable, afterClaim, ifLong, evaluating}
 use Rattle.reader.specs.Files.{tableRead, tableIn}
 use Rattle.gate.specs.EvaluateFiles.{Right, EvaluatedFiles, Staged, refusal}
 use Rattle.gate.specs.declared.evaluate.Evaluation.{Evaluation}

@@ -5,7 +5,7 @@ use Prim.Native.Nat.{ℕ}
 use Rattle.records.specs.Records.{shownEntries, shownNodes}
 use Rattle.records.specs.declared.Entry.{Entry}
 use Rattle.records.specs.declared.Node.{Node}
-use Rattle.gate.specs.Slices.{Lent, LentWords}
+use Rattle.demands.specs.Slices.{Lent, LentWords}
 
 -- the slices of presenting
 abbrev pub lentOf : List Entry → List Node → List ℕ → Lent

@@ -14,16 +14,16 @@ use Rattle.permit.specs.Plain.{stateOf, leftBy}
 use Rattle.permit.specs.LentState.{plain-reads}
 use Rattle.permit.specs.declared.State.{State}
 use Rattle.permit.specs.declared.numbered.Numbered.{Numbered}
-use Rattle.gate.specs.Slices.{Lent, short}
+use Rattle.demands.specs.Slices.{Lent, short}
 use Rattle.gate.specs.LentSlices.{lentOf}
-use Rattle.gate.specs.Check.{Checked, unread, decoded, check}
-use Rattle.gate.specs.Present.{presentedBy, ifLong, presenting}
-use Rattle.gate.specs.PresentLaws.{Granted, presented-verdict}
-use Rattle.gate.specs.Correct.{Correct, Irrefutable}
-use Rattle.gate.specs.Earned.{Earned}
-use Rattle.gate.specs.RefusedAs.{RefusedAs, refused-as}
-use Rattle.gate.specs.Demands.{presented-sound, presented-exact, presented-refused}
-use Rattle.gate.specs.Numbered.{packed-zero}
+use Rattle.demands.specs.Check.{Checked, unread, decoded, check}
+use Rattle.demands.specs.Present.{presentedBy, ifLong, presenting}
+use Rattle.demands.specs.PresentLaws.{Granted, presented-verdict}
+use Rattle.demands.specs.Correct.{Correct, Irrefutable}
+use Rattle.demands.specs.Earned.{Earned}
+use Rattle.demands.specs.RefusedAs.{RefusedAs, refused-as}
+use Rattle.demands.specs.Demands.{presented-sound, presented-exact, presented-refused}
+use Rattle.demands.specs.Numbered.{packed-zero}
 use Rattle.gate.specs.PresentStep.{right, PresentedStep}
 
 -- the promise of presenting: PresentedStep's three, and demand 3

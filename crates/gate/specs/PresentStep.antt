@@ -41,11 +41,11 @@ use Rattle.permit.specs.Plain.{stateOf, leftBy}
 use Rattle.permit.specs.PresentStages.{standsBefore, settledState, Settled}
 use Rattle.permit.specs.declared.State.{State}
 use Rattle.permit.specs.declared.numbered.Numbered.{Numbered}
-use Rattle.gate.specs.Slices.{short, decodedInto}
+use Rattle.demands.specs.Slices.{short, decodedInto}
 use Rattle.gate.specs.LentSlices.{lentOf}
-use Rattle.gate.specs.Check as checks
-use Rattle.gate.specs.Check.{Checked, check}
-use Rattle.gate.specs.Present.{Presented, held, presentedBy, ifLong, presenting}
+use Rattle.demands.specs.Check as checks
+use Rattle.demands.specs.Check.{Checked, check}
+use Rattle.demands.specs.Present.{Presented, held, presentedBy, ifLong, presenting}
 
 module _ (s : State) (tag : ℕ) (claim proof : List ℕ) (es : List Entry) (vs : List Node) (cs : List ℕ) where
   -- what presenting to the state s answers and leaves

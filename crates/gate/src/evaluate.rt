@@ -7,7 +7,7 @@ ghost use Rattle.conditions.specs.Judge.{judgeTable};
 ghost use Rattle.claims.specs.ReadClaim.{readClaim};
 ghost use Rattle.model.specs.ReadModel.{readModel};
 ghost use Rattle.evaluator.specs.Claim.{Given};
-ghost use Rattle.gate.specs.Evaluate.{afterModel, afterTable, afterClaim};
+ghost use Rattle.demands.specs.Evaluate.{afterModel, afterTable, afterClaim};
 ghost use Rattle.reader.specs.Files.{tableIn};
 ghost use Rattle.gate.specs.EvaluateFiles.{EvaluatedFiles, EvaluateCall, Staged, refusal};
 ghost use Rattle.gate.specs.EvaluateStages.{TableHeld};

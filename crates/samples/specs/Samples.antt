@@ -6,10 +6,10 @@ use lib.ListN.{take, replicate}
 use Rattle.verdict.specs.Verdict.{Verdict, accepted, refused}
 use Rattle.formula.specs.Table.{blank}
 use Rattle.permit.specs.GateState.{Gate, start, opening, Permit, granted, denied, taking}
-use Rattle.gate.specs.Slices.{Lent, LentWords}
-use Rattle.gate.specs.Check.{verdict}
-use Rattle.gate.specs.Present.{presenting}
-use Rattle.gate.specs.Evaluate.{evaluating}
+use Rattle.demands.specs.Slices.{Lent, LentWords}
+use Rattle.demands.specs.Check.{verdict}
+use Rattle.demands.specs.Present.{presenting}
+use Rattle.demands.specs.Evaluate.{evaluating}
 use Rattle.samples.specs.Files.{nuBox, muBox, loopOfNu, loopOfMu, loopOfMuWithF, loopOfFocusedMu, boxBesideBox, twoBoxes, emptyLoop, orOfLetters, orThenAx1, muOfOwnName, diamondAbove, noSuccessor, ownSuccessor}
 use Rattle.samples.specs.NearMisses.{nuOfBoxOrLetter, letterDropped, letterUnfocused, nuOfBoxOrMu, letterFocused, nuOfBoxTwice}
 use Rattle.samples.specs.NearMisses.{goodLoopThenBad, loopOutOfFocus, loopFocusedOnce, loopWithoutD}

@@ -8,8 +8,8 @@ use Rattle.formula.specs.Plain.{tableOf}
 use Rattle.conditions.specs.Judge.{judgeTable}
 use Rattle.conditions.specs.JudgeExact.{judge-accepts}
 use Rattle.model.specs.ReadModel.{readModel}
-use Rattle.gate.specs.Slices.{LentWords}
-use Rattle.gate.specs.Evaluate.{Evaluated, afterModel}
+use Rattle.demands.specs.Slices.{LentWords}
+use Rattle.demands.specs.Evaluate.{Evaluated, afterModel}
 use Rattle.gate.specs.EvaluateStages.{staged-same, staged-refused, table-refused, table-accepted, table-given}
 use Rattle.gate.proofs.evaluate.after_table.Statement.{statement}
 use Rattle.gate.proofs.evaluate.after_table.Tie as tie

@@ -33,18 +33,18 @@ use Rattle.proofs.specs.ProofExact.{proof-decodes, proof-encodes}
 use Rattle.calculus.specs.Sequents.{sequent}
 use Rattle.model.specs.Described.{modelOf}
 use Rattle.permit.specs.GateState.{Gate, opened}
-use Rattle.gate.specs.Slices.{Lent, short, LentWords}
-use Rattle.gate.specs.Check.{verdict}
-use Rattle.gate.specs.Present.{presenting}
-use Rattle.gate.specs.PresentLaws.{Granted, presented-verdict, presented-granted}
-use Rattle.gate.specs.Evaluate.{evaluating}
-use Rattle.gate.specs.Correct.{Correct, Irrefutable}
-use Rattle.gate.specs.Earned.{Earned}
-use Rattle.gate.specs.EvaluationEarned.{EvaluationEarned, Evaluable}
-use Rattle.gate.specs.CheckExact as check
-use Rattle.gate.specs.EvaluateExact as evaluation
-use Rattle.gate.specs.Sound as soundness
-use Rattle.gate.specs.Refutable.{muOfBox, falseAlone, mu-of-box-refuted, false-refuted}
+use Rattle.demands.specs.Slices.{Lent, short, LentWords}
+use Rattle.demands.specs.Check.{verdict}
+use Rattle.demands.specs.Present.{presenting}
+use Rattle.demands.specs.PresentLaws.{Granted, presented-verdict, presented-granted}
+use Rattle.demands.specs.Evaluate.{evaluating}
+use Rattle.demands.specs.Correct.{Correct, Irrefutable}
+use Rattle.demands.specs.Earned.{Earned}
+use Rattle.demands.specs.EvaluationEarned.{EvaluationEarned, Evaluable}
+use Rattle.demands.specs.CheckExact as check
+use Rattle.demands.specs.EvaluateExact as evaluation
+use Rattle.demands.specs.Sound as soundness
+use Rattle.demands.specs.Refutable.{muOfBox, falseAlone, mu-of-box-refuted, false-refuted}
 
 module _ (claim proof : List ℕ) (bc : Bytes claim) (bp : Bytes proof) where
   -- 3, first half: what is accepted is irrefutable in every finite model, of any number of states

@@ -4,8 +4,8 @@ use mathlib.Core.Bool.{Bool, true, false}
 use Prim.Native.Nat.{ℕ}
 use Rattle.verdict.specs.Verdict.{Verdict, accepted, refused}
 use Rattle.permit.specs.GateState.{Gate, closed, opened, holding}
-use Rattle.gate.specs.Slices.{Lent, short, decodedInto}
-use Rattle.gate.specs.Check.{Checked, unread, decoded, check}
+use Rattle.demands.specs.Slices.{Lent, short, decodedInto}
+use Rattle.demands.specs.Check.{Checked, unread, decoded, check}
 
 pub record Presented : Type 0 where
   pub answer : Verdict

@@ -21,9 +21,9 @@ use Rattle.proofs.specs.ReadProof.{readProof}
 use Rattle.proofs.specs.ProofExact.{good-proof}
 use Rattle.proofs.specs.ProofFaults.{proof-earned}
 use Rattle.calculus.specs.Judge.{judge}
-use Rattle.gate.specs.Check.{check, unread, decoded}
-use Rattle.gate.specs.CheckLaws.{check-claim, check-table, check-proof, check-rules}
-use Rattle.gate.specs.Earned.{Earned, by-claim, by-table, by-proof}
+use Rattle.demands.specs.Check.{check, unread, decoded}
+use Rattle.demands.specs.CheckLaws.{check-claim, check-table, check-proof, check-rules}
+use Rattle.demands.specs.Earned.{Earned, by-claim, by-table, by-proof}
 
 -- refused by its bytes or its table, or decoded: then the rules decide
 pub data CheckFound (claim proof : List ℕ) : Type 0 where

@@ -16,7 +16,7 @@ use Rattle.meaning.specs.States.{Model, leafSet, stepSet, start}
 use Rattle.meaning.specs.Meaning.{put, meaning, owns, own}
 use Rattle.claims.specs.ReadClaim.{readClaim}
 use Rattle.claims.specs.ClaimExact.{claim-good}
-use Rattle.gate.specs.Correct.{Refutes, Irrefutable}
+use Rattle.demands.specs.Correct.{Refutes, Irrefutable}
 
 -- the name of entry 2, its box, and the mu; member 2
 abbrev pub muOfBox : List ℕ

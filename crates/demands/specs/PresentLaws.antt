@@ -6,9 +6,9 @@ use Prim.Native.Nat.{ℕ}
 use Rattle.verdict.specs.Verdict.{accepted, refused}
 use Rattle.verdict.specs.VerdictLaws.{accepted-not-refused}
 use Rattle.permit.specs.GateState.{Gate, closed, opened, holding}
-use Rattle.gate.specs.Slices.{Lent, short}
-use Rattle.gate.specs.Check.{Checked, unread, decoded, check, answer, verdict}
-use Rattle.gate.specs.Present.{presentedBy, ifLong, presenting}
+use Rattle.demands.specs.Slices.{Lent, short}
+use Rattle.demands.specs.Check.{Checked, unread, decoded, check, answer, verdict}
+use Rattle.demands.specs.Present.{presentedBy, ifLong, presenting}
 
 module _ (tag : ℕ) (claim proof : List ℕ) (l : Lent) where
   -- a check's answer is presenting's, where nothing stands before it

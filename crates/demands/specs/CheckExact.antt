@@ -19,11 +19,11 @@ use Rattle.proofs.specs.ProofRecords.{codes-rise, code-formula}
 use Rattle.calculus.specs.Given.{Given}
 use Rattle.calculus.specs.JudgeExact.{accepted-correct, correct-accepted}
 use Rattle.calculus.specs.FaultLaws.{refused-earned, earned-refused}
-use Rattle.gate.specs.Correct.{Correct}
-use Rattle.gate.specs.Check.{verdict}
-use Rattle.gate.specs.CheckLaws.{check-claim, check-table, check-proof, check-rules, verdict-unread, verdict-decoded}
-use Rattle.gate.specs.Earned.{Earned, by-claim, by-table, by-proof, by-rules}
-use Rattle.gate.specs.CheckFound.{CheckFound, ill-formed, well-read, found}
+use Rattle.demands.specs.Correct.{Correct}
+use Rattle.demands.specs.Check.{verdict}
+use Rattle.demands.specs.CheckLaws.{check-claim, check-table, check-proof, check-rules, verdict-unread, verdict-decoded}
+use Rattle.demands.specs.Earned.{Earned, by-claim, by-table, by-proof, by-rules}
+use Rattle.demands.specs.CheckFound.{CheckFound, ill-formed, well-read, found}
 
 -- what the rules are given by a proof file
 pub given : {es : Table} {proof : List ℕ} {p : Proof} → ProofFile es proof p → Given es p

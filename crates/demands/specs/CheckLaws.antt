@@ -11,7 +11,7 @@ use Rattle.conditions.specs.Judge.{judgeTable}
 use Rattle.claims.specs.ReadClaim.{readClaim}
 use Rattle.proofs.specs.ReadProof.{readProof}
 use Rattle.calculus.specs.Judge.{judge}
-use Rattle.gate.specs.Check.{unread, decoded, afterProof, afterTable, afterClaim, check, answer, verdict}
+use Rattle.demands.specs.Check.{unread, decoded, afterProof, afterTable, afterClaim, check, answer, verdict}
 
 module _ (claim proof : List ℕ) where
   pub check-claim : {n q : ℕ} → readClaim claim ≡ refused n q → check claim proof ≡ unread n q

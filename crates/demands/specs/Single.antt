@@ -5,12 +5,12 @@ use mathlib.Core.List.{List}
 use Prim.Native.Nat.{ℕ}
 use Rattle.verdict.specs.Verdict.{packed}
 use Rattle.encoding.specs.Encode.{Bytes}
-use Rattle.gate.specs.Correct.{Correct, Irrefutable}
-use Rattle.gate.specs.Earned.{Earned}
-use Rattle.gate.specs.RefusedAs.{RefusedAs, refused-as}
-use Rattle.gate.specs.Check.{verdict}
-use Rattle.gate.specs.Demands.{accepted-sound, accepted-exact, refused-exact}
-use Rattle.gate.specs.Numbered.{packed-zero}
+use Rattle.demands.specs.Correct.{Correct, Irrefutable}
+use Rattle.demands.specs.Earned.{Earned}
+use Rattle.demands.specs.RefusedAs.{RefusedAs, refused-as}
+use Rattle.demands.specs.Check.{verdict}
+use Rattle.demands.specs.Demands.{accepted-sound, accepted-exact, refused-exact}
+use Rattle.demands.specs.Numbered.{packed-zero}
 
 pub record SingleCheck (claim proof : List ℕ) (r : ℕ) : Type 0 where
   -- 0 for accepted, or refusal × 65,536 + place, of the first fault in document 01's order

@@ -19,8 +19,8 @@ use Rattle.calculus.specs.CorrectNodes as rules
 use Rattle.calculus.specs.Falsity.{Falsity}
 use Rattle.calculus.specs.Kripke.{kripke}
 use Rattle.calculus.specs.Sound.{claim-not-refuted, no-node-refuted}
-use Rattle.gate.specs.Correct.{Correct, Refutes, Irrefutable}
-use Rattle.gate.specs.CheckExact.{given}
+use Rattle.demands.specs.Correct.{Correct, Refutes, Irrefutable}
+use Rattle.demands.specs.CheckExact.{given}
 
 -- a finite search: no element is true, or some is
 all-or-some : (A : ℕ → Bool) (l : List ℕ) → (elements l ⊆ (λ e. A e ≡ false)) ⊎ ((e : ℕ) × elements l e × (A e ≡ true))

@@ -13,7 +13,7 @@ use Rattle.model.specs.ModelFile.{State}
 use Rattle.model.specs.Described.{modelOf}
 use Rattle.model.specs.ReadModel.{readModel}
 use Rattle.states.specs.Words.{words}
-use Rattle.gate.specs.Slices.{LentWords, shortWords}
+use Rattle.demands.specs.Slices.{LentWords, shortWords}
 
 pub record Evaluated : Type 0 where
   pub answer : Verdict

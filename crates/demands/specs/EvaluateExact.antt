@@ -29,9 +29,9 @@ use Rattle.model.specs.ModelExact.{model-good, good-model}
 use Rattle.model.specs.ModelFaults.{model-refused, model-earned}
 use Rattle.states.specs.Words.{word, words}
 use Rattle.states.specs.WordLaws.{words-length, words-at, word-inside, word-past}
-use Rattle.gate.specs.Slices.{LentWords, shortWords}
-use Rattle.gate.specs.Evaluate.{Evaluated, unevaluated, afterModel, afterTable, afterClaim, ifLong, evaluating}
-use Rattle.gate.specs.EvaluationEarned.{Short, Long, EvaluationEarned, by-lengths, by-claim, by-table, by-model, Evaluable}
+use Rattle.demands.specs.Slices.{LentWords, shortWords}
+use Rattle.demands.specs.Evaluate.{Evaluated, unevaluated, afterModel, afterTable, afterClaim, ifLong, evaluating}
+use Rattle.demands.specs.EvaluationEarned.{Short, Long, EvaluationEarned, by-lengths, by-claim, by-table, by-model, Evaluable}
 
 short-tells : (l : LentWords) → Tells (shortWords l) (Short l)
 short-tells l = or-tells (ltb-tells (length (l .entries)) 256) (ltb-tells (length (l .words)) 256)

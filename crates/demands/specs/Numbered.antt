@@ -18,12 +18,12 @@ use Rattle.proofs.specs.ProofDocument.{ProofStage, at-node-count, at-node, at-c
 use Rattle.calculus.specs.Faults as rules
 use Rattle.model.specs.ModelDocument as models
 use Rattle.model.specs.ModelDocument.{StateStage, StateWrong, unfit-map, zero-mask, zero-count, unfit-successor, ModelStage, at-state-count, at-state}
-use Rattle.gate.specs.Earned.{Earned, by-claim, by-table, by-proof, by-rules}
-use Rattle.gate.specs.EvaluationEarned as evaluation
-use Rattle.gate.specs.EvaluationEarned.{EvaluationEarned}
-use Rattle.gate.specs.Slices.{LentWords}
-use Rattle.gate.specs.Check.{verdict}
-use Rattle.gate.specs.CheckExact.{verdict-earned}
+use Rattle.demands.specs.Earned.{Earned, by-claim, by-table, by-proof, by-rules}
+use Rattle.demands.specs.EvaluationEarned as evaluation
+use Rattle.demands.specs.EvaluationEarned.{EvaluationEarned}
+use Rattle.demands.specs.Slices.{LentWords}
+use Rattle.demands.specs.Check.{verdict}
+use Rattle.demands.specs.CheckExact.{verdict-earned}
 
 unfit-number : {A : Type 0} {e : A → List ℕ} {P Q : A → Type 0} {k n : ℕ} {w : List ℕ} → Unfit e P Q k w n → n ≡ k
 unfit-number (unfit x p q) = refl

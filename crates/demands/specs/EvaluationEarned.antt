@@ -10,7 +10,7 @@ use Rattle.claims.specs.ClaimFile.{ClaimFile}
 use Rattle.claims.specs.ClaimDocument.{ClaimEarns}
 use Rattle.model.specs.ModelFile.{State, ModelFile}
 use Rattle.model.specs.ModelDocument.{ModelEarns}
-use Rattle.gate.specs.Slices.{LentWords}
+use Rattle.demands.specs.Slices.{LentWords}
 
 -- "slices are long enough": none that the call takes is under its length in refusal 1
 abbrev pub Short : LentWords → Type 0

@@ -1,0 +1,23 @@
+-- what each call answers and leaves
+pub mod Slices
+pub mod Check
+pub mod Present
+pub mod Evaluate
+-- what is right of the files
+pub mod Correct
+pub mod Earned
+pub mod EvaluationEarned
+-- the two agree, and what is accepted is sound
+pub mod CheckLaws
+pub mod CheckFound
+pub mod CheckExact
+pub mod EvaluateExact
+pub mod Sound
+pub mod Refutable
+pub mod PresentLaws
+-- the page
+pub mod Demands
+-- answers as numbers
+pub mod Numbered
+pub mod RefusedAs
+pub mod Single
