@@ -141,7 +141,8 @@ fn store_entries(
 ) -> Part
     requires { ⌜ EntryArrays (now kinds) (now a) (now b) ⌝ }
     requires { ⌜ (InFile (now bytes) 6 from) × (count ≤ 256) ⌝ }
-    ensures { λ r. ⌜ PartTells (now (bytes .entry)) (from + 6 * count) 256 (entriesFrom count (now (bytes .entry)) from) (EntriesStored (now (kinds .entry)) (now (kinds .exit)) (now (a .entry)) (now (a .exit)) (now (b .entry)) (now (b .exit))) r ⌝ }
+    ensures { λ r. ⌜ PartTells (now (bytes .entry)) (from + 6 * count) 256 (entriesFrom count (now (bytes .entry)) from)
+        (EntriesStored (now (kinds .entry)) (now (kinds .exit)) (now (a .entry)) (now (a .exit)) (now (b .entry)) (now (b .exit))) r ⌝ }
 {
     let mut at = from;
     let mut i = 0;
@@ -169,7 +170,8 @@ fn store_entries(
 fn read_entries(bytes: &[u8], kinds: &mut [u8; 256], a: &mut [u16; 256], b: &mut [u16; 256]) -> Part
     requires { ⌜ EntryArrays (now kinds) (now a) (now b) ⌝ }
     requires { ⌜ 4 ≤ length (now bytes) ⌝ }
-    ensures { λ r. ⌜ PartTells (now (bytes .entry)) 1542 256 (entriesAt (now (bytes .entry)) 4) (EntriesStored (now (kinds .entry)) (now (kinds .exit)) (now (a .entry)) (now (a .exit)) (now (b .entry)) (now (b .exit))) r ⌝ }
+    ensures { λ r. ⌜ PartTells (now (bytes .entry)) 1542 256 (entriesAt (now (bytes .entry)) 4)
+        (EntriesStored (now (kinds .entry)) (now (kinds .exit)) (now (a .entry)) (now (a .exit)) (now (b .entry)) (now (b .exit))) r ⌝ }
 {
     match count_at(bytes, 4, 256, ClaimFault::COUNT, ClaimFault::LENGTH) {
         Number::Refused { number, place } => Part::Refused { number, place },
@@ -221,7 +223,8 @@ fn store_members(
 ) -> Part
     requires { ⌜ (length (now members) ≡ 24) × (entries ≤ 256) ⌝ }
     requires { ⌜ (InFile (now bytes) 1544 from) × (count ≤ 24) ⌝ }
-    ensures { λ r. ⌜ PartTells (now (bytes .entry)) (from + 2 * count) 24 (membersFrom (now (kinds .entry)) entries count (now (bytes .entry)) from) (MembersStored (now (members .entry)) (now (members .exit))) r ⌝ }
+    ensures { λ r. ⌜ PartTells (now (bytes .entry)) (from + 2 * count) 24 (membersFrom (now (kinds .entry)) entries count (now (bytes .entry)) from)
+        (MembersStored (now (members .entry)) (now (members .exit))) r ⌝ }
 {
     let mut at = from;
     let mut floor = 0;
@@ -250,7 +253,8 @@ fn read_members(
 ) -> Part
     requires { ⌜ (length (now members) ≡ 24) × (entries ≤ 256) ⌝ }
     requires { ⌜ InFile (now bytes) 1542 at ⌝ }
-    ensures { λ r. ⌜ PartTells (now (bytes .entry)) 1592 24 (membersAt (now (kinds .entry)) entries (now (bytes .entry)) at) (MembersStored (now (members .entry)) (now (members .exit))) r ⌝ }
+    ensures { λ r. ⌜ PartTells (now (bytes .entry)) 1592 24 (membersAt (now (kinds .entry)) entries (now (bytes .entry)) at)
+        (MembersStored (now (members .entry)) (now (members .exit))) r ⌝ }
 {
     match count_at(bytes, at, 24, ClaimFault::COUNT, ClaimFault::LENGTH) {
         Number::Refused { number, place } => Part::Refused { number, place },
@@ -284,7 +288,8 @@ fn scan_claim(
     members: &mut [u16; 24],
 ) -> ClaimRead
     requires { ⌜ ClaimArrays (now kinds) (now a) (now b) (now members) ⌝ }
-    ensures { λ r. ⌜ Scanned (readClaim (now (bytes .entry))) r (now (kinds .entry)) (now (kinds .exit)) (now (a .entry)) (now (a .exit)) (now (b .entry)) (now (b .exit)) (now (members .entry)) (now (members .exit)) ⌝ }
+    ensures { λ r. ⌜ Scanned (readClaim (now (bytes .entry))) r (now (kinds .entry)) (now (kinds .exit)) (now (a .entry)) (now (a .exit))
+        (now (b .entry)) (now (b .exit)) (now (members .entry)) (now (members .exit)) ⌝ }
 {
     if !opens_claim(bytes) {
         return refuse(ClaimFault::OPENING, 0);
@@ -337,7 +342,8 @@ fn decode_claim(
 ) -> ClaimCounts
     requires { ⌜ verdictOf (readClaim (now bytes)) ≡ accepted ⌝ }
     requires { ⌜ ClaimArrays (now kinds) (now a) (now b) (now members) ⌝ }
-    ensures { λ r. ⌜ Decoded (readClaim (now (bytes .entry))) (r .entries) (r .members) (now (kinds .entry)) (now (kinds .exit)) (now (a .entry)) (now (a .exit)) (now (b .entry)) (now (b .exit)) (now (members .entry)) (now (members .exit)) ⌝ }
+    ensures { λ r. ⌜ Decoded (readClaim (now (bytes .entry))) (r .entries) (r .members) (now (kinds .entry)) (now (kinds .exit)) (now (a .entry))
+        (now (a .exit)) (now (b .entry)) (now (b .exit)) (now (members .entry)) (now (members .exit)) ⌝ }
 {
     let read = scan_claim(bytes, kinds, a, b, members);
     ClaimCounts {
@@ -355,7 +361,8 @@ pub fn read_claim(
     members: &mut [u16; 24],
 ) -> ClaimRead
     requires { ⌜ ClaimArrays (now kinds) (now a) (now b) (now members) ⌝ }
-    ensures { λ r. ⌜ ClaimAnswered (readClaim (now (bytes .entry))) r (now (kinds .entry)) (now (kinds .exit)) (now (a .entry)) (now (a .exit)) (now (b .entry)) (now (b .exit)) (now (members .entry)) (now (members .exit)) ⌝ }
+    ensures { λ r. ⌜ ClaimAnswered (readClaim (now (bytes .entry))) r (now (kinds .entry)) (now (kinds .exit)) (now (a .entry)) (now (a .exit))
+        (now (b .entry)) (now (b .exit)) (now (members .entry)) (now (members .exit)) ⌝ }
 {
     let verdict = judge_claim(bytes);
     match verdict {

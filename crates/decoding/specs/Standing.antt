@@ -3,18 +3,20 @@ use mathlib.Core.Path.{_≡_}
 use mathlib.Core.List.{List, [], _∷_}
 use Prim.Native.Nat.{ℕ, _≤_}
 use lib.ListN.{length, take, drop}
-use Rattle.verdict.specs.Verdict.{accepted}
+use Rattle.verdict.specs.Verdict.{Verdict, accepted}
 use Rattle.verdict.specs.Shown.{shown}
 use Rattle.formula.specs.Table.{Table}
 use Rattle.formula.specs.Nodes.{Proof}
 use Rattle.formula.specs.Records.{NodeRecord}
 use Rattle.conditions.specs.WellFormed.{WellFormed}
+use Rattle.calculus.specs.Judge.{judge}
 use Rattle.calculus.specs.Given.{Given}
 use Rattle.sequents.specs.Placed.{Members}
 use Rattle.rules.specs.JudgeStages.{Laid}
 use Rattle.records.specs.Records.{firstNodes, total}
 use Rattle.records.specs.declared.Entry.{Entry}
 use Rattle.records.specs.declared.Node.{Node}
+use Rattle.reader.specs.Found.{ruled}
 use Rattle.reader.specs.declared.Found.{Found}
 
 -- "codes follow each other in file order, from the start of their slice without gaps"
@@ -50,6 +52,10 @@ pub record Ruleable (f : Found) (t : Table) (p : Proof) (cs : List ℕ) : Type 0
 -- a verdict that accepts has found what the rules may judge
 abbrev pub Judgeable : Found → Table → Proof → List ℕ → Type 0
 Judgeable f t p cs = shown (f .verdict) ≡ accepted → Ruleable f t p cs
+
+-- what the rules say of a table and a proof, where nothing was refused before
+abbrev pub Ruled : Found → Table → Proof → Verdict → Type 0
+Ruled f t p v = v ≡ ruled (shown (f .verdict)) (judge t (take (f .listed) (f .members)) p)
 
 -- the same of columns
 pub record LaidOut (f : Found) (ks xs ys rs ls ss cs : List ℕ) : Type 0 where

@@ -1,4 +1,5 @@
-// A claim and a proof on their way to lent records and to the judge: read by bytes, stored as records in the slices that a caller lends, and judged as they stand there.
+// A claim and a proof on their way to lent records and to the judge: read by bytes, stored as records in the slices that a caller lends,
+// and judged as they stand there.
 ghost use mathlib.Core.Path.{_≡_};
 ghost use Prim.Native.Nat.{_≤_};
 ghost use lib.ListN.{length, take};
@@ -9,12 +10,10 @@ ghost use Rattle.formula.specs.Plain.{tableOf};
 ghost use Rattle.formula.specs.PlainNodes.{proofOf};
 ghost use Rattle.claims.specs.ClaimEntries.{EntryArrays};
 ghost use Rattle.claims.specs.ReadClaim.{readClaim};
-ghost use Rattle.calculus.specs.Judge.{judge as judged};
 ghost use Rattle.records.specs.Records.{shownEntries, firstEntries, firstNodes};
 ghost use Rattle.reader.specs.Files.{tableIn};
-ghost use Rattle.reader.specs.Found.{ruled};
 ghost use Rattle.decoding.specs.Columns.{ClaimColumns, NodeColumns, nodesIf, Counted, CodesRoom, ProofColumns, ProofStored};
-ghost use Rattle.decoding.specs.Standing.{standing, FitsEntries, FitsNodes, Judgeable, LaidOut};
+ghost use Rattle.decoding.specs.Standing.{standing, Ruled, FitsEntries, FitsNodes, Judgeable, LaidOut};
 use claims::read_claim;
 use proofs::decode_proof;
 use reader::Found;
@@ -29,7 +28,8 @@ use verdict::Verdict;
 // The table of a claim in columns.
 fn claim_columns(claim: &[u8], kinds: &mut [u8; 256], a: &mut [u16; 256], b: &mut [u16; 256])
     requires { ⌜ EntryArrays (now kinds) (now a) (now b) ⌝ }
-    ensures { λ _. ⌜ ClaimColumns (readClaim (now (claim .entry))) (now (kinds .entry)) (now (a .entry)) (now (b .entry)) (now (kinds .exit)) (now (a .exit)) (now (b .exit)) ⌝ }
+    ensures { λ _. ⌜ ClaimColumns (readClaim (now (claim .entry))) (now (kinds .entry)) (now (a .entry)) (now (b .entry)) (now (kinds .exit))
+        (now (a .exit)) (now (b .exit)) ⌝ }
 {
     let mut members = [0u16; 24];
     read_claim(claim, kinds, a, b, &mut members);
@@ -57,7 +57,8 @@ fn proof_columns(
     codes: &mut [u16],
 )
     requires { ⌜ Counted (now proof) count × NodeColumns (now rules) (now links) (now starts) × CodesRoom count (now codes) ⌝ }
-    ensures { λ _. ⌜ ProofColumns (nodesIf count (now (proof .entry))) (now (rules .entry)) (now (links .entry)) (now (starts .entry)) (now (codes .entry)) (now (rules .exit)) (now (links .exit)) (now (starts .exit)) (now (codes .exit)) ⌝ }
+    ensures { λ _. ⌜ ProofColumns (nodesIf count (now (proof .entry))) (now (rules .entry)) (now (links .entry)) (now (starts .entry))
+        (now (codes .entry)) (now (rules .exit)) (now (links .exit)) (now (starts .exit)) (now (codes .exit)) ⌝ }
 {
     if count == 0 {
         return;
@@ -68,7 +69,8 @@ fn proof_columns(
 // The nodes of a proof as records and their codes beside them, all or none; the slices are unchanged beyond them.
 pub fn store_proof(nodes: &mut [Node], codes: &mut [u16], proof: &[u8], count: usize)
     requires { ⌜ Counted (now proof) count × (count ≤ length (now nodes)) × CodesRoom count (now codes) ⌝ }
-    ensures { λ _. ⌜ ProofStored (nodesIf count (now (proof .entry))) (now (nodes .entry)) (now (nodes .exit)) (now (codes .entry)) (now (codes .exit)) ⌝ }
+    ensures { λ _. ⌜ ProofStored (nodesIf count (now (proof .entry))) (now (nodes .entry)) (now (nodes .exit)) (now (codes .entry))
+        (now (codes .exit)) ⌝ }
 {
     let mut rules = [0u8; 1024];
     let mut links = [0u16; 4096];
@@ -89,7 +91,8 @@ fn judge_columns(
     starts: &[u16; 1025],
 ) -> Verdict
     requires { ⌜ (shown (found .verdict) ≡ accepted → LaidOut found (now kinds) (now a) (now b) (now rules) (now links) (now starts) (now codes)) ⌝ }
-    ensures { λ r. ⌜ shown r ≡ ruled (shown (found .verdict)) (judged (tableOf (now (kinds .entry)) (now (a .entry)) (now (b .entry)) (found .entries)) (take (found .listed) (found .members)) (proofOf (now (rules .entry)) (now (links .entry)) (now (starts .entry)) (now (codes .entry)) (found .nodes))) ⌝ }
+    ensures { λ r. ⌜ Ruled found (tableOf (now (kinds .entry)) (now (a .entry)) (now (b .entry)) (found .entries))
+        (proofOf (now (rules .entry)) (now (links .entry)) (now (starts .entry)) (now (codes .entry)) (found .nodes)) (shown r) ⌝ }
 {
     let verdict = found.verdict;
     let members = found.members;
@@ -120,8 +123,10 @@ fn judge_nodes(
     a: &[u16; 256],
     b: &[u16; 256],
 ) -> Verdict
-    requires { ⌜ (found .entries ≤ 256) × FitsNodes found (now nodes) (now codes) × Judgeable found (tableOf (now kinds) (now a) (now b) (found .entries)) (standing (firstNodes (now nodes) (found .nodes)) (now codes)) (now codes) ⌝ }
-    ensures { λ r. ⌜ shown r ≡ ruled (shown (found .verdict)) (judged (tableOf (now (kinds .entry)) (now (a .entry)) (now (b .entry)) (found .entries)) (take (found .listed) (found .members)) (standing (firstNodes (now (nodes .entry)) (found .nodes)) (now (codes .entry)))) ⌝ }
+    requires { ⌜ (found .entries ≤ 256) × FitsNodes found (now nodes) (now codes) × Judgeable found
+        (tableOf (now kinds) (now a) (now b) (found .entries)) (standing (firstNodes (now nodes) (found .nodes)) (now codes)) (now codes) ⌝ }
+    ensures { λ r. ⌜ Ruled found (tableOf (now (kinds .entry)) (now (a .entry)) (now (b .entry)) (found .entries))
+        (standing (firstNodes (now (nodes .entry)) (found .nodes)) (now (codes .entry))) (shown r) ⌝ }
 {
     let mut rules = [0u8; 1024];
     let mut links = [0u16; 4096];
@@ -132,8 +137,10 @@ fn judge_nodes(
 
 // The rules over the table and the proof that stand in the lent records, where nothing was refused before.
 pub fn judge_records(found: Found, entries: &[Entry], nodes: &[Node], codes: &[u16]) -> Verdict
-    requires { ⌜ FitsEntries found (now entries) × FitsNodes found (now nodes) (now codes) × Judgeable found (firstEntries (now entries) (found .entries)) (standing (firstNodes (now nodes) (found .nodes)) (now codes)) (now codes) ⌝ }
-    ensures { λ r. ⌜ shown r ≡ ruled (shown (found .verdict)) (judged (firstEntries (now (entries .entry)) (found .entries)) (take (found .listed) (found .members)) (standing (firstNodes (now (nodes .entry)) (found .nodes)) (now (codes .entry)))) ⌝ }
+    requires { ⌜ FitsEntries found (now entries) × FitsNodes found (now nodes) (now codes) × Judgeable found
+        (firstEntries (now entries) (found .entries)) (standing (firstNodes (now nodes) (found .nodes)) (now codes)) (now codes) ⌝ }
+    ensures { λ r. ⌜ Ruled found (firstEntries (now (entries .entry)) (found .entries))
+        (standing (firstNodes (now (nodes .entry)) (found .nodes)) (now (codes .entry))) (shown r) ⌝ }
 {
     let mut kinds = [0u8; 256];
     let mut a = [0u16; 256];

@@ -26,10 +26,16 @@ abbrev pub afterTable : Verdict → Checked → Checked
 afterTable accepted next = next
 afterTable (verdicts.refused n q) next = unread n q
 
+abbrev pub withProof : Table → List ℕ → List ℕ → Checked
+withProof t ms proof = afterProof t ms (readProof t proof)
+
+abbrev pub withTable : Table → List ℕ → List ℕ → Checked
+withTable t ms proof = afterTable (judgeTable t) (withProof t ms proof)
+
 -- the claim by bytes first
 abbrev pub afterClaim : Reading (Table × List ℕ) → List ℕ → Checked
 afterClaim (refused n q) proof = unread n q
-afterClaim (good c) proof = afterTable (judgeTable (c .0)) (afterProof (c .0) (c .1) (readProof (c .0) proof))
+afterClaim (good c) proof = withTable (c .0) (c .1) proof
 
 unfoldable pub check : List ℕ → List ℕ → Checked
 unfolding readClaim judgeTable readProof judge

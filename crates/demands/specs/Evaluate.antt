@@ -34,10 +34,16 @@ abbrev pub afterTable : Verdict → LentWords → Evaluated → Evaluated
 afterTable accepted l next = next
 afterTable (verdicts.refused n q) l next = unevaluated n q l
 
+abbrev pub withModel : Table → List ℕ → LentWords → Evaluated
+withModel t model l = afterModel t (readModel model) l
+
+abbrev pub withTable : Table → List ℕ → LentWords → Evaluated
+withTable t model l = afterTable (judgeTable t) l (withModel t model l)
+
 -- the claim's refusals, then the model's
 abbrev pub afterClaim : Reading (Table × List ℕ) → List ℕ → LentWords → Evaluated
 afterClaim (refused n q) model l = unevaluated n q l
-afterClaim (good c) model l = afterTable (judgeTable (c .0)) l (afterModel (c .0) (readModel model) l)
+afterClaim (good c) model l = withTable (c .0) model l
 
 abbrev pub ifLong : Bool → LentWords → Evaluated → Evaluated
 ifLong true l next = unevaluated 1 0 l

@@ -53,7 +53,8 @@ fn formed(
 ) -> u64
     requires { ⌜ Ready (now kinds) (now a) (now b) (now rows) size (now words) ⌝ }
     requires { ⌜ e < length (now kinds) ⌝ }
-    ensures { λ r. ⌜ r ≡ formedWord (now (kinds .entry)) (now (a .entry)) (now (b .entry)) (now (masks .entry)) (now (rows .entry)) size (now (words .entry)) e ⌝ }
+    ensures { λ r. ⌜ r ≡ formedWord (now (kinds .entry)) (now (a .entry)) (now (b .entry)) (now (masks .entry)) (now (rows .entry)) size
+        (now (words .entry)) e ⌝ }
 {
     let kind = kinds[e];
     let p = a[e];
@@ -94,7 +95,8 @@ fn start_word(kind: u8, size: usize, w: u64) -> u64
 // The fixpoints of a block at their start.
 fn begin(kinds: &[u8], words: &mut [u64], marks: &[u8; 256], size: usize)
     requires { ⌜ (length (now words) ≡ length (now kinds)) × (length (now kinds) ≤ 256) × (size ≤ 64) ⌝ }
-    ensures { λ _. ⌜ Filled (begunWord (now (kinds .entry)) (now (marks .entry)) size (now (words .entry))) (now (words .entry)) (length (now (kinds .entry))) (now (words .exit)) ⌝ }
+    ensures { λ _. ⌜ Filled (begunWord (now (kinds .entry)) (now (marks .entry)) size (now (words .entry))) (now (words .entry))
+        (length (now (kinds .entry))) (now (words .exit)) ⌝ }
 {
     let mut e: usize = 0;
     while e < kinds.len() {
@@ -120,7 +122,8 @@ fn visit(
 ) -> bool
     requires { ⌜ Ready (now kinds) (now a) (now b) (now rows) size (now words) ⌝ }
     requires { ⌜ e < length (now kinds) ⌝ }
-    ensures { λ r. ⌜ Visited (now (kinds .entry)) (now (a .entry)) (now (b .entry)) (now (masks .entry)) (now (rows .entry)) (now (marks .entry)) size e (now (words .entry)) (now (words .exit)) r ⌝ }
+    ensures { λ r. ⌜ Visited (now (kinds .entry)) (now (a .entry)) (now (b .entry)) (now (masks .entry)) (now (rows .entry)) (now (marks .entry))
+        size e (now (words .entry)) (now (words .exit)) r ⌝ }
 {
     if marks[e] != 1 {
         return false;
@@ -150,7 +153,8 @@ fn pass(
     size: usize,
 ) -> bool
     requires { ⌜ Ready (now kinds) (now a) (now b) (now rows) size (now words) ⌝ }
-    ensures { λ r. ⌜ Passed (now (kinds .entry)) (now (a .entry)) (now (b .entry)) (now (masks .entry)) (now (rows .entry)) (now (marks .entry)) size (now (words .entry)) (length (now (kinds .entry))) (now (words .exit)) r ⌝ }
+    ensures { λ r. ⌜ Passed (now (kinds .entry)) (now (a .entry)) (now (b .entry)) (now (masks .entry)) (now (rows .entry)) (now (marks .entry)) size
+        (now (words .entry)) (length (now (kinds .entry))) (now (words .exit)) r ⌝ }
 {
     let mut changed = false;
     let mut e: usize = 0;
@@ -175,7 +179,8 @@ fn solve(
     size: usize,
 )
     requires { ⌜ Ready (now kinds) (now a) (now b) (now rows) size (now words) ⌝ }
-    ensures { λ _. ⌜ Solved (now (kinds .entry)) (now (a .entry)) (now (b .entry)) (now (masks .entry)) (now (rows .entry)) (now (marks .entry)) size (now (words .entry)) (now (words .exit)) ⌝ }
+    ensures { λ _. ⌜ Solved (now (kinds .entry)) (now (a .entry)) (now (b .entry)) (now (masks .entry)) (now (rows .entry)) (now (marks .entry)) size
+        (now (words .entry)) (now (words .exit)) ⌝ }
 {
     begin(kinds, words, marks, size);
     let mut r: u32 = 0;
@@ -310,7 +315,8 @@ fn settle_entry(
 )
     requires { ⌜ Ready (now kinds) (now a) (now b) (now rows) size (now words) ⌝ }
     requires { ⌜ (e < length (now kinds)) × (length (now done) ≡ 256) ⌝ }
-    ensures { λ _. ⌜ now (words .exit) ≡ set (now (words .entry)) e (formedWord (now (kinds .entry)) (now (a .entry)) (now (b .entry)) (now (masks .entry)) (now (rows .entry)) size (now (words .entry)) e) ⌝ }
+    ensures { λ _. ⌜ now (words .exit) ≡ set (now (words .entry)) e (formedWord (now (kinds .entry)) (now (a .entry)) (now (b .entry))
+        (now (masks .entry)) (now (rows .entry)) size (now (words .entry)) e) ⌝ }
     ensures { λ _. ⌜ now (done .exit) ≡ set (now (done .entry)) e 1 ⌝ }
 {
     let w = formed(kinds, a, b, words, rows, masks, size, e);
@@ -332,7 +338,8 @@ fn settle_block(
 )
     requires { ⌜ Standing (now kinds) (now a) (now b) (now masks) (now rows) size (now words) (now done) ⌝ }
     requires { ⌜ (x < length (now kinds)) × Isolated (now kinds) (now a) (now b) (now masks) (now rows) size (now done) x ⌝ }
-    ensures { λ _. ⌜ Evaluated (now (kinds .entry)) (now (a .entry)) (now (b .entry)) (now (masks .entry)) (now (rows .entry)) size x (now (words .entry)) (now (done .entry)) (now (words .exit)) (now (done .exit)) ⌝ }
+    ensures { λ _. ⌜ Evaluated (now (kinds .entry)) (now (a .entry)) (now (b .entry)) (now (masks .entry)) (now (rows .entry)) size x
+        (now (words .entry)) (now (done .entry)) (now (words .exit)) (now (done .exit)) ⌝ }
 {
     let marks = reach(kinds, a, b, done, x);
     solve(kinds, a, b, words, rows, masks, &marks, size);
@@ -355,7 +362,8 @@ fn eval_entry(
     requires { ⌜ Standing (now kinds) (now a) (now b) (now masks) (now rows) size (now words) (now done) ⌝ }
     requires { ⌜ Tops (now kinds) (now a) (now b) (now tops) ⌝ }
     requires { ⌜ e < length (now kinds) ⌝ }
-    ensures { λ _. ⌜ Evaluated (now (kinds .entry)) (now (a .entry)) (now (b .entry)) (now (masks .entry)) (now (rows .entry)) size e (now (words .entry)) (now (done .entry)) (now (words .exit)) (now (done .exit)) ⌝ }
+    ensures { λ _. ⌜ Evaluated (now (kinds .entry)) (now (a .entry)) (now (b .entry)) (now (masks .entry)) (now (rows .entry)) size e
+        (now (words .entry)) (now (done .entry)) (now (words .exit)) (now (done .exit)) ⌝ }
 {
     if done[e] != 0 {
         return;
@@ -399,7 +407,8 @@ fn iterate(
     requires { ⌜ Standing (now kinds) (now a) (now b) (now masks) (now rows) size (now words) (now done) ⌝ }
     requires { ⌜ Tops (now kinds) (now a) (now b) (now tops) ⌝ }
     requires { ⌜ (x < length (now kinds)) × (getD (now tops) x 0 ≡ 0) × (getD (now done) x 0 ≡ 0) ⌝ }
-    ensures { λ _. ⌜ Evaluated (now (kinds .entry)) (now (a .entry)) (now (b .entry)) (now (masks .entry)) (now (rows .entry)) size x (now (words .entry)) (now (done .entry)) (now (words .exit)) (now (done .exit)) ⌝ }
+    ensures { λ _. ⌜ Evaluated (now (kinds .entry)) (now (a .entry)) (now (b .entry)) (now (masks .entry)) (now (rows .entry)) size x
+        (now (words .entry)) (now (done .entry)) (now (words .exit)) (now (done .exit)) ⌝ }
 {
     let mut c: usize = 0;
     while c < x {
@@ -423,7 +432,8 @@ fn eval_all(
 )
     requires { ⌜ Standing (now kinds) (now a) (now b) (now masks) (now rows) size (now words) (now done) ⌝ }
     requires { ⌜ Tops (now kinds) (now a) (now b) (now tops) ⌝ }
-    ensures { λ _. ⌜ Swept (now (kinds .entry)) (now (a .entry)) (now (b .entry)) (now (masks .entry)) (now (rows .entry)) size (length (now (kinds .entry))) (now (words .entry)) (now (done .entry)) (now (words .exit)) (now (done .exit)) ⌝ }
+    ensures { λ _. ⌜ Swept (now (kinds .entry)) (now (a .entry)) (now (b .entry)) (now (masks .entry)) (now (rows .entry)) size
+        (length (now (kinds .entry))) (now (words .entry)) (now (done .entry)) (now (words .exit)) (now (done .exit)) ⌝ }
 {
     let mut e: usize = 0;
     while e < kinds.len() {
@@ -470,7 +480,8 @@ fn fill_words(
 )
     requires { ⌜ Claim (now kinds) (now a) (now b) ⌝ }
     requires { ⌜ (size ≤ 64) × (length (now words) ≡ length (now kinds)) ⌝ }
-    ensures { λ _. ⌜ now (words .exit) ≡ wordsIn (now (masks .entry)) (now (marks .entry)) size (tableFrom (now (kinds .entry)) (now (a .entry)) (now (b .entry))) ⌝ }
+    ensures { λ _. ⌜ now (words .exit) ≡ wordsIn (now (masks .entry)) (now (marks .entry)) size
+        (tableFrom (now (kinds .entry)) (now (a .entry)) (now (b .entry))) ⌝ }
 {
     clear_words(words);
     let rows = row_words(marks, size);
@@ -494,7 +505,8 @@ pub fn evaluate(
 )
     requires { ⌜ Given (now kinds) (now a) (now b) count (now words) ⌝ }
     requires { ⌜ size ≤ 64 ⌝ }
-    ensures { λ _. ⌜ now (words .exit) ≡ written (wordsIn (now (masks .entry)) marks size (tableOf (now (kinds .entry)) (now (a .entry)) (now (b .entry)) count)) (now (words .entry)) ⌝ }
+    ensures { λ _. ⌜ now (words .exit) ≡ written (wordsIn (now (masks .entry)) marks size
+        (tableOf (now (kinds .entry)) (now (a .entry)) (now (b .entry)) count)) (now (words .entry)) ⌝ }
 {
     fill_words(
         &kinds[..count],

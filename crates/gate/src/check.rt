@@ -4,9 +4,7 @@ ghost use lib.ListN.{take};
 ghost use Rattle.verdict.specs.Shown.{shown};
 ghost use Rattle.formula.specs.Plain.{tableOf};
 ghost use Rattle.conditions.specs.WellFormed.{WellFormed};
-ghost use Rattle.conditions.specs.Judge.{judgeTable};
-ghost use Rattle.proofs.specs.ReadProof.{readProof};
-ghost use Rattle.demands.specs.Check.{afterProof, afterTable, answer, verdict};
+ghost use Rattle.demands.specs.Check.{withProof, withTable, answer, verdict};
 ghost use Rattle.gate.specs.Compose.{ClaimHeld};
 ghost use Rattle.demands.specs.Single.{SingleCheck};
 use claims::read_claim;
@@ -25,7 +23,8 @@ fn judge_proof_file(
     listed: usize,
 ) -> Verdict
     requires { ⌜ ClaimHeld entries (now members) listed × WellFormed (tableOf (now kinds) (now a) (now b) entries) ⌝ }
-    ensures { λ r. ⌜ shown r ≡ answer (afterProof (tableOf (now (kinds .entry)) (now (a .entry)) (now (b .entry)) entries) (take listed (now (members .entry))) (readProof (tableOf (now (kinds .entry)) (now (a .entry)) (now (b .entry)) entries) (now (proof .entry)))) ⌝ }
+    ensures { λ r. ⌜ shown r ≡ answer (withProof (tableOf (now (kinds .entry)) (now (a .entry)) (now (b .entry)) entries)
+        (take listed (now (members .entry))) (now (proof .entry))) ⌝ }
 {
     let mut rules = [0u8; 1024];
     let mut links = [0u16; 4096];
@@ -71,7 +70,8 @@ fn judge_table(
     listed: usize,
 ) -> Verdict
     requires { ⌜ ClaimHeld entries (now members) listed ⌝ }
-    ensures { λ r. ⌜ shown r ≡ answer (afterTable (judgeTable (tableOf (now (kinds .entry)) (now (a .entry)) (now (b .entry)) entries)) (afterProof (tableOf (now (kinds .entry)) (now (a .entry)) (now (b .entry)) entries) (take listed (now (members .entry))) (readProof (tableOf (now (kinds .entry)) (now (a .entry)) (now (b .entry)) entries) (now (proof .entry))))) ⌝ }
+    ensures { λ r. ⌜ shown r ≡ answer (withTable (tableOf (now (kinds .entry)) (now (a .entry)) (now (b .entry)) entries)
+        (take listed (now (members .entry))) (now (proof .entry))) ⌝ }
 {
     match judge(kinds, a, b, entries) {
         Verdict::Refused { number, place } => Verdict::Refused { number, place },

@@ -1,13 +1,12 @@
-// An evaluation: the claim's refusals, then the model's, then each entry's word, over columns of the call's own; last, the lent records are stored.
+// An evaluation: the claim's refusals, then the model's, then each entry's word, over columns of the call's own; last, the lent records
+// are stored.
 ghost use Prim.Native.Nat.{_≤_};
 ghost use mathlib.Core.Path.{_≡_};
 ghost use lib.ListN.{length};
 ghost use Rattle.formula.specs.Plain.{tableOf};
-ghost use Rattle.conditions.specs.Judge.{judgeTable};
 ghost use Rattle.claims.specs.ReadClaim.{readClaim};
-ghost use Rattle.model.specs.ReadModel.{readModel};
 ghost use Rattle.evaluator.specs.Claim.{Given};
-ghost use Rattle.demands.specs.Evaluate.{afterModel, afterTable, afterClaim};
+ghost use Rattle.demands.specs.Evaluate.{withModel, withTable, afterClaim};
 ghost use Rattle.reader.specs.Files.{tableIn};
 ghost use Rattle.gate.specs.EvaluateFiles.{EvaluatedFiles, EvaluateCall, Staged, refusal};
 ghost use Rattle.gate.specs.EvaluateStages.{TableHeld};
@@ -46,7 +45,9 @@ fn after_model(
     words: &mut [u64],
 ) -> Evaluation
     requires { ⌜ Given (now kinds) (now a) (now b) count (now words) ⌝ }
-    ensures { λ r. ⌜ Staged (tableOf (now (kinds .entry)) (now (a .entry)) (now (b .entry)) count) (afterModel (tableOf (now (kinds .entry)) (now (a .entry)) (now (b .entry)) count) (readModel (now (model .entry)))) (now (words .entry)) r (now (words .exit)) ⌝ }
+    ensures { λ r. ⌜ Staged (tableOf (now (kinds .entry)) (now (a .entry)) (now (b .entry)) count)
+        (withModel (tableOf (now (kinds .entry)) (now (a .entry)) (now (b .entry)) count) (now (model .entry))) (now (words .entry)) r
+        (now (words .exit)) ⌝ }
 {
     match judge_model(model) {
         Verdict::Refused { number, place } => refuse(number, place),
@@ -73,7 +74,9 @@ fn after_table(
     words: &mut [u64],
 ) -> Evaluation
     requires { ⌜ TableHeld (now kinds) (now a) (now b) count (now words) ⌝ }
-    ensures { λ r. ⌜ Staged (tableOf (now (kinds .entry)) (now (a .entry)) (now (b .entry)) count) (λ l. afterTable (judgeTable (tableOf (now (kinds .entry)) (now (a .entry)) (now (b .entry)) count)) l (afterModel (tableOf (now (kinds .entry)) (now (a .entry)) (now (b .entry)) count) (readModel (now (model .entry))) l)) (now (words .entry)) r (now (words .exit)) ⌝ }
+    ensures { λ r. ⌜ Staged (tableOf (now (kinds .entry)) (now (a .entry)) (now (b .entry)) count)
+        (withTable (tableOf (now (kinds .entry)) (now (a .entry)) (now (b .entry)) count) (now (model .entry))) (now (words .entry)) r
+        (now (words .exit)) ⌝ }
 {
     match judge(kinds, a, b, count) {
         Verdict::Refused { number, place } => refuse(number, place),
@@ -84,7 +87,8 @@ fn after_table(
 // 10 to 14: the claim's bytes, and then its table.
 fn after_lengths(claim: &[u8], model: &[u8], words: &mut [u64]) -> Evaluation
     requires { ⌜ 256 ≤ length (now words) ⌝ }
-    ensures { λ r. ⌜ Staged (tableIn (now (claim .entry))) (afterClaim (readClaim (now (claim .entry))) (now (model .entry))) (now (words .entry)) r (now (words .exit)) ⌝ }
+    ensures { λ r. ⌜ Staged (tableIn (now (claim .entry))) (afterClaim (readClaim (now (claim .entry))) (now (model .entry))) (now (words .entry)) r
+        (now (words .exit)) ⌝ }
 {
     let mut kinds = [0u8; 256];
     let mut a = [0u16; 256];
@@ -120,7 +124,8 @@ pub extern "C" fn focus_evaluate(
     entries: &mut [Entry],
     words: &mut [u64],
 ) -> u32
-    ensures { λ r. ⌜ EvaluateCall (now (claim .entry)) (now (model .entry)) (now (entries .entry)) (now (words .entry)) r (now (entries .exit)) (now (words .exit)) ⌝ }
+    ensures { λ r. ⌜ EvaluateCall (now (claim .entry)) (now (model .entry)) (now (entries .entry)) (now (words .entry)) r (now (entries .exit))
+        (now (words .exit)) ⌝ }
 {
     let done = evaluate_files(entries.len(), claim, model, words);
     store_claim(entries, claim, done.entries);

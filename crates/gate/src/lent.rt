@@ -1,4 +1,5 @@
-// "Each call works on the one gate state it is lent": opening, closing and taking on a state that C lends. It is taken out whole, a step by value is made, and what the step leaves is put back whole.
+// "Each call works on the one gate state it is lent": opening, closing and taking on a state that C lends. It is taken out whole, a step
+// by value is made, and what the step leaves is put back whole.
 ghost use Rattle.permit.specs.GateState.{opening, closing, taking};
 ghost use Rattle.permit.specs.Plain.{stateOf};
 ghost use Rattle.permit.specs.LentState.{Answered, TookNumber};

@@ -1,4 +1,5 @@
-// The gate's calls: the single check, and opening, closing, taking, presenting and evaluating on what C lends. Its states and the steps by value are in the crate `permit`.
+// The gate's calls: the single check, and opening, closing, taking, presenting and evaluating on what C lends. Its states and the steps
+// by value are in the crate `permit`.
 pub mod check;
 pub mod evaluate;
 pub mod lent;

@@ -1,4 +1,5 @@
-// "Presenting a tag, claim and proof (on acceptance it holds that tag)": what stands before the files, the files, the lent records and what the judge says of what stands there, and the state that the verdict leaves.
+// "Presenting a tag, claim and proof (on acceptance it holds that tag)": what stands before the files, the files, the lent records and
+// what the judge says of what stands there, and the state that the verdict leaves.
 ghost use Rattle.gate.specs.PresentCall.{PresentCall};
 use decoding::judge_records;
 use decoding::store_claim;
@@ -21,7 +22,8 @@ fn present_step(
     nodes: &mut [Node],
     codes: &mut [u16],
 ) -> Numbered
-    ensures { λ r. ⌜ PresentCall state tag (now (claim .entry)) (now (proof .entry)) (now (entries .entry)) (now (nodes .entry)) (now (codes .entry)) (r .answer) (r .state) (now (entries .exit)) (now (nodes .exit)) (now (codes .exit)) ⌝ }
+    ensures { λ r. ⌜ PresentCall state tag (now (claim .entry)) (now (proof .entry)) (now (entries .entry)) (now (nodes .entry)) (now (codes .entry))
+        (r .answer) (r .state) (now (entries .exit)) (now (nodes .exit)) (now (codes .exit)) ⌝ }
 {
     let before = stands_before(state, entries.len(), nodes.len(), codes.len());
     let found = read_files(before, claim, proof);
@@ -42,7 +44,8 @@ pub extern "C" fn focus_present(
     nodes: &mut [Node],
     codes: &mut [u16],
 ) -> u32
-    ensures { λ r. ⌜ PresentCall (now (gate .entry)) tag (now (claim .entry)) (now (proof .entry)) (now (entries .entry)) (now (nodes .entry)) (now (codes .entry)) r (now (gate .exit)) (now (entries .exit)) (now (nodes .exit)) (now (codes .exit)) ⌝ }
+    ensures { λ r. ⌜ PresentCall (now (gate .entry)) tag (now (claim .entry)) (now (proof .entry)) (now (entries .entry)) (now (nodes .entry))
+        (now (codes .entry)) r (now (gate .exit)) (now (entries .exit)) (now (nodes .exit)) (now (codes .exit)) ⌝ }
 {
     let stepped = present_step(*gate, tag, claim, proof, entries, nodes, codes);
     *gate = stepped.state;

@@ -15,7 +15,8 @@ use sequents::sets::entry_of;
 // Whether one member is a letter and the other its negation.
 fn opposite(kinds: &[u8; 256], a: &[u16; 256], plain: u16, negated: u16) -> bool
     requires { ⌜ (plain < 512) × (negated < 512) ⌝ }
-    ensures { λ r. ⌜ ((ys : List ℕ) (n : ℕ) → entryOf plain < n → entryOf negated < n → r ≡ Opposite (tableOf (now (kinds .entry)) (now (a .entry)) ys n) plain negated) ⌝ }
+    ensures { λ r. ⌜ ((ys : List ℕ) (n : ℕ) → entryOf plain < n → entryOf negated < n → r ≡ Opposite
+        (tableOf (now (kinds .entry)) (now (a .entry)) ys n) plain negated) ⌝ }
 {
     let x = entry_of(plain);
     let y = entry_of(negated);
@@ -31,7 +32,8 @@ fn opposite(kinds: &[u8; 256], a: &[u16; 256], plain: u16, negated: u16) -> bool
 // Whether codes are exactly a letter and its negation, either focus.
 fn clash(kinds: &[u8; 256], a: &[u16; 256], codes: &[u16], from: usize, to: usize) -> bool
     requires { ⌜ Span (now codes) from to ⌝ }
-    ensures { λ r. ⌜ ((ys : List ℕ) (n : ℕ) → ((c : ℕ) → elements (part (now (codes .entry)) from to) c → entryOf c < n) → r ≡ Clash (tableOf (now (kinds .entry)) (now (a .entry)) ys n) (part (now (codes .entry)) from to)) ⌝ }
+    ensures { λ r. ⌜ ((ys : List ℕ) (n : ℕ) → ((c : ℕ) → elements (part (now (codes .entry)) from to) c → entryOf c < n) → r ≡ Clash
+        (tableOf (now (kinds .entry)) (now (a .entry)) ys n) (part (now (codes .entry)) from to)) ⌝ }
 {
     if to != from + 2 {
         return false;
@@ -47,7 +49,8 @@ fn clash(kinds: &[u8; 256], a: &[u16; 256], codes: &[u16], from: usize, to: usiz
 // Whether they are exactly one member, true.
 fn truth(kinds: &[u8; 256], codes: &[u16], from: usize, to: usize) -> bool
     requires { ⌜ Span (now codes) from to ⌝ }
-    ensures { λ r. ⌜ ((xs ys : List ℕ) (n : ℕ) → ((c : ℕ) → elements (part (now (codes .entry)) from to) c → entryOf c < n) → r ≡ Truth (tableOf (now (kinds .entry)) xs ys n) (part (now (codes .entry)) from to)) ⌝ }
+    ensures { λ r. ⌜ ((xs ys : List ℕ) (n : ℕ) → ((c : ℕ) → elements (part (now (codes .entry)) from to) c → entryOf c < n) → r ≡ Truth
+        (tableOf (now (kinds .entry)) xs ys n) (part (now (codes .entry)) from to)) ⌝ }
 {
     if to != from + 1 {
         return false;
@@ -64,7 +67,8 @@ pub fn ax1_kept(
     v: usize,
 ) -> bool
     requires { ⌜ Placed (now starts) (now codes) v ⌝ }
-    ensures { λ r. ⌜ ((ys ls : List ℕ) (n : ℕ) → Entries n (now (starts .entry)) (now (codes .entry)) v → r ≡ Ax1Kept (tableOf (now (kinds .entry)) (now (a .entry)) ys n) (local ls (now (starts .entry)) (now (codes .entry))) v) ⌝ }
+    ensures { λ r. ⌜ ((ys ls : List ℕ) (n : ℕ) → Entries n (now (starts .entry)) (now (codes .entry)) v → r ≡ Ax1Kept
+        (tableOf (now (kinds .entry)) (now (a .entry)) ys n) (local ls (now (starts .entry)) (now (codes .entry))) v) ⌝ }
 {
     clash(kinds, a, codes, wide(starts[v]), wide(starts[v + 1]))
 }
@@ -72,7 +76,8 @@ pub fn ax1_kept(
 // 1 Ax2: exactly one member, true.
 pub fn ax2_kept(kinds: &[u8; 256], starts: &[u16; 1025], codes: &[u16], v: usize) -> bool
     requires { ⌜ Placed (now starts) (now codes) v ⌝ }
-    ensures { λ r. ⌜ ((xs ys ls : List ℕ) (n : ℕ) → Entries n (now (starts .entry)) (now (codes .entry)) v → r ≡ Ax2Kept (tableOf (now (kinds .entry)) xs ys n) (local ls (now (starts .entry)) (now (codes .entry))) v) ⌝ }
+    ensures { λ r. ⌜ ((xs ys ls : List ℕ) (n : ℕ) → Entries n (now (starts .entry)) (now (codes .entry)) v → r ≡ Ax2Kept
+        (tableOf (now (kinds .entry)) xs ys n) (local ls (now (starts .entry)) (now (codes .entry))) v) ⌝ }
 {
     truth(kinds, codes, wide(starts[v]), wide(starts[v + 1]))
 }

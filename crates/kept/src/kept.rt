@@ -9,7 +9,8 @@ ghost use Rattle.formula.specs.PlainNodes.{proofOf};
 ghost use Rattle.sequents.specs.Placed.{local, Placed, NodeReady};
 ghost use Rattle.calculus.specs.View.{plain};
 ghost use Rattle.kept.specs.Judged.{Judged};
-ghost use Rattle.calculus.specs.Judge.{or-kept as OrKept, and-kept as AndKept, mu-kept as MuKept, nu-kept as NuKept, weaken-kept as WeakenKept, focus-kept as FocusKept, discharge-kept as DischargeKept, keeps};
+ghost use Rattle.calculus.specs.Judge.{or-kept as OrKept, and-kept as AndKept, mu-kept as MuKept, nu-kept as NuKept};
+ghost use Rattle.calculus.specs.Judge.{weaken-kept as WeakenKept, focus-kept as FocusKept, discharge-kept as DischargeKept, keeps};
 use super::axioms::ax1_kept;
 use super::axioms::ax2_kept;
 use super::modal::box_kept;
@@ -37,7 +38,8 @@ fn or_kept(
     v: usize,
 ) -> bool
     requires { ⌜ NodeReady (now kinds) (now a) (now b) count (now links) (now starts) (now codes) v ⌝ }
-    ensures { λ r. ⌜ r ≡ OrKept (tableOf (now (kinds .entry)) (now (a .entry)) (now (b .entry)) count) (local (now (links .entry)) (now (starts .entry)) (now (codes .entry))) v ⌝ }
+    ensures { λ r. ⌜ r ≡ OrKept (tableOf (now (kinds .entry)) (now (a .entry)) (now (b .entry)) count)
+        (local (now (links .entry)) (now (starts .entry)) (now (codes .entry))) v ⌝ }
 {
     if !of_kind(kinds, links, starts, codes, v, Kind::OR) {
         return false;
@@ -60,8 +62,10 @@ fn and_kept(
     codes: &[u16],
     v: usize,
 ) -> bool
-    requires { ⌜ NodeReady (now kinds) (now a) (now b) count (now links) (now starts) (now codes) v × Placed (now starts) (now codes) (getD (now links) (4 * v + 2) 0) ⌝ }
-    ensures { λ r. ⌜ r ≡ AndKept (tableOf (now (kinds .entry)) (now (a .entry)) (now (b .entry)) count) (local (now (links .entry)) (now (starts .entry)) (now (codes .entry))) v ⌝ }
+    requires { ⌜ NodeReady (now kinds) (now a) (now b) count (now links) (now starts) (now codes) v × Placed (now starts) (now codes)
+        (getD (now links) (4 * v + 2) 0) ⌝ }
+    ensures { λ r. ⌜ r ≡ AndKept (tableOf (now (kinds .entry)) (now (a .entry)) (now (b .entry)) count)
+        (local (now (links .entry)) (now (starts .entry)) (now (codes .entry))) v ⌝ }
 {
     if !of_kind(kinds, links, starts, codes, v, Kind::AND) {
         return false;
@@ -87,7 +91,8 @@ fn mu_kept(
     v: usize,
 ) -> bool
     requires { ⌜ NodeReady (now kinds) (now a) (now b) count (now links) (now starts) (now codes) v ⌝ }
-    ensures { λ r. ⌜ r ≡ MuKept (tableOf (now (kinds .entry)) (now (a .entry)) (now (b .entry)) count) (local (now (links .entry)) (now (starts .entry)) (now (codes .entry))) v ⌝ }
+    ensures { λ r. ⌜ r ≡ MuKept (tableOf (now (kinds .entry)) (now (a .entry)) (now (b .entry)) count)
+        (local (now (links .entry)) (now (starts .entry)) (now (codes .entry))) v ⌝ }
 {
     if !of_kind(kinds, links, starts, codes, v, Kind::MU) {
         return false;
@@ -109,7 +114,8 @@ fn nu_kept(
     v: usize,
 ) -> bool
     requires { ⌜ NodeReady (now kinds) (now a) (now b) count (now links) (now starts) (now codes) v ⌝ }
-    ensures { λ r. ⌜ r ≡ NuKept (tableOf (now (kinds .entry)) (now (a .entry)) (now (b .entry)) count) (local (now (links .entry)) (now (starts .entry)) (now (codes .entry))) v ⌝ }
+    ensures { λ r. ⌜ r ≡ NuKept (tableOf (now (kinds .entry)) (now (a .entry)) (now (b .entry)) count)
+        (local (now (links .entry)) (now (starts .entry)) (now (codes .entry))) v ⌝ }
 {
     if !of_kind(kinds, links, starts, codes, v, Kind::NU) {
         return false;
@@ -187,8 +193,10 @@ pub fn kept(
     nodes: usize,
     v: usize,
 ) -> bool
-    requires { ⌜ Judged (now kinds) (now a) (now b) count (now rules) (now links) (now starts) (now codes) nodes × (v < nodes) × (getD (now rules) v 0 ≡ BACK → ⊥) ⌝ }
-    ensures { λ r. ⌜ r ≡ keeps (tableOf (now (kinds .entry)) (now (a .entry)) (now (b .entry)) count) (plain (proofOf (now (rules .entry)) (now (links .entry)) (now (starts .entry)) (now (codes .entry)) nodes)) v ⌝ }
+    requires { ⌜ Judged (now kinds) (now a) (now b) count (now rules) (now links) (now starts) (now codes) nodes × (v < nodes) ×
+        (getD (now rules) v 0 ≡ BACK → ⊥) ⌝ }
+    ensures { λ r. ⌜ r ≡ keeps (tableOf (now (kinds .entry)) (now (a .entry)) (now (b .entry)) count)
+        (plain (proofOf (now (rules .entry)) (now (links .entry)) (now (starts .entry)) (now (codes .entry)) nodes)) v ⌝ }
 {
     let rule = rules[v];
     match rule {

@@ -49,8 +49,10 @@ fn all_boxed(kinds: &[u8; 256], principal: u16, codes: &[u16], from: usize, to: 
 
 // The targets of modal members, each with its focus.
 fn stepped(kinds: &[u8; 256], a: &[u16; 256], codes: &[u16], from: usize, to: usize) -> [u64; 8]
-    requires { ⌜ Span (now codes) from to × ((c : ℕ) → elements (part (now codes) from to) c → Within (now kinds) (now a) (getD (now a) (entryOf c) 0)) ⌝ }
-    ensures { λ r. ⌜ ((ys : List ℕ) (n : ℕ) → ((c : ℕ) → elements (part (now (codes .entry)) from to) c → Modal (now (kinds .entry)) (now (a .entry)) ys n c) → Holds r (each (Stepped (tableOf (now (kinds .entry)) (now (a .entry)) ys n)) (part (now (codes .entry)) from to))) ⌝ }
+    requires { ⌜ Span (now codes) from to × ((c : ℕ) → elements (part (now codes) from to) c → Within (now kinds) (now a)
+        (getD (now a) (entryOf c) 0)) ⌝ }
+    ensures { λ r. ⌜ ((ys : List ℕ) (n : ℕ) → ((c : ℕ) → elements (part (now (codes .entry)) from to) c → Modal (now (kinds .entry)) (now (a .entry))
+        ys n c) → Holds r (each (Stepped (tableOf (now (kinds .entry)) (now (a .entry)) ys n)) (part (now (codes .entry)) from to))) ⌝ }
 {
     let mut set = [0u64; 8];
     let mut i = to;
@@ -75,7 +77,8 @@ pub fn box_kept(
     v: usize,
 ) -> bool
     requires { ⌜ NodeReady (now kinds) (now a) (now b) count (now links) (now starts) (now codes) v ⌝ }
-    ensures { λ r. ⌜ r ≡ BoxKept (tableOf (now (kinds .entry)) (now (a .entry)) (now (b .entry)) count) (local (now (links .entry)) (now (starts .entry)) (now (codes .entry))) v ⌝ }
+    ensures { λ r. ⌜ r ≡ BoxKept (tableOf (now (kinds .entry)) (now (a .entry)) (now (b .entry)) count)
+        (local (now (links .entry)) (now (starts .entry)) (now (codes .entry))) v ⌝ }
 {
     if !of_kind(kinds, links, starts, codes, v, Kind::BOX) {
         return false;

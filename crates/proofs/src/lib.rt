@@ -358,7 +358,8 @@ pub fn decode_proof(
 ) -> usize
     requires { ⌜ Decodes (now bytes) × NodeArrays (now rules) (now links) (now starts) (now codes) ⌝ }
     ensures { λ r. ⌜ r ≡ length (proofIn (now (bytes .entry))) ⌝ }
-    ensures { λ r. ⌜ NodesStored (proofIn (now (bytes .entry))) (now (rules .entry)) (now (links .entry)) (now (starts .entry)) (now (codes .entry)) (now (rules .exit)) (now (links .exit)) (now (starts .exit)) (now (codes .exit)) ⌝ }
+    ensures { λ r. ⌜ NodesStored (proofIn (now (bytes .entry))) (now (rules .entry)) (now (links .entry)) (now (starts .entry)) (now (codes .entry))
+        (now (rules .exit)) (now (links .exit)) (now (starts .exit)) (now (codes .exit)) ⌝ }
 {
     let n = node_count(bytes);
     let mut spot = Spot { at: 6, start: 0 };
@@ -397,7 +398,8 @@ pub fn read_proof(
     codes: &mut [u16],
 ) -> ProofRead
     requires { ⌜ (count ≤ 256) × NodeArrays (now rules) (now links) (now starts) (now codes) ⌝ }
-    ensures { λ r. ⌜ ProofDone (readProof (kindTable (now (kinds .entry)) count) (now (bytes .entry))) r (now (rules .entry)) (now (links .entry)) (now (starts .entry)) (now (codes .entry)) (now (rules .exit)) (now (links .exit)) (now (starts .exit)) (now (codes .exit)) ⌝ }
+    ensures { λ r. ⌜ ProofDone (readProof (kindTable (now (kinds .entry)) count) (now (bytes .entry))) r (now (rules .entry)) (now (links .entry))
+        (now (starts .entry)) (now (codes .entry)) (now (rules .exit)) (now (links .exit)) (now (starts .exit)) (now (codes .exit)) ⌝ }
 {
     match judge_proof(bytes, kinds, count) {
         Verdict::Refused { number, place } => ProofRead {

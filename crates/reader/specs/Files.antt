@@ -25,9 +25,15 @@ abbrev pub firstly : Verdict → Files → Files
 firstly accepted next = next
 firstly (verdicts.refused n q) next = unread n q
 
+abbrev pub withProof : Table → List ℕ → List ℕ → Files
+withProof t ms proof = afterProof t ms (readProof t proof)
+
+abbrev pub withTable : Table → List ℕ → List ℕ → Files
+withTable t ms proof = firstly (judgeTable t) (withProof t ms proof)
+
 abbrev pub afterClaim : Reading (Table × List ℕ) → List ℕ → Files
 afterClaim (refused n q) proof = unread n q
-afterClaim (good c) proof = firstly (judgeTable (c .0)) (afterProof (c .0) (c .1) (readProof (c .0) proof))
+afterClaim (good c) proof = withTable (c .0) (c .1) proof
 
 unfoldable pub files : List ℕ → List ℕ → Files
 unfolding readClaim judgeTable readProof

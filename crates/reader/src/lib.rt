@@ -1,11 +1,10 @@
-// A claim and a proof by bytes, and the claim's table between them: all that comes before the rules. The files are read on memory of its own, and nothing that is lent is written.
+// A claim and a proof by bytes, and the claim's table between them: all that comes before the rules. The files are read on memory of its
+// own, and nothing that is lent is written.
 ghost use lib.ListN.{take};
 ghost use Rattle.verdict.specs.Shown.{shown};
 ghost use Rattle.formula.specs.Plain.{tableOf};
-ghost use Rattle.conditions.specs.Judge.{judgeTable};
-ghost use Rattle.proofs.specs.ReadProof.{readProof};
 ghost use Rattle.proofs.specs.ProofParts.{kindTable};
-ghost use Rattle.reader.specs.Files.{afterProof, firstly, files};
+ghost use Rattle.reader.specs.Files.{withProof, withTable, files};
 ghost use Rattle.reader.specs.Found.{Unread, Tells, FilesTold};
 ghost use Rattle.reader.specs.FilesLaws.{ClaimHeld};
 use claims::read_claim;
@@ -46,7 +45,7 @@ fn after_table(
     listed: usize,
 ) -> Found
     requires { ⌜ ClaimHeld entries members listed ⌝ }
-    ensures { λ r. ⌜ Tells (afterProof (kindTable (now (kinds .entry)) entries) (take listed members) (readProof (kindTable (now (kinds .entry)) entries) (now (proof .entry)))) r ⌝ }
+    ensures { λ r. ⌜ Tells (withProof (kindTable (now (kinds .entry)) entries) (take listed members) (now (proof .entry))) r ⌝ }
 {
     match judge_proof(proof, kinds, entries) {
         Verdict::Refused { number, place } => unread(number, place),
@@ -74,7 +73,8 @@ fn after_claim(
     listed: usize,
 ) -> Found
     requires { ⌜ ClaimHeld entries members listed ⌝ }
-    ensures { λ r. ⌜ Tells (firstly (judgeTable (tableOf (now (kinds .entry)) (now (a .entry)) (now (b .entry)) entries)) (afterProof (tableOf (now (kinds .entry)) (now (a .entry)) (now (b .entry)) entries) (take listed members) (readProof (tableOf (now (kinds .entry)) (now (a .entry)) (now (b .entry)) entries) (now (proof .entry))))) r ⌝ }
+    ensures { λ r. ⌜ Tells (withTable (tableOf (now (kinds .entry)) (now (a .entry)) (now (b .entry)) entries) (take listed members)
+        (now (proof .entry))) r ⌝ }
 {
     match judge(kinds, a, b, entries) {
         Verdict::Refused { number, place } => unread(number, place),

@@ -1,4 +1,5 @@
-// "The decoded nodes stand as records in a slice the caller lends", and so do the entries: the records, read and written one at a time, stored from columns of plain numbers and loaded into them.
+// "The decoded nodes stand as records in a slice the caller lends", and so do the entries: the records, read and written one at a time,
+// stored from columns of plain numbers and loaded into them.
 ghost use mathlib.Core.Path.{_≡_};
 ghost use Prim.Native.Nat.{_+_, _<_, _≤_};
 ghost use lib.ListN.{length, getD, set};
@@ -103,7 +104,8 @@ pub fn load_entries(
     b: &mut [u16; 256],
 )
     requires { ⌜ (count ≤ 256) × (count ≤ length (now entries)) ⌝ }
-    ensures { λ _. ⌜ EntriesLoaded (now (entries .entry)) count (now (kinds .entry)) (now (a .entry)) (now (b .entry)) (now (kinds .exit)) (now (a .exit)) (now (b .exit)) ⌝ }
+    ensures { λ _. ⌜ EntriesLoaded (now (entries .entry)) count (now (kinds .entry)) (now (a .entry)) (now (b .entry)) (now (kinds .exit))
+        (now (a .exit)) (now (b .exit)) ⌝ }
 {
     let mut i: usize = 0;
     while i < count {
@@ -155,7 +157,8 @@ fn set_node(
     node: Node,
 )
     requires { ⌜ (v < 1024) × (getD (now starts) v 0 + node .count < 65536) ⌝ }
-    ensures { λ _. ⌜ NodeRowSet (now (rules .entry)) (now (links .entry)) (now (starts .entry)) v node (now (rules .exit)) (now (links .exit)) (now (starts .exit)) ⌝ }
+    ensures { λ _. ⌜ NodeRowSet (now (rules .entry)) (now (links .entry)) (now (starts .entry)) v node (now (rules .exit)) (now (links .exit))
+        (now (starts .exit)) ⌝ }
 {
     rules[v] = node.rule;
     set_links(links, v, node);
@@ -171,7 +174,8 @@ pub fn store_nodes(
     count: usize,
 )
     requires { ⌜ (count ≤ 1024) × (count ≤ length (now nodes)) × CountsFit (now starts) count ⌝ }
-    ensures { λ _. ⌜ now (nodes .exit) ≡ written (nodesOf (now (rules .entry)) (now (links .entry)) (now (starts .entry)) count) (now (nodes .entry)) ⌝ }
+    ensures { λ _. ⌜ now (nodes .exit) ≡ written (nodesOf (now (rules .entry)) (now (links .entry)) (now (starts .entry)) count) (now (nodes .entry))
+        ⌝ }
 {
     let mut i: usize = 0;
     while i < count {
@@ -190,7 +194,8 @@ pub fn load_nodes(
     starts: &mut [u16; 1025],
 )
     requires { ⌜ (count ≤ 1024) × (count ≤ length (now nodes)) × (total (firstNodes (now nodes) count) ≤ 24576) ⌝ }
-    ensures { λ _. ⌜ NodesLoaded (now (nodes .entry)) count (now (rules .entry)) (now (links .entry)) (now (starts .entry)) (now (rules .exit)) (now (links .exit)) (now (starts .exit)) ⌝ }
+    ensures { λ _. ⌜ NodesLoaded (now (nodes .entry)) count (now (rules .entry)) (now (links .entry)) (now (starts .entry)) (now (rules .exit))
+        (now (links .exit)) (now (starts .exit)) ⌝ }
 {
     start_at_zero(starts);
     let mut i: usize = 0;

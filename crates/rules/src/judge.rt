@@ -46,8 +46,10 @@ fn node_stands(
     flags: &[bool; 1024],
     v: usize,
 ) -> Stands
-    requires { ⌜ TreeReady (now kinds) (now a) (now b) count (now rules) (now links) (now starts) (now codes) nodes (now owners) (now flags) × (v < nodes) ⌝ }
-    ensures { λ r. ⌜ r .kept ≡ keeps (tableOf (now (kinds .entry)) (now (a .entry)) (now (b .entry)) count) (plain (proofOf (now (rules .entry)) (now (links .entry)) (now (starts .entry)) (now (codes .entry)) nodes)) v ⌝ }
+    requires { ⌜ TreeReady (now kinds) (now a) (now b) count (now rules) (now links) (now starts) (now codes) nodes (now owners) (now flags) ×
+        (v < nodes) ⌝ }
+    ensures { λ r. ⌜ r .kept ≡ keeps (tableOf (now (kinds .entry)) (now (a .entry)) (now (b .entry)) count)
+        (plain (proofOf (now (rules .entry)) (now (links .entry)) (now (starts .entry)) (now (codes .entry)) nodes)) v ⌝ }
     ensures { λ r. ⌜ r .good ≡ loop (plain (proofOf (now (rules .entry)) (now (links .entry)) (now (starts .entry)) (now (codes .entry)) nodes)) v ⌝ }
 {
     if rules[v] != Rule::BACK {
@@ -121,7 +123,8 @@ fn judge_nodes(
     flags: &[bool; 1024],
 ) -> Verdict
     requires { ⌜ TreeReady (now kinds) (now a) (now b) count (now rules) (now links) (now starts) (now codes) nodes (now owners) (now flags) ⌝ }
-    ensures { λ r. ⌜ shown r ≡ nodes-judged (tableOf (now (kinds .entry)) (now (a .entry)) (now (b .entry)) count) (proofOf (now (rules .entry)) (now (links .entry)) (now (starts .entry)) (now (codes .entry)) nodes) ⌝ }
+    ensures { λ r. ⌜ shown r ≡ nodes-judged (tableOf (now (kinds .entry)) (now (a .entry)) (now (b .entry)) count)
+        (proofOf (now (rules .entry)) (now (links .entry)) (now (starts .entry)) (now (codes .entry)) nodes) ⌝ }
 {
     let mut bad = nodes;
     let mut v: usize = 0;
@@ -170,7 +173,8 @@ fn judge_tree(
     requires { ⌜ Judged (now kinds) (now a) (now b) count (now rules) (now links) (now starts) (now codes) nodes ⌝ }
     requires { ⌜ Members (now members) listed × (1 ≤ nodes) ⌝ }
     requires { ⌜ Parented (now owners) nodes × OwnedBy (now rules) (now links) nodes nodes (now owners) ⌝ }
-    ensures { λ r. ⌜ shown r ≡ tree-rules-judged (tableOf (now (kinds .entry)) (now (a .entry)) (now (b .entry)) count) (take listed (now (members .entry))) (proofOf (now (rules .entry)) (now (links .entry)) (now (starts .entry)) (now (codes .entry)) nodes) ⌝ }
+    ensures { λ r. ⌜ shown r ≡ tree-rules-judged (tableOf (now (kinds .entry)) (now (a .entry)) (now (b .entry)) count)
+        (take listed (now (members .entry))) (proofOf (now (rules .entry)) (now (links .entry)) (now (starts .entry)) (now (codes .entry)) nodes) ⌝ }
 {
     if !root_is_claim(members, listed, starts, codes) {
         return Verdict::Refused {
@@ -211,7 +215,8 @@ pub fn judge(
 ) -> Verdict
     requires { ⌜ Laid (now kinds) (now a) (now b) count (now rules) (now links) (now starts) (now codes) nodes ⌝ }
     requires { ⌜ Members (now members) listed ⌝ }
-    ensures { λ r. ⌜ shown r ≡ judged (tableOf (now (kinds .entry)) (now (a .entry)) (now (b .entry)) count) (take listed (now (members .entry))) (proofOf (now (rules .entry)) (now (links .entry)) (now (starts .entry)) (now (codes .entry)) nodes) ⌝ }
+    ensures { λ r. ⌜ shown r ≡ judged (tableOf (now (kinds .entry)) (now (a .entry)) (now (b .entry)) count) (take listed (now (members .entry)))
+        (proofOf (now (rules .entry)) (now (links .entry)) (now (starts .entry)) (now (codes .entry)) nodes) ⌝ }
 {
     let mut owners = [0u16; 1024];
     match fill_owners(rules, links, nodes, &mut owners) {

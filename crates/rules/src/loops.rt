@@ -58,7 +58,8 @@ pub fn fill_flags(
     flags: &mut [bool; 1024],
 )
     requires { ⌜ (nodes ≤ 1024) × Inside (now starts) (now codes) nodes ⌝ }
-    ensures { λ r. ⌜ ((ls : List ℕ) → Flagged (proofOf (now (rules .entry)) ls (now (starts .entry)) (now (codes .entry)) nodes) (now (flags .exit))) ⌝ }
+    ensures { λ r. ⌜ ((ls : List ℕ) → Flagged (proofOf (now (rules .entry)) ls (now (starts .entry)) (now (codes .entry)) nodes) (now (flags .exit)))
+        ⌝ }
 {
     clear_flags(flags);
     let mut v: usize = 0;

@@ -30,7 +30,8 @@ pub fn child_is(
     set: [u64; 8],
 ) -> bool
     requires { ⌜ (link < 4096) × Placed (now starts) (now codes) (getD (now links) link 0) ⌝ }
-    ensures { λ r. ⌜ ((l : List ℕ) → Holds set l → r ≡ sameSet (codesAt (now (starts .entry)) (now (codes .entry)) (getD (now (links .entry)) link 0)) l) ⌝ }
+    ensures { λ r. ⌜ ((l : List ℕ) → Holds set l → r ≡ sameSet (codesAt (now (starts .entry)) (now (codes .entry))
+        (getD (now (links .entry)) link 0)) l) ⌝ }
 {
     same(sequent(starts, codes, wide(links[link])), set)
 }
@@ -53,7 +54,8 @@ pub fn of_kind(
     kind: u8,
 ) -> bool
     requires { ⌜ Placed (now starts) (now codes) v ⌝ }
-    ensures { λ r. ⌜ ((xs ys : List ℕ) (n : ℕ) → Entries n (now (starts .entry)) (now (codes .entry)) v → r ≡ OfKind (tableOf (now (kinds .entry)) xs ys n) (local (now (links .entry)) (now (starts .entry)) (now (codes .entry))) kind v) ⌝ }
+    ensures { λ r. ⌜ ((xs ys : List ℕ) (n : ℕ) → Entries n (now (starts .entry)) (now (codes .entry)) v → r ≡ OfKind
+        (tableOf (now (kinds .entry)) xs ys n) (local (now (links .entry)) (now (starts .entry)) (now (codes .entry))) kind v) ⌝ }
 {
     if !belongs(links, starts, codes, v) {
         return false;
@@ -78,8 +80,10 @@ pub fn is_side_plus(
     link: usize,
     code: u16,
 ) -> bool
-    requires { ⌜ Placed (now starts) (now codes) v × (getD (now links) (4 * v) 0 < 512) × (link < 4096) × Placed (now starts) (now codes) (getD (now links) link 0) × (code < 512) ⌝ }
-    ensures { λ r. ⌜ r ≡ sameSet (codesAt (now (starts .entry)) (now (codes .entry)) (getD (now (links .entry)) link 0)) (code ∷ sides (local (now (links .entry)) (now (starts .entry)) (now (codes .entry))) v) ⌝ }
+    requires { ⌜ Placed (now starts) (now codes) v × (getD (now links) (4 * v) 0 < 512) × (link < 4096) × Placed (now starts) (now codes)
+        (getD (now links) link 0) × (code < 512) ⌝ }
+    ensures { λ r. ⌜ r ≡ sameSet (codesAt (now (starts .entry)) (now (codes .entry)) (getD (now (links .entry)) link 0))
+        (code ∷ sides (local (now (links .entry)) (now (starts .entry)) (now (codes .entry))) v) ⌝ }
 {
     child_is(
         links,
@@ -93,7 +97,8 @@ pub fn is_side_plus(
 // The code of an operand's target.
 fn target_code(kinds: &[u8; 256], a: &[u16; 256], operand: u16, focus: u16) -> u16
     requires { ⌜ Within (now kinds) (now a) operand × (focus < 2) ⌝ }
-    ensures { λ r. ⌜ (r < 512) × ((ys : List ℕ) (n : ℕ) → operand < n → r ≡ codeOf (targetOf (tableOf (now (kinds .entry)) (now (a .entry)) ys n) operand) focus) ⌝ }
+    ensures { λ r. ⌜ (r < 512) × ((ys : List ℕ) (n : ℕ) → operand < n → r ≡ codeOf
+        (targetOf (tableOf (now (kinds .entry)) (now (a .entry)) ys n) operand) focus) ⌝ }
 {
     code_of(target(kinds, a, operand), focus)
 }
@@ -107,7 +112,8 @@ pub fn operand_code(
     focus: u16,
 ) -> u16
     requires { ⌜ (member < 512) × Within (now kinds) (now a) (getD (now column) (entryOf member) 0) × (focus < 2) ⌝ }
-    ensures { λ r. ⌜ (r < 512) × ((ys : List ℕ) (n : ℕ) → getD (now (column .entry)) (entryOf member) 0 < n → r ≡ codeOf (targetOf (tableOf (now (kinds .entry)) (now (a .entry)) ys n) (getD (now (column .entry)) (entryOf member) 0)) focus) ⌝ }
+    ensures { λ r. ⌜ (r < 512) × ((ys : List ℕ) (n : ℕ) → getD (now (column .entry)) (entryOf member) 0 < n → r ≡ codeOf
+        (targetOf (tableOf (now (kinds .entry)) (now (a .entry)) ys n) (getD (now (column .entry)) (entryOf member) 0)) focus) ⌝ }
 {
     target_code(kinds, a, column[entry_of(member)], focus)
 }

@@ -129,7 +129,8 @@ fn claim_set(members: &[u16; 24], count: usize) -> [u64; 8]
 // Whether the root's members are the claim's, all in focus (refusal 36).
 pub fn root_is_claim(members: &[u16; 24], count: usize, starts: &[u16; 1025], codes: &[u16]) -> bool
     requires { ⌜ Members (now members) count × Placed (now starts) (now codes) 0 ⌝ }
-    ensures { λ r. ⌜ ((rs ls : List ℕ) (n : ℕ) → 0 < n → r ≡ root (take count (now (members .entry))) (plain (proofOf rs ls (now (starts .entry)) (now (codes .entry)) n))) ⌝ }
+    ensures { λ r. ⌜ ((rs ls : List ℕ) (n : ℕ) → 0 < n → r ≡ root (take count (now (members .entry)))
+        (plain (proofOf rs ls (now (starts .entry)) (now (codes .entry)) n))) ⌝ }
 {
     same(sequent(starts, codes, 0), claim_set(members, count))
 }
