@@ -6,12 +6,12 @@ use native.Mathlib.Omega.{arith}
 use lib.ListN.{length, drop, set}
 use Rattle.verdict.specs.Lists.{written}
 use Rattle.formula.specs.Table.{Table}
-use Rattle.formula.specs.Columns.{column, kindColumn, aColumn, bColumn}
+use Rattle.formula.specs.Columns.{column, kindColumn, aColumn, bColumn, column-stored}
 use Rattle.encoding.specs.Parse.{Got, fault, times, count, two}
 use Rattle.claims.specs.ReadClaim.{early, made, entry, entries}
 use Rattle.encoding.specs.Walk.{Reached, Walking, walk-begins, walk-steps, walk-stops, walk-ends, counted-starts, counted-cut}
-use Rattle.formula.specs.Columns.{column-stored}
-use Rattle.claims.specs.Numbers.{InFile, countAt, count-inside}
+use Rattle.encoding.specs.Places.{InFile}
+use Rattle.claims.specs.Numbers.{countAt, count-inside}
 use Rattle.claims.specs.ClaimEntry.{entryAt}
 use Rattle.claims.specs.declared.Part.{Part}
 use Rattle.claims.specs.declared.Part.the-variants.{Read, Refused}

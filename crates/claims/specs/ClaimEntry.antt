@@ -11,10 +11,10 @@ use Rattle.formula.specs.Kind
 use Rattle.formula.specs.Table.{Entry}
 use Rattle.formula.specs.Fields.{hasA, hasB, mapOf}
 use Rattle.encoding.specs.Parse.{Got, fault, got, bind, bytes, field}
-use Rattle.encoding.specs.Places.{bytes-at, bytes-end}
+use Rattle.encoding.specs.Places.{bytes-at, bytes-end, InFile}
 use Rattle.claims.specs.ReadClaim.{early, kind-fits, kindByte, fields, made, entry}
 use Rattle.encoding.specs.Walk.{Reached, guard-passes, guard-fails, guard-cut}
-use Rattle.claims.specs.Numbers.{InFile, fieldAt}
+use Rattle.claims.specs.Numbers.{fieldAt}
 use Rattle.claims.specs.declared.EntryRead.{EntryRead}
 use Rattle.claims.specs.declared.EntryRead.the-variants.{Read, Refused}
 

@@ -9,8 +9,7 @@ use Rattle.formula.specs.Kind
 use Rattle.formula.specs.Table.{Table}
 use Rattle.bits.specs.IfSet.{if-set-le}
 use Rattle.formula.specs.Fields.{hasA, hasB, mapOf}
-use Rattle.encoding.specs.Encode.{FitField}
-use Rattle.encoding.specs.Encode.{Bytes, encodeField}
+use Rattle.encoding.specs.Encode.{FitField, Bytes, encodeField}
 use Rattle.encoding.specs.File.{good}
 use Rattle.encoding.specs.ParseLaws.{Exact, exact-as, seq-exact, via-exact, guard-exact, bytes-exact, two-exact}
 use Rattle.encoding.specs.ChainLaws.{each-as}

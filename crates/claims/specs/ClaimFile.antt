@@ -8,8 +8,7 @@ use Rattle.formula.specs.Kind
 use Rattle.formula.specs.Table.{Entry, Table}
 use Rattle.formula.specs.Codes.{Formula}
 use Rattle.formula.specs.Fields.{hasA, hasB, mapOf}
-use Rattle.encoding.specs.Encode.{FitField}
-use Rattle.encoding.specs.Encode.{encodeTwo, encodeField, encodeCounted, Counts}
+use Rattle.encoding.specs.Encode.{FitField, encodeTwo, encodeField, encodeCounted, Counts}
 use Rattle.encoding.specs.File.{Encodes}
 
 -- the letters CLM1

@@ -18,7 +18,8 @@ use Rattle.formula.specs.Members.{isFormula, formula-tells}
 use Rattle.claims.specs.ReadClaim.{early, members}
 use Rattle.encoding.specs.Walk.{Reached, guard-passes, guard-fails, guard-cut, Walking, walk-begins, walk-steps, walk-stops, walk-ends, counted-starts, counted-cut}
 use Rattle.verdict.specs.WrittenLaws.{written-more}
-use Rattle.claims.specs.Numbers.{InFile, twoAt, countAt, count-inside}
+use Rattle.encoding.specs.Places.{InFile}
+use Rattle.claims.specs.Numbers.{twoAt, countAt, count-inside}
 use Rattle.claims.specs.ClaimEntries.{ListRead, PartTells, part-as}
 use Rattle.claims.specs.declared.Part.{Part}
 

@@ -8,7 +8,7 @@ use lib.ListN.{length, drop}
 use Rattle.verdict.specs.Tells.{fails-holds}
 use Rattle.encoding.specs.Parse.{Got, fault, got, two, field, in-range, count}
 use Rattle.encoding.specs.ListLaws.{range-tells}
-use Rattle.encoding.specs.Places.{wordAt, two-at, two-end}
+use Rattle.encoding.specs.Places.{InFile, wordAt, two-at, two-end}
 use Rattle.encoding.specs.Walk.{Reached, guard-passes, guard-fails, guard-cut, guard-holds}
 use Rattle.claims.specs.declared.number.Number.{Number}
 use Rattle.claims.specs.declared.number.Number.the-variants.{Read, Refused}
@@ -22,11 +22,6 @@ fieldAt early b s at = field early b (drop at s) at
 
 unfoldable pub countAt : ℕ → ℕ → ℕ → List ℕ → ℕ → Got ℕ
 countAt top unfit early s at = count top unfit (two early) (drop at s) at
-
--- a place of the file, under a limit: places shortly after it still fit two bytes
-pub record InFile (s : List ℕ) (limit at : ℕ) : Type 0 where
-  pub within : at ≤ length s
-  pub low : at ≤ limit
 
 abbrev pub NumberTells : List ℕ → ℕ → Got ℕ → Number → Type 0
 NumberTells s limit g (Read v o) = Reached s limit g v o

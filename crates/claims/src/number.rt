@@ -1,6 +1,7 @@
 // Two-byte numbers at a place of a file, little-endian: a field that stands or not, a count in its range.
 ghost use Prim.Native.Nat.{_+_};
-ghost use Rattle.claims.specs.Numbers.{InFile, NumberTells, twoAt, fieldAt, countAt};
+ghost use Rattle.encoding.specs.Places.{InFile};
+ghost use Rattle.claims.specs.Numbers.{NumberTells, twoAt, fieldAt, countAt};
 
 pub enum Number {
     Read { value: u16, next: usize },

@@ -8,7 +8,7 @@ use native.Mathlib.Decide.{decLt, ℕ-discrete}
 use lib.Dec.{eqb, ltb}
 use lib.ListN.{length, getD}
 use borrow.Author.Tests.{eq-eqb, ne-eqb, lt-ltb, le-ltb, eqb-true}
-use Rattle.verdict.specs.Tells.{Tells, tells-as, and-tells, ltb-tells}
+use Rattle.verdict.specs.Tells.{Tells, tells-as, and-tells, ltb-tells, same-test}
 use Rattle.verdict.specs.Tests.{choose}
 use Rattle.formula.specs.Kind
 use Rattle.formula.specs.Table.{Table}
@@ -24,7 +24,6 @@ use Rattle.conditions.specs.KindShapes.{plainShape, fix-test, mu-test, n
 use Rattle.formula.specs.Plain.{tableOf, tableOf-length}
 use Rattle.conditions.specs.OperandBounds.{plain-shape}
 use Rattle.conditions.specs.NameSets.{holds, Marks, Shared}
-use Rattle.verdict.specs.Tells.{same-test}
 use Rattle.conditions.specs.MarksBelow.{MarksBelow}
 use Rattle.conditions.specs.declared.names.Names.{Names}
 

@@ -9,6 +9,11 @@ use native.Mathlib.Omega.{arith}
 use lib.ListN.{length, getD, drop}
 use Rattle.encoding.specs.Parse.{Got, fault, got, bind, word, byte, bytes, two, field}
 
+-- a place of the file, under a limit: places shortly after it still fit two bytes
+pub record InFile (s : List ℕ) (limit at : ℕ) : Type 0 where
+  pub within : at ≤ length s
+  pub low : at ≤ limit
+
 drop-here : (s : List ℕ) (at : ℕ) → at < length s → drop at s ≡ getD s at 0 ∷ drop (suc at) s
 drop-here [] at h = absurd (omega arith)
 drop-here (x ∷ s) zero h = refl

@@ -9,12 +9,11 @@ use lib.Dec.{eqb}
 use lib.ListN.{length, getD}
 use Rattle.verdict.specs.Sets.{elements, _⊆_}
 use Rattle.verdict.specs.Tests.{all, remove}
-use Rattle.verdict.specs.Tells.{Tells, tells-as, eqb-tells, or-tells}
+use Rattle.verdict.specs.Tells.{Tells, tells-as, eqb-tells, or-tells, same-test}
 use Rattle.verdict.specs.SetTells.{all-tells, lists-remove}
 use Rattle.formula.specs.Kind
 use Rattle.formula.specs.Table.{entry, kind}
 use Rattle.formula.specs.Plain.{tableOf, tableOf-kind}
-use Rattle.verdict.specs.Tells.{same-test}
 use Rattle.formula.specs.ShapeLaws.{diamond-shape, box-shape}
 use Rattle.formula.specs.Codes.{entryOf}
 use Rattle.formula.specs.PlainNodes.{codesAt}

@@ -7,8 +7,8 @@ use Prim.Native.Nat.{ℕ, _+_, _%_, _<_, _≤_}
 use native.Mathlib.Omega.{arith}
 use lib.ListN.{length, getD, drop}
 use borrow.Author.Tests.{eq-eqb, ne-eqb, le-leb, lt-leb}
+use Rattle.encoding.specs.Places.{InFile, byte-at, byte-end}
 use Rattle.encoding.specs.Parse.{fault, got, Parser, seq, part, byte, four}
-use Rattle.encoding.specs.Places.{byte-at, byte-end}
 use Rattle.encoding.specs.FourPlaces.{doubleAt, four-at, four-end}
 use Rattle.encoding.specs.Sequence.{seq-stops, seq-stops-later, seq-reads}
 use Rattle.encoding.specs.Walk.{Reached, guard-passes, guard-fails, guard-cut}
@@ -20,9 +20,8 @@ use Rattle.model.specs.declared.header.Header.{Header}
 use Rattle.model.specs.declared.header.Header.the-variants as header-answers
 
 -- a place of the file; those shortly after it still fit two bytes
-pub record InModel (s : List ℕ) (at : ℕ) : Type 0 where
-  pub within : at ≤ length s
-  pub low : at ≤ 65000
+abbrev pub InModel : List ℕ → ℕ → Type 0
+InModel s at = InFile s 65000 at
 
 -- a map that fits stands at a place, with bit 0
 pub record MaskFollows (s : List ℕ) (at : ℕ) : Type 0 where

@@ -12,8 +12,7 @@ use Rattle.formula.specs.Codes.{Formula, entryOf}
 use Rattle.formula.specs.Nodes.{Node, Proof}
 use Rattle.bits.specs.IfSet.{ifSet}
 use Rattle.formula.specs.Fields.{hasPrincipal, hasFirst, hasSecond, hasBack, lowMap}
-use Rattle.encoding.specs.Encode.{FitField}
-use Rattle.encoding.specs.Encode.{TwoBytes, encodeByte, encodeTwo, encodePart, encodeField, encodeCounted, Counts}
+use Rattle.encoding.specs.Encode.{FitField, TwoBytes, encodeByte, encodeTwo, encodePart, encodeField, encodeCounted, Counts}
 use Rattle.encoding.specs.File.{Encodes}
 
 -- the letters PRF1

@@ -15,8 +15,7 @@ use Rattle.formula.specs.PlainNodes.{proofOf}
 use Rattle.formula.specs.NodeColumns.{spread, ruleOf, fourLinks, rulesOf, linksOf, startsFrom, startsOf, spread-more, spread-length, codes-more, starts-length, starts-more, proof-of-columns}
 use Rattle.encoding.specs.Parse.{pick}
 use Rattle.encoding.specs.Places.{wordAt}
-use Rattle.verdict.specs.WrittenLaws.{written-on}
-use Rattle.verdict.specs.WrittenLaws.{written-length}
+use Rattle.verdict.specs.WrittenLaws.{written-on, written-length}
 use Rattle.proofs.specs.ProofDecode.{wordsAt-length, codesPlace, codeCount, nodeEnd, nodeLinks, nodeAt, NodeFits, nodesAt, NodesFit, one-more, proofIn, Decodes, setLinks}
 
 -- the slice of codes may be longer than 24 codes for each of 1,024 nodes

@@ -2,7 +2,7 @@
 use mathlib.Core.Path.{_≡_}
 use mathlib.Core.List.{List}
 use Prim.Native.Nat.{ℕ}
-use lib.ListN.{length, take}
+use lib.ListN.{length, take, replicate}
 use Rattle.verdict.specs.Verdict as verdicts
 use Rattle.verdict.specs.Verdict.{Verdict, accepted}
 use Rattle.verdict.specs.Shown.{shown}
@@ -12,11 +12,13 @@ use Rattle.encoding.specs.Encode.{Bytes}
 use Rattle.reader.specs.Files.{Files, unread, readable, files, firstly}
 use Rattle.reader.specs.declared.Found.{Found}
 
--- nothing is to be stored or judged
+-- a refusal: no entry, no member and no node
 pub record Unread (n q : ℕ) (f : Found) : Type 0 where
   pub verdict : shown (f .verdict) ≡ verdicts.refused n q
   pub entries : f .entries ≡ 0
+  pub listed : f .listed ≡ 0
   pub nodes : f .nodes ≡ 0
+  pub members : f .members ≡ replicate 24 0
 
 pub record Readable (t : Table) (ms : List ℕ) (p : Proof) (f : Found) : Type 0 where
   pub verdict : shown (f .verdict) ≡ accepted

@@ -13,11 +13,10 @@ use lib.ListN.{length, getD, set, replicate, getD-replicate, List·getD-eq-defau
 use lib.Seq.{getD-set-same, getD-set-other}
 use borrow.Author.Tests.{eq-eqb, ne-eqb}
 use Rattle.verdict.specs.Tests.{any, member, same, remove, each}
-use Rattle.verdict.specs.Tells.{Tells, tells-as, fails-holds, eqb-tells, and-tells, not-tells}
+use Rattle.verdict.specs.Tells.{Tells, tells-as, fails-holds, eqb-tells, and-tells, not-tells, same-test}
 use Rattle.verdict.specs.SetTells.{member-tells, same-tells, lists-self, lists-remove}
 use Rattle.sequents.specs.Part.{part, part-none, part-before}
 use Rattle.bits.specs.Bits.{bit, no-bit}
-use Rattle.verdict.specs.Tells.{same-test}
 use Rattle.bits.specs.WordLaws.{test-bit, withBit, withoutBit, with-bit, without-bit, equal-bits}
 
 unfoldable pub inSet : List ℕ → ℕ → Bool

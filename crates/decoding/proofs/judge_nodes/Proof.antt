@@ -55,8 +55,8 @@ use Rattle.reader.specs.Found.{ruled}
 use Rattle.decoding.specs.Standing.{standing, FitsNodes, Judgeable, LaidOut}
 use Rattle.decoding.specs.StandingLaws.{laid-out, judged-alike}
 use Rattle.reader.specs.declared.Found.{Found}
-use Rattle.decoding.proofs.Found as F
-use Rattle.decoding.proofs.Found.Laws as F′
+use Rattle.reader.proofs.Found as F
+use Rattle.reader.proofs.Found.Laws as F′
 use Rattle.decoding.proofs.Local as locals
 use Rattle.decoding.proofs.Local.{Loans, Lists, ref, Token, zeros-typed, three-made, three-turned, three-ended}
 use Rattle.records.proofs.load_nodes as fetch

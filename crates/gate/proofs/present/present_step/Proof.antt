@@ -58,8 +58,8 @@ use Rattle.reader.specs.Found.{FilesTold, ruled}
 use Rattle.decoding.specs.Columns.{nodesIf, Counted, CodesRoom, ProofStored}
 use Rattle.decoding.specs.Standing.{standing, FitsEntries, FitsNodes, Judgeable}
 use Rattle.reader.specs.declared.Found.{Found}
-use Rattle.decoding.proofs.Found as F
-use Rattle.decoding.proofs.Found.Laws as F′
+use Rattle.reader.proofs.Found as F
+use Rattle.reader.proofs.Found.Laws as F′
 use Rattle.permit.specs.Plain.{stateOf}
 use Rattle.permit.specs.PresentStages.{standsBefore, Settled}
 use Rattle.gate.specs.PresentStep.{told-before, may-store-claim, may-store-proof, may-judge, presented-step}
