@@ -97,7 +97,8 @@ module _ (claim model : List ℕ) (l : LentWords) where
         ∙ List·getD-append (words M (k .entries)) _ 0 e (omega (arith, words-length M (k .entries)))
         ∙ words-at M (k .entries) e inside
 
-    pub word-bit : (s : ℕ) → s < length (k .states) → bit (getD (evaluating claim model l .lent .words) e 0) s ≡ own (modelOf (k .states)) (k .entries) e s
+    pub word-bit : (s : ℕ) → s < length (k .states)
+        → bit (getD (evaluating claim model l .lent .words) e 0) s ≡ own (modelOf (k .states)) (k .entries) e s
     word-bit s h = ap (λ (w : ℕ). bit w s) word-at ∙ word-inside _ _ s h
 
     pub word-past-end : (s : ℕ) → length (k .states) ≤ s → bit (getD (evaluating claim model l .lent .words) e 0) s ≡ false
@@ -110,7 +111,8 @@ module _ (claim model : List ℕ) (l : LentWords) where
   finish k = finished k (evaluable-finishes k)
 
   module _ (bc : Bytes claim) (bm : Bytes model) where
-    by-states : (w : Long l) (es : Table) (ms : List ℕ) (f : ClaimFile claim es ms) → judgeTable es ≡ accepted → (r : Reading (List State)) → readModel model ≡ r → Outcome
+    by-states : Long l → (es : Table) (ms : List ℕ) → ClaimFile claim es ms → judgeTable es ≡ accepted
+        → (r : Reading (List State)) → readModel model ≡ r → Outcome
     by-states w es ms f j (refused n q) h = stop (by-model es ms w f (judge-accepts es .0 j) (model-earned bm h))
     by-states w es ms f j (good m) h = finish (record {
       long = w;

@@ -36,8 +36,9 @@ muTable = record { kind = Kind.NAME; a = 2; b = 0 } ∷ record { kind = Kind.BOX
 abbrev falseTable : Table
 falseTable = record { kind = Kind.FALSE; a = 0; b = 0 } ∷ []
 
--- what the file of an irrefutable claim decodes to has no member that is false on the circle
-module _ {claim : List ℕ} {t : Table} {e : ℕ} (read : readClaim claim ≡ good (t, e ∷ [])) (fails : own circle t e 0 ≡ false) (k : Irrefutable claim) where
+-- the one member of a claim is false on the circle: either half of `Irrefutable` then fails
+module _ {claim : List ℕ} {t : Table} {e : ℕ} (read : readClaim claim ≡ good (t, e ∷ [])) (fails : own circle t e 0 ≡ false)
+    (k : Irrefutable claim) where
   refutes : Refutes circle (k .entries) 0 (k .members)
   refutes =
       let same : _≡_ {A = Table × List ℕ} (t, e ∷ []) (k .entries, k .members) = inside (sym read ∙ claim-good (k .claim-file)) in

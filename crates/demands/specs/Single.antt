@@ -1,4 +1,4 @@
--- the single check's promise: its answer is the verdict's number, and demand 3 stands in it
+-- the single check's promise: its answer is the verdict's number, demand 3 stands in it, and what it refuses is earned
 use mathlib.Core.Path.{_≡_, refl}
 use mathlib.Core.Logic.{_↔_}
 use mathlib.Core.List.{List}

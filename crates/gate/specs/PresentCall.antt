@@ -1,4 +1,4 @@
--- presenting's promise: what it answers and leaves, and demand 3 stands in it
+-- presenting's promise: what it answers and leaves, demand 3 stands in it, and what it refuses is earned
 use mathlib.Core.Path.{_≡_, refl, sym, ap, _∙_}
 use mathlib.Core.Logic.{_↔_}
 use mathlib.Core.Bool.{Bool, true, false}
@@ -26,7 +26,7 @@ use Rattle.demands.specs.Demands.{presented-sound, presented-exact, presented-r
 use Rattle.demands.specs.Numbered.{packed-zero}
 use Rattle.gate.specs.PresentStep.{right, PresentedStep}
 
--- the promise of presenting: PresentedStep's three, and demand 3
+-- the promise of presenting: PresentedStep's three, demand 3, and the refusal that is earned
 pub record PresentCall (s : State) (tag : ℕ) (claim proof : List ℕ) (es : List Entry) (vs : List Node) (cs : List ℕ) (r : ℕ) (s′ : State) (es′ : List Entry) (vs′ : List Node) (cs′ : List ℕ) : Type 0 where
   -- 0 for accepted, or refusal × 65,536 + place
   pub answer : r ≡ packed (right s tag claim proof es vs cs .answer)
