@@ -8,6 +8,7 @@ use native.Mathlib.Omega.{arith}
 use lib.ListN.{length}
 use Rattle.verdict.specs.Sets.{elements, _⊆_}
 use Rattle.formula.specs.Codes.{entryOf}
+use Rattle.formula.specs.Table.{Table}
 use Rattle.formula.specs.Nodes.{node}
 use Rattle.meaning.specs.States.{Model}
 use Rattle.meaning.specs.Meaning.{own}
