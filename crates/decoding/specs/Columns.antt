@@ -10,7 +10,7 @@ use Rattle.formula.specs.Nodes.{Proof}
 use Rattle.formula.specs.Records.{nodeRecords, allCodes}
 use Rattle.formula.specs.NodeColumns.{rulesOf, linksOf, startsOf}
 use Rattle.claims.specs.ClaimWalk.{kindsAfter, aAfter, bAfter}
-use Rattle.proofs.specs.ProofDecode.{proofIn, Decodes}
+use Rattle.nodes.specs.ProofDecode.{proofIn, Decodes}
 use Rattle.records.specs.Records.{shownNodes}
 use Rattle.records.specs.declared.Node.{Node}
 

@@ -4,8 +4,8 @@ use mathlib.Core.List.{List}
 use Prim.Native.Nat.{ℕ, zero, suc}
 use native.Mathlib.Omega.{arith}
 use Rattle.formula.specs.Records.{allCodes}
-use Rattle.proofs.specs.ProofDecode.{proofIn}
-use Rattle.proofs.specs.ProofStored.{NodesStored}
+use Rattle.nodes.specs.ProofDecode.{proofIn}
+use Rattle.nodes.specs.ProofStored.{NodesStored}
 use Rattle.decoding.specs.Columns.{nodesIf, ProofColumns}
 
 -- none: nothing is written

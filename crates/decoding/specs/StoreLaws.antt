@@ -18,7 +18,7 @@ use Rattle.formula.specs.CodeCounts.{few-codes}
 use Rattle.encoding.specs.Places.{wordAt}
 use Rattle.formula.specs.NodeColumns.{start-stands, proof-of-columns}
 use Rattle.claims.specs.ReadClaim.{readClaim}
-use Rattle.proofs.specs.ProofDecode.{wordsAt-length, codesPlace, codeCount, nodeEnd, nodeAt, nodesAt, NodesFit, one-more, proofIn}
+use Rattle.nodes.specs.ProofDecode.{wordsAt-length, codesPlace, codeCount, nodeEnd, nodeAt, nodesAt, NodesFit, one-more, proofIn}
 use Rattle.records.specs.Records.{shownEntry, shownNode, shownEntries, shownNodes, entriesOf, nodesOf, CountsFit}
 use Rattle.records.specs.Shown.{map-written, entries-shown, nodes-shown}
 use Rattle.records.specs.declared.Entry.{Entry}

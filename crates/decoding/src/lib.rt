@@ -15,7 +15,7 @@ ghost use Rattle.reader.specs.Files.{tableIn};
 ghost use Rattle.decoding.specs.Columns.{ClaimColumns, NodeColumns, nodesIf, Counted, CodesRoom, ProofColumns, ProofStored};
 ghost use Rattle.decoding.specs.Standing.{standing, Ruled, FitsEntries, FitsNodes, Judgeable, LaidOut};
 use claims::read_claim;
-use proofs::decode_proof;
+use nodes::decode_proof;
 use reader::Found;
 use records::Entry;
 use records::Node;

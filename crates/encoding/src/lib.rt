@@ -2,9 +2,11 @@
 // and their laws are in specs/.
 ghost use mathlib.Core.Path.{_≡_};
 ghost use mathlib.Core.List.{[], _∷_};
-ghost use Prim.Native.Nat.{_<_};
+ghost use Prim.Native.Nat.{_+_, _<_};
+ghost use lib.ListN.{length};
 ghost use Rattle.encoding.specs.Parse.{word, double};
 ghost use Rattle.encoding.specs.Opening.{opens};
+ghost use Rattle.encoding.specs.Places.{wordAt};
 
 // A byte as a wider number.
 pub fn wide(x: u8) -> u16
@@ -49,4 +51,12 @@ pub fn opens(bytes: &[u8], a: u8, b: u8, c: u8, d: u8) -> bool
         return false;
     }
     true
+}
+
+// The number of the two bytes at a place.
+pub fn word_at(bytes: &[u8], at: usize) -> u16
+    requires { ⌜ at + 1 < length (now bytes) ⌝ }
+    ensures { λ r. ⌜ r ≡ wordAt (now (bytes .entry)) at ⌝ }
+{
+    join(bytes[at], bytes[at + 1])
 }

@@ -34,12 +34,12 @@ use Rattle.proofs.specs.ReadProof.{readProof}
 use Rattle.proofs.specs.ProofExact.{good-proof}
 use Rattle.proofs.specs.ProofParts.{kindTable}
 use Rattle.proofs.specs.ProofKinds.{Kinds}
-use Rattle.proofs.specs.ProofStored.{NodeArrays, NodesStored, stored-proof}
-use Rattle.proofs.specs.ProofAnswer.{ProofDone, done-by-kinds, good-stored, accepts}
+use Rattle.nodes.specs.ProofStored.{NodeArrays, NodesStored, stored-proof}
+use Rattle.nodes.specs.ProofAnswer.{ProofDone, done-by-kinds, good-stored, accepts}
 use Rattle.claims.specs.ClaimRecords.{entry-count, member-count, member-formula}
 use Rattle.proofs.specs.ProofRecords.{node-count, codes-few}
 use Rattle.claims.specs.declared.ClaimRead.{ClaimRead}
-use Rattle.proofs.specs.declared.ProofRead.{ProofRead}
+use Rattle.nodes.specs.declared.ProofRead.{ProofRead}
 use Rattle.calculus.specs.Given.{Given}
 use Rattle.calculus.specs.Judge.{judge}
 use Rattle.sequents.specs.Placed.{Members}

@@ -21,7 +21,7 @@ use Rattle.formula.specs.Records.{nodeRecords, allCodes}
 use Rattle.conditions.specs.Judge.{judgeTable}
 use Rattle.claims.specs.ReadClaim.{readClaim}
 use Rattle.proofs.specs.ReadProof.{readProof}
-use Rattle.proofs.specs.ProofDecode.{proofIn}
+use Rattle.nodes.specs.ProofDecode.{proofIn}
 use Rattle.calculus.specs.Judge.{judge}
 use Rattle.records.specs.Records.{shownEntry, shownNode, shownEntries, shownNodes, firstEntries, firstNodes, total}
 use Rattle.records.specs.Shown.{total-codes}

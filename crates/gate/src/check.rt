@@ -9,7 +9,7 @@ ghost use Rattle.gate.specs.Compose.{ClaimHeld};
 ghost use Rattle.demands.specs.Single.{SingleCheck};
 use claims::read_claim;
 use conditions::judge;
-use proofs::read_proof;
+use nodes::read_proof;
 use verdict::Verdict;
 
 // 30 to 34: the proof's bytes; then 35 to 39: the rules.

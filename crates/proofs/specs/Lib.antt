@@ -11,8 +11,4 @@ pub mod ProofHead
 pub mod ProofLaws
 pub mod ProofSteps
 pub mod ProofWhole
-pub mod ProofDecode
-pub mod ProofStored
-pub mod ProofGood
 pub mod ProofKinds
-pub mod ProofAnswer

@@ -2,23 +2,16 @@
 // Places fit two bytes: a node takes at most 57 bytes, so none begins after 6 + 57 × 1,024 = 58,374.
 ghost use mathlib.Core.Path.{_≡_};
 ghost use Prim.Native.Nat.{_+_, _*_, _≤_, _<_};
-ghost use lib.ListN.{length, drop, set};
-ghost use lib.Seq.{sets};
+ghost use lib.ListN.{length, drop};
 ghost use Rattle.verdict.specs.Shown.{shown};
-ghost use Rattle.bits.specs.IfSet.{ifSet};
-ghost use Rattle.formula.specs.Fields.{linkWidth};
 ghost use Rattle.encoding.specs.Opening.{opens};
-ghost use Rattle.encoding.specs.Places.{wordAt};
 ghost use Rattle.encoding.specs.Outcome.{verdictOf};
 ghost use Rattle.proofs.specs.ProofFile.{proofOpening};
 ghost use Rattle.proofs.specs.ReadProof.{rule-fits, isCode, sequent, node, readProof};
-ghost use Rattle.proofs.specs.ProofParts.{kindTable, codesOf, nodesOf, fieldAt, linksAt};
+ghost use Rattle.proofs.specs.ProofParts.{kindTable, codesOf, nodesOf};
 ghost use Rattle.proofs.specs.ProofSteps.{Finds, FindsHead};
-ghost use Rattle.proofs.specs.ProofDecode.{codeCount, wordsAt, nodeLinks, nodeAt, nodeEnd, NodeFits, setLinks, proofIn, Decodes};
-ghost use Rattle.proofs.specs.ProofStored.{NodeArrays, NodesStored};
-ghost use Rattle.proofs.specs.ProofAnswer.{ProofDone};
-use encoding::join;
 use encoding::opens;
+use encoding::word_at;
 use formula::Kind;
 use formula::Rule;
 use verdict::Verdict;
@@ -58,14 +51,6 @@ fn opens_proof(bytes: &[u8]) -> bool
         PROOF_OPENING[2],
         PROOF_OPENING[3],
     )
-}
-
-// The number of the two bytes at a place.
-fn word_at(bytes: &[u8], at: usize) -> u16
-    requires { ⌜ at + 1 < length (now bytes) ⌝ }
-    ensures { λ r. ⌜ r ≡ wordAt (now (bytes .entry)) at ⌝ }
-{
-    join(bytes[at], bytes[at + 1])
 }
 
 // Whether a map fits a rule: its low four bits are the rule's, bit 4 is free, bits 5 to 7 are zero.
@@ -257,161 +242,6 @@ pub fn judge_proof(bytes: &[u8], kinds: &[u8; 256], count: usize) -> Verdict
                 };
             }
             Verdict::Accepted
-        }
-    }
-}
-
-// A field at a place: 0 where it does not stand.
-fn field_at(bytes: &[u8], at: usize, stands: bool) -> u16
-    requires { ⌜ at + ifSet stands 2 ≤ length (now bytes) ⌝ }
-    ensures { λ r. ⌜ r ≡ fieldAt stands (now (bytes .entry)) at ⌝ }
-{
-    if stands {
-        return word_at(bytes, at);
-    }
-    0
-}
-
-// The place after a field.
-fn past_field(at: usize, stands: bool) -> usize
-    requires { ⌜ at ≤ 65535 ⌝ }
-    ensures { λ r. ⌜ (r ≡ at + ifSet stands 2) × (r ≤ at + 2) ⌝ }
-{
-    if stands { at + 2 } else { at }
-}
-
-// The four links of a node, from the fields of its rule.
-fn decode_links(bytes: &[u8], at: usize, rule: u8, v: usize, links: &mut [u16; 4096])
-    requires { ⌜ (at + linkWidth rule ≤ length (now bytes)) × (at ≤ 58376) × (v < 1024) ⌝ }
-    ensures { λ r. ⌜ now (links .exit) ≡ setLinks (now (links .entry)) v (linksAt rule (now (bytes .entry)) at) ⌝ }
-{
-    let has_principal = Rule::has_principal(rule);
-    let has_first = Rule::has_first(rule);
-    let has_second = Rule::has_second(rule);
-    let has_back = Rule::has_back(rule);
-    let first = past_field(at, has_principal);
-    let second = past_field(first, has_first);
-    let back = past_field(second, has_second);
-    links[4 * v] = field_at(bytes, at, has_principal);
-    links[4 * v + 1] = field_at(bytes, first, has_first);
-    links[4 * v + 2] = field_at(bytes, second, has_second);
-    links[4 * v + 3] = field_at(bytes, back, has_back);
-}
-
-// So many two-byte numbers from a place on, written from a start on.
-fn copy_codes(bytes: &[u8], at: usize, n: usize, codes: &mut [u16], start: usize)
-    requires { ⌜ (at + 2 * n ≤ length (now bytes)) × (at ≤ 58383) × (n ≤ 24) × (start + n ≤ length (now codes)) ⌝ }
-    ensures { λ r. ⌜ now (codes .exit) ≡ sets (now (codes .entry)) start (wordsAt (now (bytes .entry)) at n) ⌝ }
-{
-    let mut i: usize = 0;
-    while i < n {
-        codes[start + i] = word_at(bytes, at + 2 * i);
-        i += 1;
-    }
-}
-
-// Where the next node stands, and where its codes go.
-struct Spot {
-    at: usize,
-    start: usize,
-}
-
-// A node that fits into the file: its rule, its links and its codes.
-fn decode_node(
-    bytes: &[u8],
-    spot: Spot,
-    v: usize,
-    rules: &mut [u8; 1024],
-    links: &mut [u16; 4096],
-    codes: &mut [u16],
-) -> Spot
-    requires { ⌜ NodeFits (now bytes) (spot .at) × (spot .at ≤ 58374) × (v < 1024) × (spot .start + 24 ≤ length (now codes)) ⌝ }
-    ensures { λ r. ⌜ (r .at ≡ nodeEnd (now (bytes .entry)) (spot .at)) × (r .start ≡ spot .start + codeCount (now (bytes .entry)) (spot .at)) ⌝ }
-    ensures { λ r. ⌜ now (rules .exit) ≡ set (now (rules .entry)) v (nodeAt (now (bytes .entry)) (spot .at) .rule) ⌝ }
-    ensures { λ r. ⌜ now (links .exit) ≡ setLinks (now (links .entry)) v (nodeLinks (now (bytes .entry)) (spot .at)) ⌝ }
-    ensures { λ r. ⌜ now (codes .exit) ≡ sets (now (codes .entry)) (spot .start) (nodeAt (now (bytes .entry)) (spot .at) .codes) ⌝ }
-{
-    let at = spot.at;
-    let start = spot.start;
-    let rule = bytes[at + 1];
-    rules[v] = rule;
-    decode_links(bytes, at + 2, rule, v, links);
-    let next = at + 2 + Rule::link_width(rule) as usize;
-    if bytes[at] < 16 {
-        return Spot { at: next, start };
-    }
-    let n = bytes[next] as usize;
-    copy_codes(bytes, next + 1, n, codes, start);
-    Spot {
-        at: next + 1 + 2 * n,
-        start: start + n,
-    }
-}
-
-// The nodes of a proof file, written into the arrays that the caller lends, and their number.
-pub fn decode_proof(
-    bytes: &[u8],
-    rules: &mut [u8; 1024],
-    links: &mut [u16; 4096],
-    starts: &mut [u16; 1025],
-    codes: &mut [u16],
-) -> usize
-    requires { ⌜ Decodes (now bytes) × NodeArrays (now rules) (now links) (now starts) (now codes) ⌝ }
-    ensures { λ r. ⌜ r ≡ length (proofIn (now (bytes .entry))) ⌝ }
-    ensures { λ r. ⌜ NodesStored (proofIn (now (bytes .entry))) (now (rules .entry)) (now (links .entry)) (now (starts .entry)) (now (codes .entry))
-        (now (rules .exit)) (now (links .exit)) (now (starts .exit)) (now (codes .exit)) ⌝ }
-{
-    let n = node_count(bytes);
-    let mut spot = Spot { at: 6, start: 0 };
-    let mut i: usize = 0;
-    while i < n {
-        starts[i] = spot.start as u16;
-        spot = decode_node(bytes, spot, i, rules, links, codes);
-        i += 1;
-    }
-    starts[n] = spot.start as u16;
-    n
-}
-
-// How many nodes a proof file has: the two bytes after its opening.
-pub fn node_count(bytes: &[u8]) -> usize
-    requires { ⌜ Decodes (now bytes) ⌝ }
-    ensures { λ r. ⌜ r ≡ length (proofIn (now (bytes .entry))) ⌝ }
-{
-    word_at(bytes, 4) as usize
-}
-
-// The verdict on a proof, and how many nodes it has.
-pub struct ProofRead {
-    pub verdict: Verdict,
-    pub nodes: usize,
-}
-
-// The bytes of a proof, judged and, where nothing is wrong with them, decoded: a refusal writes nothing.
-pub fn read_proof(
-    bytes: &[u8],
-    kinds: &[u8; 256],
-    count: usize,
-    rules: &mut [u8; 1024],
-    links: &mut [u16; 4096],
-    starts: &mut [u16; 1025],
-    codes: &mut [u16],
-) -> ProofRead
-    requires { ⌜ (count ≤ 256) × NodeArrays (now rules) (now links) (now starts) (now codes) ⌝ }
-    ensures { λ r. ⌜ ProofDone (readProof (kindTable (now (kinds .entry)) count) (now (bytes .entry))) r (now (rules .entry)) (now (links .entry))
-        (now (starts .entry)) (now (codes .entry)) (now (rules .exit)) (now (links .exit)) (now (starts .exit)) (now (codes .exit)) ⌝ }
-{
-    match judge_proof(bytes, kinds, count) {
-        Verdict::Refused { number, place } => ProofRead {
-            verdict: Verdict::Refused { number, place },
-            nodes: 0,
-        },
-        Verdict::Accepted => {
-            let nodes = decode_proof(bytes, rules, links, starts, codes);
-            ProofRead {
-                verdict: Verdict::Accepted,
-                nodes,
-            }
         }
     }
 }

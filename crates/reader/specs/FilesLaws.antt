@@ -34,9 +34,9 @@ use Rattle.proofs.specs.ProofFile.{ProofFile}
 use Rattle.proofs.specs.ProofExact.{good-proof}
 use Rattle.proofs.specs.ProofParts.{kindTable}
 use Rattle.proofs.specs.ProofKinds.{Kinds, by-kinds}
-use Rattle.proofs.specs.ProofDecode.{proofIn, Decodes}
-use Rattle.proofs.specs.ProofGood as nodes
-use Rattle.proofs.specs.ProofAnswer.{Accepts, accepts}
+use Rattle.nodes.specs.ProofDecode.{proofIn, Decodes}
+use Rattle.nodes.specs.ProofGood as nodes
+use Rattle.nodes.specs.ProofAnswer.{Accepts, accepts}
 use Rattle.claims.specs.ClaimRecords.{entry-count, member-count}
 use Rattle.proofs.specs.ProofRecords.{node-count, codes-few}
 use Rattle.claims.specs.declared.ClaimRead.{ClaimRead}

@@ -9,8 +9,8 @@ ghost use Rattle.reader.specs.Found.{Unread, Tells, FilesTold};
 ghost use Rattle.reader.specs.FilesLaws.{ClaimHeld};
 use claims::read_claim;
 use conditions::judge;
+use nodes::node_count;
 use proofs::judge_proof;
-use proofs::node_count;
 use verdict::Verdict;
 
 // What was found of a claim and a proof: a refusal, or how many entries, members and nodes there are, and the members.

@@ -6,13 +6,13 @@ use Rattle.verdict.specs.declared.Verdict.the-variants.{Accepted, Refused}
 use Rattle.formula.specs.Nodes.{Proof}
 use Rattle.encoding.specs.File.{Reading, good}
 use Rattle.encoding.specs.Outcome.{verdictOf}
 use Rattle.proofs.specs.ReadProof.{readProof}
 use Rattle.proofs.specs.ProofParts.{kindTable}
-use Rattle.proofs.specs.ProofGood.{Decoded, good-decoded}
-use Rattle.proofs.specs.ProofAnswer.{Accepts, accepts, done-refused, done-good}
+use Rattle.nodes.specs.ProofGood.{Decoded, good-decoded}
+use Rattle.nodes.specs.ProofAnswer.{Accepts, accepts, done-refused, done-good}
 use borrow.Author.Needs.{needs}
-use Rattle.proofs.proofs.read_proof.Statement.{statement}
-use Rattle.proofs.proofs.read_proof.Tie as tie
+use Rattle.nodes.proofs.read_proof.Statement.{statement}
+use Rattle.nodes.proofs.read_proof.Tie as tie
 
 -- the verdict that was judged is the reading's
 module _ (c : tie.After-judge-proof) where

@@ -6,8 +6,8 @@ use Prim.Native.Nat.{ℕ}
 use Rattle.bits.specs.IfSet.{ifSet}
 use Rattle.formula.specs.Fields.{hasPrincipal, hasFirst, hasSecond, hasBack}
 use borrow.Author.Needs.{needs}
-use Rattle.proofs.proofs.decode_links.Statement.{statement}
-use Rattle.proofs.proofs.decode_links.Tie as tie
+use Rattle.nodes.proofs.decode_links.Statement.{statement}
+use Rattle.nodes.proofs.decode_links.Tie as tie
 
 -- the bytes of each field
 widths : (c : tie.After-has-back)

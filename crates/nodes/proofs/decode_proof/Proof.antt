@@ -5,10 +5,10 @@ use mathlib.Core.Path.{_≡_, refl, subst, _∙_}
 use Prim.Native.Nat.{ℕ, _-_, _<_, _≤_}
 use lib.ListN.{set}
 use Rattle.encoding.specs.Places.{wordAt}
-use Rattle.proofs.specs.ProofDecode.{proofIn, nodesAt-length}
-use Rattle.proofs.specs.ProofStored.{Storing, storing-begins, storing-steps, node-fits, stored-long, NodesStored, stored-nodes}
-use Rattle.proofs.proofs.decode_proof.Statement.{statement}
-use Rattle.proofs.proofs.decode_proof.Tie as tie
+use Rattle.nodes.specs.ProofDecode.{proofIn, nodesAt-length}
+use Rattle.nodes.specs.ProofStored.{Storing, storing-begins, storing-steps, node-fits, stored-long, NodesStored, stored-nodes}
+use Rattle.nodes.proofs.decode_proof.Statement.{statement}
+use Rattle.nodes.proofs.decode_proof.Tie as tie
 
 abbrev Inv-loop : tie.InvT-loop
 Inv-loop bytes rules₀ links₀ starts₀ codes₀ n spot₀ i₀ rules links starts codes spot i = (i ≤ n) × (n ≡ wordAt bytes 4) × Storing bytes rules₀ links₀ starts₀ codes₀ rules links starts codes (spot .at) (spot .start) i

@@ -4,10 +4,10 @@ use mathlib.Core.Path.{_≡_, refl, ap, _∙_}
 use mathlib.Core.List.{List}
 use Prim.Native.Nat.{ℕ, _+_}
 use lib.Seq.{sets}
-use Rattle.proofs.specs.ProofDecode.{codesPlace, nodeAt, NodeFits, WithCodes, with-codes, no-codes}
+use Rattle.nodes.specs.ProofDecode.{codesPlace, nodeAt, NodeFits, WithCodes, with-codes, no-codes}
 use borrow.Author.Needs.{needs}
-use Rattle.proofs.proofs.decode_node.Statement.{statement}
-use Rattle.proofs.proofs.decode_node.Tie as tie
+use Rattle.nodes.proofs.decode_node.Statement.{statement}
+use Rattle.nodes.proofs.decode_node.Tie as tie
 
 -- the node, and the place after its fields
 module _ (c : tie.After-link-width) where

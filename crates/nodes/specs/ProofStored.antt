@@ -16,7 +16,7 @@ use Rattle.formula.specs.NodeColumns.{spread, ruleOf, fourLinks, rulesOf, links
 use Rattle.encoding.specs.Parse.{pick}
 use Rattle.encoding.specs.Places.{wordAt}
 use Rattle.verdict.specs.WrittenLaws.{written-on, written-length}
-use Rattle.proofs.specs.ProofDecode.{wordsAt-length, codesPlace, codeCount, nodeEnd, nodeLinks, nodeAt, NodeFits, nodesAt, NodesFit, one-more, proofIn, Decodes, setLinks}
+use Rattle.nodes.specs.ProofDecode.{wordsAt-length, codesPlace, codeCount, nodeEnd, nodeLinks, nodeAt, NodeFits, nodesAt, NodesFit, one-more, proofIn, Decodes, setLinks}
 
 -- the slice of codes may be longer than 24 codes for each of 1,024 nodes
 pub record NodeArrays (rs ls ss cs : List ℕ) : Type 0 where

@@ -19,13 +19,13 @@ use Rattle.encoding.specs.ListLaws.{range-tells}
 use Rattle.encoding.specs.Places.{wordAt}
 use Rattle.encoding.specs.Opening.{opens}
 use Rattle.encoding.specs.Walk.{Reached}
 use Rattle.proofs.specs.ProofFile.{proofOpening}
 use Rattle.proofs.specs.ReadProof.{early, rule-fits, isCode, sequent, made, node, readProof}
 use Rattle.proofs.specs.ProofParts.{heading, oneCode, afterCode, codesOf, nodesOf}
 use Rattle.proofs.specs.ProofHead.{head-cut, head-unfit, head-short, head-whole}
 use Rattle.proofs.specs.ProofLaws.{code-cut, code-unfit, code-fits, sequent-cut, sequent-unfit, sequent-codes, node-stops, node-empty, node-codes, node-codes-stop}
 use Rattle.proofs.specs.ProofWhole.{not-opened, no-count, count-unfit, counted}
-use Rattle.proofs.specs.ProofDecode.{wordsAt, codesPlace, nodeEnd, nodeLinks, nodeAt, NodeFits, with-codes, no-codes, nodesAt, NodesFit, no-node, one-more, proofIn, Decodes}
+use Rattle.nodes.specs.ProofDecode.{wordsAt, codesPlace, nodeEnd, nodeLinks, nodeAt, NodeFits, with-codes, no-codes, nodesAt, NodesFit, no-node, one-more, proofIn, Decodes}
 
 -- something was read
 pub record Read {A : Type 0} (g : Got A) : Type 0 where

@@ -2,8 +2,8 @@
 use native.Mathlib.Omega.{arith}
 use mathlib.Core.Path.{refl}
 use borrow.Author.Needs.{needs}
-use Rattle.proofs.proofs.past_field.Statement.{statement}
-use Rattle.proofs.proofs.past_field.Tie as tie
+use Rattle.nodes.proofs.past_field.Statement.{statement}
+use Rattle.nodes.proofs.past_field.Tie as tie
 
 add-result : tie.Need-add-result
 add-result c = search needs

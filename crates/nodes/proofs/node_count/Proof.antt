@@ -2,9 +2,9 @@
 use mathlib.Core.Path.{sym, _∙_}
 use borrow.Author.Needs.{needs}
 use Rattle.encoding.specs.Places.{wordAt}
-use Rattle.proofs.specs.ProofDecode.{nodesAt-length}
-use Rattle.proofs.proofs.node_count.Statement.{statement}
-use Rattle.proofs.proofs.node_count.Tie as tie
+use Rattle.nodes.specs.ProofDecode.{nodesAt-length}
+use Rattle.nodes.proofs.node_count.Statement.{statement}
+use Rattle.nodes.proofs.node_count.Tie as tie
 
 word-at-requires : tie.Need-word-at-requires
 word-at-requires c κs = search needs

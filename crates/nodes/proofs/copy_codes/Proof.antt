@@ -8,9 +8,9 @@ use lib.ListN.{length}
 use lib.Seq.{sets, length-sets}
 use Rattle.encoding.specs.Places.{wordAt}
 use Rattle.verdict.specs.WrittenLaws.{sets-more}
-use Rattle.proofs.specs.ProofDecode.{wordsAt, wordsAt-length, wordsAt-more}
-use Rattle.proofs.proofs.copy_codes.Statement.{statement}
-use Rattle.proofs.proofs.copy_codes.Tie as tie
+use Rattle.nodes.specs.ProofDecode.{wordsAt, wordsAt-length, wordsAt-more}
+use Rattle.nodes.proofs.copy_codes.Statement.{statement}
+use Rattle.nodes.proofs.copy_codes.Tie as tie
 
 abbrev Inv-loop : tie.InvT-loop
 Inv-loop bytes at n codes₀ start i₀ codes i = (i ≤ n) × (codes ≡ sets codes₀ start (wordsAt bytes at i))

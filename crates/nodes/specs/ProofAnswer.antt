@@ -13,11 +13,11 @@ use Rattle.formula.specs.Records.{allCodes}
 use Rattle.formula.specs.NodeColumns.{rulesOf, linksOf, startsOf}
 use Rattle.encoding.specs.File.{Reading, refused, good}
 use Rattle.encoding.specs.Outcome.{verdictOf}
 use Rattle.proofs.specs.ReadProof.{readProof}
 use Rattle.proofs.specs.ProofParts.{kindTable}
 use Rattle.proofs.specs.ProofKinds.{Kinds, by-kinds}
-use Rattle.proofs.specs.ProofStored.{NodesStored}
-use Rattle.proofs.specs.declared.ProofRead.{ProofRead}
+use Rattle.nodes.specs.ProofStored.{NodesStored}
+use Rattle.nodes.specs.declared.ProofRead.{ProofRead}
 
 -- the number of nodes, or none
 abbrev pub nodesIn : Reading Proof → ℕ

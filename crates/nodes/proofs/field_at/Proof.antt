@@ -1,8 +1,8 @@
 -- A field that stands is the number at its place.
 use native.Mathlib.Omega.{arith}
 use borrow.Author.Needs.{needs}
-use Rattle.proofs.proofs.field_at.Statement.{statement}
-use Rattle.proofs.proofs.field_at.Tie as tie
+use Rattle.nodes.proofs.field_at.Statement.{statement}
+use Rattle.nodes.proofs.field_at.Tie as tie
 
 word-at-requires : tie.Need-word-at-requires
 word-at-requires c κs = omega (arith, rw (c .if1 .taken) at (c .before .before .pre))

@@ -1,0 +1,4 @@
+pub mod ProofDecode
+pub mod ProofStored
+pub mod ProofGood
+pub mod ProofAnswer
