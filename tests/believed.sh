@@ -4,6 +4,7 @@
 #                                  meaning: what is promised, `Correct`, `Irrefutable` and `Earned`
 #                                  contracts: what stands in the clauses of the functions that C can call (#[no_mangle])
 #   tests/believed.sh --names    with each definition that is reached, and its lines
+#   tests/believed.sh --check    and fails unless the documents give these two figures
 #
 # From a root on, each name in a definition is followed to the definition that it names, in the same file or by the file's imports, and
 # so on (the blocks of tests/definitions.awk: a signature with its clauses, a data or record declaration, a module's parameters). A law is
@@ -17,7 +18,17 @@ cd "$(dirname "$0")/.."
 case "${1:-}" in
     '') list=0 ;;
     --names) list=1 ;;
-    *) echo 'believed: no option but --names' >&2; exit 2 ;;
+    --check)
+        figures=$("$0")
+        echo "$figures" | grep 'lines in'
+        for set in meaning contracts; do
+            lines=$(sed -n "s/^$set: \([0-9]*\) lines.*/\1/p" <<<"$figures")
+            for file in docs/ARCHITECTURE.md crates/demands/specs/Demands.antt; do
+                grep -q "\b$lines lines" "$file" || { echo "believed: $file does not say $lines lines for $set" >&2; exit 1; }
+            done
+        done
+        exit 0 ;;
+    *) echo 'believed: --names or --check, or nothing' >&2; exit 2 ;;
 esac
 roots='crates/demands/specs/Correct.antt:Correct crates/demands/specs/Correct.antt:Irrefutable crates/demands/specs/Earned.antt:Earned'
 

@@ -4,6 +4,8 @@ use mathlib.Core.List.{List, [], _∷_, _++_}
 use Prim.Native.Nat.{ℕ, suc, _/_, _%_, _<_}
 use native.Mathlib.Omega.{arith}
 use lib.ListN.{length, getD}
+use mir.Syntax.{w8}
+use mir.Val.{Fits}
 use Rattle.verdict.specs.Lists.{Each, none, more}
 use Rattle.encoding.specs.Encode.{Bytes, OneByte, TwoBytes, encodeByte, encodeTwo, encodeAll}
 
@@ -26,3 +28,7 @@ all-bytes f (more {x = x} h k) = join-bytes (f x h) (all-bytes f k)
 pub bytes-of : (s : List ℕ) → ((i : ℕ) → i < length s → getD s i 0 < 256) → Bytes s
 bytes-of [] h = none
 bytes-of (x ∷ s) h = let first : x < 256 = h 0 (omega arith) in more first (bytes-of s (λ i l. h (suc i) (omega arith)))
+
+-- a lent slice of bytes is a byte string
+pub lent-bytes : (s : List ℕ) → ((i : ℕ) → Fits w8 (getD s i 0)) → Bytes s
+lent-bytes s h = bytes-of s (λ i l. h i .fits)

@@ -69,7 +69,7 @@ fn write_verdict(verdict: Verdict) -> bool {
 }
 
 fn judge(claim: &[u8], proof: &[u8]) {
-    if !write_verdict(gate::check::judge_files(claim, proof)) {
+    if !write_verdict(single::judge_files(claim, proof)) {
         os::fail(b"standard output");
     }
 }

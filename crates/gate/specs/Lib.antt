@@ -1,9 +1,6 @@
--- the single check, stage by stage
-pub mod Compose
 -- what lent records hold
 pub mod LentSlices
--- evaluating and presenting, stage by stage in plain numbers
-pub mod EvaluateFiles
-pub mod EvaluateStages
+-- evaluating and presenting
+pub mod EvaluateCall
 pub mod PresentStep
 pub mod PresentCall

@@ -31,10 +31,10 @@ use Rattle.reader.specs.Files as decoding
 use Rattle.reader.specs.Files.{Files, unread, readable, firstly, files, tableIn}
 use Rattle.reader.specs.Found.{Unread, Readable, Tells, ruled}
 use Rattle.reader.specs.FilesLaws.{read-table, read-entries, read-decodes, read-nodes, read-count, read-codes, read-well}
-use Rattle.decoding.specs.ReadableLaws.{read-given, read-members}
+use Rattle.standing.specs.ReadableLaws.{read-given, read-members}
 use Rattle.decoding.specs.Columns.{nodesIf, Counted, CodesRoom, ProofStored}
-use Rattle.decoding.specs.Standing.{standing, FitsEntries, FitsNodes, Ruleable, Judgeable}
-use Rattle.decoding.specs.StandingLaws.{standing-is}
+use Rattle.standing.specs.Standing.{standing, FitsEntries, FitsNodes, Ruleable, Judgeable}
+use Rattle.standing.specs.StandingLaws.{standing-is}
 use Rattle.reader.specs.declared.Found.{Found}
 use Rattle.permit.specs.GateState.{Gate, closed, opened, holding}
 use Rattle.permit.specs.Plain.{stateOf, leftBy}

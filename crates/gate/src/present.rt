@@ -1,7 +1,6 @@
 // "Presenting a tag, claim and proof (on acceptance it holds that tag)": what stands before the files, the files, the lent records and
 // what the judge says of what stands there, and the state that the verdict leaves.
 ghost use Rattle.gate.specs.PresentCall.{PresentCall};
-use decoding::judge_records;
 use decoding::store_claim;
 use decoding::store_proof;
 use permit::State;
@@ -11,6 +10,7 @@ use permit::present::stands_before;
 use reader::read_files;
 use records::Entry;
 use records::Node;
+use standing::judge_records;
 
 // With 1 to 34 nothing is stored: the files are then found to have no entry and no node.
 fn present_step(

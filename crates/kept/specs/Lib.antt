@@ -1,3 +1,2 @@
 pub mod BoxLaws
-pub mod AxiomParts
 pub mod Judged

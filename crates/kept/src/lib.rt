@@ -1,5 +1,4 @@
 // Whether a node keeps its rule, over tables in plain numbers: refusal 37. What the rules ask is in the crate
 // calculus.
-mod axioms; // axioms.rt: rules 0 and 1
 pub mod kept; // kept.rt: the test of each rule, refusal 37
 mod modal; // modal.rt: rule 4

@@ -3,17 +3,14 @@ use mathlib.Core.Path.{_≡_, refl, sym, ap, _∙_}
 use mathlib.Core.List.{List, []}
 use Prim.Native.Nat.{ℕ, _≤_}
 use native.Mathlib.Omega.{arith}
-use lib.ListN.{length, getD, take, drop, length-append, length-drop}
+use lib.ListN.{length, take, drop, length-append, length-drop}
 use lib.Seq.{length-take-le, take-all, take-append-seam}
-use mir.Syntax.{w8}
-use mir.Val.{Fits}
 use Rattle.verdict.specs.Verdict as verdicts
 use Rattle.verdict.specs.Verdict.{Verdict, accepted}
 use Rattle.verdict.specs.VerdictLaws.{accepted-not-refused}
 use Rattle.verdict.specs.Lists.{written}
 use Rattle.verdict.specs.Shown.{shown}
 use Rattle.encoding.specs.Encode.{Bytes}
-use Rattle.encoding.specs.ByteLaws.{bytes-of}
 use Rattle.encoding.specs.File.{Reading, refused, good}
 use Rattle.encoding.specs.Outcome.{verdictOf}
 use Rattle.formula.specs.Table.{Table}
@@ -43,10 +40,6 @@ use Rattle.claims.specs.declared.ClaimRead.{ClaimRead}
 use Rattle.reader.specs.Files.{Files, unread, readable, afterProof, firstly, afterClaim, files, tableRead, tableIn}
 use Rattle.reader.specs.Found.{Unread, Tells}
 use Rattle.reader.specs.declared.Found.{Found}
-
--- a lent slice of bytes is a byte string
-pub lent-bytes : (s : List ℕ) → ((i : ℕ) → Fits w8 (getD s i 0)) → Bytes s
-lent-bytes s h = bytes-of s (λ i l. h i .fits)
 
 -- what a claim that was read leaves in plain numbers
 pub record ClaimHeld (n : ℕ) (mem : List ℕ) (k : ℕ) : Type 0 where

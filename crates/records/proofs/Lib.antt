@@ -1,3 +1,4 @@
 pub mod Again
 pub mod Column
 pub mod Slice
+pub mod Local

@@ -22,9 +22,9 @@ use Rattle.calculus.specs.View.{plain}
 use Rattle.calculus.specs.Judge.{codes, keeps, rule-number, back-kept, loop, root, judge}
 use Rattle.calculus.specs.Steps.{keeps-leaf}
 use Rattle.calculus.specs.JudgeExact.{judge-is, claim-stage, loops-stage}
-use Rattle.rules.specs.ScanLaws.{Passed, scan-passes, scan-fails, after, scan-then}
-use Rattle.rules.specs.Owners.{Parented, OwnersFilled, tree-judged}
-use Rattle.rules.specs.TreeStages.{tree-then, accepted-tree}
+use Rattle.verdict.specs.ScanLaws.{Passed, scan-passes, scan-fails, after, scan-then}
+use Rattle.tree.specs.Owners.{Parented, OwnersFilled, tree-judged}
+use Rattle.tree.specs.TreeStages.{tree-then, accepted-tree}
 use Rattle.rules.specs.Flags.{Noted, Companion, companion-fits, loops-judged}
 use Rattle.rules.specs.LoopStages.{linked-of, back-kept-is, no-leaf}
 use Rattle.kept.specs.Judged.{Judged, codes-is}

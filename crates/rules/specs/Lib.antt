@@ -1,9 +1,4 @@
 -- what the code computes: tables of owners and flags
-pub mod ScanLaws
-pub mod Owners
-pub mod OwnerLaws
-pub mod AdoptLaws
-pub mod TreeStages
 pub mod Flags
 pub mod FlagLaws
 pub mod WalkLaws

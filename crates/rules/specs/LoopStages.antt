@@ -14,7 +14,7 @@ use Rattle.formula.specs.Nodes.{Proof, Node, node}
 use Rattle.formula.specs.PlainNodes.{proofOf, proofOf-length, proofOf-node}
 use Rattle.calculus.specs.View.{plain}
 use Rattle.calculus.specs.Judge.{codes, ancestor, back-kept, loop}
-use Rattle.rules.specs.Owners.{Owned}
+use Rattle.tree.specs.Owners.{Owned}
 use Rattle.rules.specs.Flags.{Flagged, Noted, Linked, WalkedUp, companion-fits}
 
 module _ (rs ls ss cs : List ℕ) (n : ℕ) where

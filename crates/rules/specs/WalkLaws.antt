@@ -15,7 +15,7 @@ use Rattle.formula.specs.Nodes.{Proof, node}
 use Rattle.calculus.specs.View.{plain}
 use Rattle.calculus.specs.Judge.{parent, climb, ancestor, on-loop, good-path}
 use Rattle.calculus.specs.Steps.{climb-end, climb-step}
-use Rattle.rules.specs.Owners.{Parented}
+use Rattle.tree.specs.Owners.{Parented}
 use Rattle.rules.specs.Flags.{Noted}
 
 abbrev box : Proof → ℕ → Bool

@@ -10,19 +10,19 @@ ghost use Rattle.formula.specs.Plain.{tableOf};
 ghost use Rattle.formula.specs.PlainNodes.{proofOf};
 ghost use Rattle.calculus.specs.View.{plain};
 ghost use Rattle.calculus.specs.Judge.{keeps, loop, judge as judged};
-ghost use Rattle.rules.specs.ScanLaws.{FirstBad};
+ghost use Rattle.verdict.specs.ScanLaws.{FirstBad};
 ghost use Rattle.sequents.specs.Placed.{Members};
 ghost use Rattle.kept.specs.Judged.{Judged};
 ghost use Rattle.rules.specs.JudgeStages.{TreeReady, Laid, nodes-judged, tree-rules-judged};
-ghost use Rattle.rules.specs.Owners.{OwnedBy, Parented};
+ghost use Rattle.tree.specs.Owners.{OwnedBy, Parented};
 use super::loops::companion;
 use super::loops::fill_flags;
-use super::tree::fill_owners;
 use bits::wide;
 use formula::Rule;
 use kept::kept::kept;
 use sequents::sets::root_is_claim;
 use sequents::sets::same_sequent;
+use tree::fill_owners;
 use verdict::Verdict;
 
 // What is said of a node: it keeps its rule; it is no back leaf, or its loop path is good.

@@ -2,4 +2,3 @@
 // the crate calculus; whether a node keeps its rule, in kept.
 pub mod judge; // judge.rt: the whole, stage by stage
 mod loops; // loops.rt: the walk from a back leaf up to its companion, refusals 38 and 39
-mod tree; // tree.rt: the owners of the nodes, refusal 35

@@ -6,7 +6,7 @@ ghost use Prim.Native.Nat.{ℕ, _+_, _*_, _-_, _<_, _≤_};
 ghost use lib.ListN.{length, take, drop, replicate, getD};
 ghost use Rattle.verdict.specs.Tests.{any};
 ghost use Rattle.formula.specs.PlainNodes.{codesAt, proofOf};
-ghost use Rattle.rules.specs.Owners.{Parented};
+ghost use Rattle.tree.specs.Owners.{Parented};
 ghost use Rattle.rules.specs.Flags.{in-focus, may-loop, Inside, Flagged, WalkedUp, Companion};
 use bits::wide;
 use formula::Rule;

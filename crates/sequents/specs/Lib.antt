@@ -4,3 +4,4 @@ pub mod CodeSet
 -- nodes as they stand in the lists, and the test of each rule over them
 pub mod Placed
 pub mod KeptLaws
+pub mod AxiomParts

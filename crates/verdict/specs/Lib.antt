@@ -1,6 +1,7 @@
 pub mod Verdict
 pub mod Shown
 pub mod VerdictLaws
+pub mod ScanLaws
 pub mod Lists
 pub mod WrittenLaws
 pub mod EachLaws

@@ -49,8 +49,8 @@ use Rattle.records.proofs.store_entries.Met as store-thm
 use Rattle.reader.specs.Files.{tableIn}
 use Rattle.decoding.specs.Columns.{ClaimColumns}
 use Rattle.decoding.specs.StoreLaws.{claim-stored}
-use Rattle.decoding.proofs.Local as locals
-use Rattle.decoding.proofs.Local.{Loans, Lists, ref, Token, zeros-typed, three-made, three-turned, three-ended}
+use Rattle.records.proofs.Local as locals
+use Rattle.records.proofs.Local.{Loans, Lists, ref, Token, zeros-typed, three-made, three-turned, three-ended}
 use Rattle.decoding.proofs.claim_columns as fill
 use Rattle.decoding.proofs.claim_columns.Symbol as fill-def
 use Rattle.decoding.proofs.claim_columns.Symbol.{name as #fill}

@@ -43,8 +43,8 @@ use Rattle.records.specs.declared.Node.{Node}
 use Rattle.records.proofs.Node as T
 use Rattle.decoding.specs.Columns.{nodesIf, Counted, CodesRoom, ProofColumns, ProofStored}
 use Rattle.decoding.specs.StoreLaws.{counts-fit, proof-stored}
-use Rattle.decoding.proofs.Local as locals
-use Rattle.decoding.proofs.Local.{Loans, Lists, ref, Token, zeros-typed, three-made, three-turned, three-ended}
+use Rattle.records.proofs.Local as locals
+use Rattle.records.proofs.Local.{Loans, Lists, ref, Token, zeros-typed, three-made, three-turned, three-ended}
 use Rattle.decoding.proofs.proof_columns as fill
 use Rattle.decoding.proofs.proof_columns.Symbol as fill-def
 use Rattle.decoding.proofs.proof_columns.Symbol.{name as #fill}

@@ -5,7 +5,8 @@ use Prim.Native.Nat.{ℕ}
 use borrow.Author.Needs.{needs}
 use Rattle.verdict.specs.Shown.{shown}
 use Rattle.encoding.specs.Encode.{Bytes}
-use Rattle.reader.specs.FilesLaws.{lent-bytes, claim-unread, claim-held, claim-told}
+use Rattle.encoding.specs.ByteLaws.{lent-bytes}
+use Rattle.reader.specs.FilesLaws.{claim-unread, claim-held, claim-told}
 use Rattle.reader.proofs.read_both.Statement.{statement}
 use Rattle.reader.proofs.read_both.Tie as tie
 

@@ -3,7 +3,8 @@ use mathlib.Core.Path.{ap}
 use borrow.Author.Needs.{needs}
 use Rattle.verdict.specs.Shown.{shown}
 use Rattle.encoding.specs.Encode.{Bytes}
-use Rattle.reader.specs.FilesLaws.{lent-bytes, first-unread, first-passed}
+use Rattle.encoding.specs.ByteLaws.{lent-bytes}
+use Rattle.reader.specs.FilesLaws.{first-unread, first-passed}
 use Rattle.reader.proofs.read_files.Statement.{statement}
 use Rattle.reader.proofs.read_files.Tie as tie
 

@@ -2,7 +2,7 @@
 use mathlib.Core.Path.{ap, _∙_}
 use borrow.Author.Needs.{needs}
 use Rattle.verdict.specs.Verdict.{packed}
-use Rattle.gate.specs.Compose.{lent-bytes}
+use Rattle.encoding.specs.ByteLaws.{lent-bytes}
 use Rattle.demands.specs.Single.{single}
 use Rattle.gate.proofs.check.focus_check.Statement.{statement}
 use Rattle.gate.proofs.check.focus_check.Tie as tie

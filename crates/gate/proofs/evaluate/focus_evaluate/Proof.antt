@@ -43,14 +43,15 @@ use Rattle.records.specs.Records.{shownEntries}
 use Rattle.records.specs.declared.Entry.{Entry}
 use Rattle.records.proofs.Entry as T
 use Rattle.reader.specs.Files.{tableIn}
-use Rattle.gate.specs.EvaluateFiles.{EvaluatedFiles, EvaluateCall, evaluate-call}
-use Rattle.gate.specs.declared.evaluate.Evaluation.{Evaluation}
-use Rattle.gate.proofs.evaluate.Evaluation as Ev
-use Rattle.gate.proofs.evaluate.Evaluation.Laws as Ev′
-use Rattle.gate.proofs.evaluate.evaluate_files as evaluate
-use Rattle.gate.proofs.evaluate.evaluate_files.Symbol as evaluate-def
-use Rattle.gate.proofs.evaluate.evaluate_files.Symbol.{name as #evaluate}
-use Rattle.gate.proofs.evaluate.evaluate_files.Met as evaluate-thm
+use Rattle.gate.specs.EvaluateCall.{EvaluateCall, evaluate-call}
+use Rattle.evaluation.specs.EvaluateFiles.{EvaluatedFiles}
+use Rattle.evaluation.specs.declared.Evaluation.{Evaluation}
+use Rattle.evaluation.proofs.Evaluation as Ev
+use Rattle.evaluation.proofs.Evaluation.Laws as Ev′
+use Rattle.evaluation.proofs.evaluate_files as evaluate
+use Rattle.evaluation.proofs.evaluate_files.Symbol as evaluate-def
+use Rattle.evaluation.proofs.evaluate_files.Symbol.{name as #evaluate}
+use Rattle.evaluation.proofs.evaluate_files.Met as evaluate-thm
 use Rattle.decoding.proofs.store_claim as keep-rows
 use Rattle.decoding.proofs.store_claim.Symbol as keep-rows-def
 use Rattle.decoding.proofs.store_claim.Symbol.{name as #keep-rows}
@@ -215,5 +216,5 @@ focus-evaluate-spec 𝓤 H 𝓜 𝓖 𝓡 =
     entered 𝓤 H (tripleOf 𝓤 H (𝓖 .A) f.signature (f.spec 𝓤 H (𝓖 .A) (𝓜 .mem) (𝓡 .run)))
     (tables 𝓤 H 𝓜 𝓡 code.env .C) (tables 𝓤 H 𝓜 𝓡 code.env .Λ) #fn code.function (code.unfolded 𝓤 H 𝓜 𝓡)
     (f-meets 𝓤 H (𝓖 .A) (givenOf 𝓤 H 𝓜 𝓖) (𝓜 .mem) (𝓡 .run) (tablesOf 𝓤 H 𝓜 (tables 𝓤 H 𝓜 𝓡 code.env))
-    (cited 𝓤 H (Evaluate 𝓤 H (𝓖 .A) (𝓜 .mem) (𝓡 .run)) 𝓜 𝓡 code.env #evaluate evaluate-def.routine code.calls-gate·evaluate·evaluate-files (evaluate-thm.met 𝓤 H 𝓜 𝓖 𝓡))
+    (cited 𝓤 H (Evaluate 𝓤 H (𝓖 .A) (𝓜 .mem) (𝓡 .run)) 𝓜 𝓡 code.env #evaluate evaluate-def.routine code.calls-evaluation·evaluate-files (evaluate-thm.met 𝓤 H 𝓜 𝓖 𝓡))
     (cited 𝓤 H (Keep 𝓤 H (𝓖 .A) (𝓜 .mem) (𝓡 .run)) 𝓜 𝓡 code.env #keep-rows keep-rows-def.routine code.calls-decoding·store-claim (keep-rows-thm.met 𝓤 H 𝓜 𝓖 𝓡)))

@@ -56,7 +56,7 @@ use Rattle.records.proofs.Slice.{Slice, slice-lent, slice-back, slice-shared, s
 use Rattle.reader.specs.Files.{tableIn}
 use Rattle.reader.specs.Found.{FilesTold, ruled}
 use Rattle.decoding.specs.Columns.{nodesIf, Counted, CodesRoom, ProofStored}
-use Rattle.decoding.specs.Standing.{standing, FitsEntries, FitsNodes, Judgeable}
+use Rattle.standing.specs.Standing.{standing, FitsEntries, FitsNodes, Judgeable}
 use Rattle.reader.specs.declared.Found.{Found}
 use Rattle.reader.proofs.Found as F
 use Rattle.reader.proofs.Found.Laws as F′
@@ -86,10 +86,10 @@ use Rattle.decoding.proofs.store_proof as put-nodes
 use Rattle.decoding.proofs.store_proof.Symbol as put-nodes-def
 use Rattle.decoding.proofs.store_proof.Symbol.{name as #put-nodes}
 use Rattle.decoding.proofs.store_proof.Met as put-nodes-thm
-use Rattle.decoding.proofs.judge_records as rule-on
-use Rattle.decoding.proofs.judge_records.Symbol as rule-on-def
-use Rattle.decoding.proofs.judge_records.Symbol.{name as #rule-on}
-use Rattle.decoding.proofs.judge_records.Met as rule-on-thm
+use Rattle.standing.proofs.judge_records as rule-on
+use Rattle.standing.proofs.judge_records.Symbol as rule-on-def
+use Rattle.standing.proofs.judge_records.Symbol.{name as #rule-on}
+use Rattle.standing.proofs.judge_records.Met as rule-on-thm
 use Rattle.permit.proofs.present.settle as leave
 use Rattle.permit.proofs.present.settle.Symbol as leave-def
 use Rattle.permit.proofs.present.settle.Symbol.{name as #leave}
@@ -412,5 +412,5 @@ present-step-spec 𝓤 H 𝓜 𝓖 𝓡 =
     (cited 𝓤 H (Read 𝓤 H (𝓖 .A) (𝓜 .mem) (𝓡 .run)) 𝓜 𝓡 code.env #read read-def.routine code.calls-reader·read-files (read-thm.met 𝓤 H 𝓜 𝓖 𝓡))
     (cited 𝓤 H (PutE 𝓤 H (𝓖 .A) (𝓜 .mem) (𝓡 .run)) 𝓜 𝓡 code.env #put-entries put-entries-def.routine code.calls-decoding·store-claim (put-entries-thm.met 𝓤 H 𝓜 𝓖 𝓡))
     (cited 𝓤 H (PutN 𝓤 H (𝓖 .A) (𝓜 .mem) (𝓡 .run)) 𝓜 𝓡 code.env #put-nodes put-nodes-def.routine code.calls-decoding·store-proof (put-nodes-thm.met 𝓤 H 𝓜 𝓖 𝓡))
-    (cited 𝓤 H (Rule 𝓤 H (𝓖 .A) (𝓜 .mem) (𝓡 .run)) 𝓜 𝓡 code.env #rule-on rule-on-def.routine code.calls-decoding·judge-records (rule-on-thm.met 𝓤 H 𝓜 𝓖 𝓡))
+    (cited 𝓤 H (Rule 𝓤 H (𝓖 .A) (𝓜 .mem) (𝓡 .run)) 𝓜 𝓡 code.env #rule-on rule-on-def.routine code.calls-standing·judge-records (rule-on-thm.met 𝓤 H 𝓜 𝓖 𝓡))
     (cited 𝓤 H (Leave 𝓤 H (𝓖 .A) (𝓜 .mem) (𝓡 .run)) 𝓜 𝓡 code.env #leave leave-def.routine code.calls-permit·present·settle (leave-thm.met 𝓤 H 𝓜 𝓖 𝓡)))

@@ -1,7 +1,7 @@
 -- a leaf that was found stays; else this one is it, or none is
 use mathlib.Core.Path.{sym, _∙_}
 use native.Mathlib.Omega.{arith}
-use Rattle.rules.specs.ScanLaws.{bad-stays, good-passes, bad-here}
+use Rattle.verdict.specs.ScanLaws.{bad-stays, good-passes, bad-here}
 use Rattle.rules.proofs.judge.first_bad.Statement.{statement}
 use Rattle.rules.proofs.judge.first_bad.Tie as tie
 

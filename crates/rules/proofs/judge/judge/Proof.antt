@@ -2,7 +2,7 @@
 use mathlib.Core.Path.{refl, sym, ap, _∙_}
 use borrow.Author.Needs.{needs}
 use Rattle.verdict.specs.Shown.{shown}
-use Rattle.rules.specs.TreeStages.{filled-parented}
+use Rattle.tree.specs.TreeStages.{filled-parented}
 use Rattle.rules.specs.JudgeStages.{tree-bad, tree-good, filled-tree, filled-judged}
 use Rattle.rules.proofs.judge.judge.Statement.{statement}
 use Rattle.rules.proofs.judge.judge.Tie as tie

@@ -2,7 +2,7 @@
 use mathlib.Core.Path.{sym}
 use native.Mathlib.Omega.{arith}
 use borrow.Author.Needs.{needs}
-use Rattle.rules.specs.ScanLaws.{bad-found, none-found}
+use Rattle.verdict.specs.ScanLaws.{bad-found, none-found}
 use Rattle.rules.proofs.judge.judge_loops.Statement.{statement}
 use Rattle.rules.proofs.judge.judge_loops.Tie as tie
 

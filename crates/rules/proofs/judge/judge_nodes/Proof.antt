@@ -9,7 +9,7 @@ use Rattle.formula.specs.Plain.{tableOf}
 use Rattle.formula.specs.PlainNodes.{proofOf}
 use Rattle.calculus.specs.View.{plain}
 use Rattle.calculus.specs.Judge.{keeps, loop}
-use Rattle.rules.specs.ScanLaws.{Passed, FirstBad}
+use Rattle.verdict.specs.ScanLaws.{Passed, FirstBad}
 use Rattle.rules.specs.JudgeStages.{rules-fail, rules-pass, nodes-fail, nodes-pass}
 use Rattle.rules.proofs.judge.judge_nodes.Statement.{statement}
 use Rattle.rules.proofs.judge.judge_nodes.Tie as tie

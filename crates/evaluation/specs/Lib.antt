@@ -1,0 +1,2 @@
+pub mod EvaluateFiles
+pub mod EvaluateStages

@@ -1,0 +1,56 @@
+-- the promise of an evaluation
+use mathlib.Core.Path.{_≡_, refl, sym, ap, _∙_}
+use mathlib.Core.Logic.{_↔_}
+use mathlib.Core.List.{List}
+use Prim.Native.Nat.{ℕ}
+use lib.ListN.{length, take, length-map}
+use Rattle.verdict.specs.Verdict as verdicts
+use Rattle.verdict.specs.Verdict.{Verdict, accepted, packed}
+use Rattle.verdict.specs.Lists.{written}
+use Rattle.encoding.specs.Encode.{Bytes}
+use Rattle.reader.specs.Files.{tableIn}
+use Rattle.records.specs.Records.{shownEntry, shownEntries}
+use Rattle.records.specs.declared.Entry.{Entry}
+use Rattle.demands.specs.Slices.{LentWords}
+use Rattle.gate.specs.LentSlices.{lentWordsOf}
+use Rattle.demands.specs.Evaluate.{evaluating}
+use Rattle.demands.specs.EvaluationEarned.{EvaluationEarned, Evaluable}
+use Rattle.demands.specs.EvaluateExact as exactly
+use Rattle.demands.specs.RefusedAs.{RefusedAs, refused-as, zero-accepts}
+use Rattle.demands.specs.Numbered.{evaluation-number}
+use Rattle.evaluation.specs.declared.Evaluation.{Evaluation}
+use Rattle.evaluation.specs.EvaluateFiles.{EvaluatedFiles}
+
+-- the promise of an evaluation: the answer, what every lent slice holds afterwards, and what the answer says of the input
+pub record EvaluateCall (claim model : List ℕ) (es : List Entry) (ws : List ℕ) (r : ℕ) (es′ : List Entry) (ws′ : List ℕ) : Type 0 where
+  pub answer : r ≡ packed (evaluating claim model (lentWordsOf es ws) .answer)
+  pub lent : lentWordsOf es′ ws′ ≡ evaluating claim model (lentWordsOf es ws) .lent
+  -- finished exactly when the slices are long enough, the claim is well formed and the model is a model file
+  pub exact : (r ≡ 0) ↔ Evaluable claim model (lentWordsOf es ws)
+  -- any other answer is the refusal that the input earns, and what it earns is answered
+  pub refuses : RefusedAs (EvaluationEarned claim model (lentWordsOf es ws)) r
+
+-- what the answer says of the input
+module _ {claim model : List ℕ} (bc : Bytes claim) (bm : Bytes model) (l : LentWords) {r : ℕ} (answer : r ≡ packed (evaluating claim model l .answer)) where
+  abbrev answered : Verdict
+  answered = evaluating claim model l .answer
+
+  accepts : r ≡ 0 → answered ≡ accepted
+  accepts z = zero-accepts answered (λ n q h. evaluation-number (exactly.refusal claim model l bc bm .0 h)) (sym answer ∙ z)
+
+  finishes : (r ≡ 0) ↔ Evaluable claim model l
+  finishes = let right-if = exactly.exact claim model l bc bm in (λ z. right-if .0 (accepts z), λ k. answer ∙ ap packed (right-if .1 k))
+
+  refuses : RefusedAs (EvaluationEarned claim model l) r
+  refuses = refused-as answered (λ n q. exactly.refusal claim model l bc bm) r answer
+
+pub evaluate-call : {claim model : List ℕ} {es es′ : List Entry} {ws ws′ : List ℕ} {r : Evaluation} → EvaluatedFiles (length es) claim model ws r ws′
+    → shownEntries es′ ≡ written (take (r .entries) (tableIn claim)) (shownEntries es) → EvaluateCall claim model es ws (r .answer) es′ ws′
+evaluate-call {es = es} {ws = ws} done stored =
+    let right = done .right (shownEntries es) (length-map es shownEntry) in
+    record {
+      answer = right .answer;
+      lent = rw (stored, sym (right .entries), right .words) refl;
+      exact = finishes (done .claim-bytes) (done .model-bytes) (lentWordsOf es ws) (right .answer);
+      refuses = refuses (done .claim-bytes) (done .model-bytes) (lentWordsOf es ws) (right .answer);
+    }

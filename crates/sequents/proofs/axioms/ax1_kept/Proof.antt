@@ -1,0 +1,47 @@
+-- `ax1_kept` meets its contract, from what `clash` promises.
+use borrow.Author.Needs.{needs}
+use Rattle.calculus.specs.Judge.{ax1-kept as Kept}
+use Rattle.sequents.proofs.axioms.ax1_kept.Statement.{statement}
+use Rattle.sequents.proofs.axioms.ax1_kept.Tie as tie
+
+mul-wide : tie.Need-mul-wide
+mul-wide c = search needs
+
+element-copy-out-wide : tie.Need-element-copy-out-wide
+element-copy-out-wide c = search needs
+
+wide-requires : tie.Need-wide-requires
+wide-requires c κs = search needs
+
+add-wide : tie.Need-add-wide
+add-wide c = search needs
+
+mul-wide-2 : tie.Need-mul-wide-2
+mul-wide-2 c = search needs
+
+element-copy-out-wide-2 : tie.Need-element-copy-out-wide-2
+element-copy-out-wide-2 c = search needs
+
+wide-requires-2 : tie.Need-wide-requires-2
+wide-requires-2 c κs = search needs
+
+clash-requires : tie.Need-clash-requires
+clash-requires c κs = rw (c .before .before .wide .ensures, c .wide2 .ensures) (c .before .before .before .before .before .pre .span)
+
+returns : tie.Need-returns
+unfolding Kept
+returns c ys ls n E = rw (c .before .before .before .wide .ensures, c .before .wide2 .ensures) at (c .clash .ensures) ys n E
+
+pub ax1-kept-spec : {M : Type 1} → statement M
+ax1-kept-spec =
+    tie.close
+    (tie.spec
+    mul-wide
+    element-copy-out-wide
+    wide-requires
+    add-wide
+    mul-wide-2
+    element-copy-out-wide-2
+    wide-requires-2
+    clash-requires
+    returns)

@@ -1,0 +1,3 @@
+pub mod ReadableLaws
+pub mod Standing
+pub mod StandingLaws

@@ -1,0 +1,34 @@
+-- the parents decide, and if they pass, the orphans
+use borrow.Author.Needs.{needs}
+use Rattle.tree.specs.TreeStages.{tree-refused, tree-orphans}
+use Rattle.tree.proofs.fill_owners.Statement.{statement}
+use Rattle.tree.proofs.fill_owners.Tie as tie
+
+adopt-all-requires : tie.Need-adopt-all-requires
+adopt-all-requires c κs = search needs
+
+enum-told : tie.Need-enum-told
+enum-told c = search needs
+
+find-orphan-requires : tie.Need-find-orphan-requires
+find-orphan-requires c κs = search needs
+
+enum-known-number : tie.Need-enum-known-number
+enum-known-number c = search needs
+
+returns : tie.Need-returns
+returns c = tree-orphans _ _ _ _ _ (rw (c .before .before .enum-told .given .1) at (c .before .before .before .before .adopt-all .ensures)) (c .find-orphan .ensures)
+
+returns-2 : tie.Need-returns-2
+returns-2 c = tree-refused _ _ _ _ _ _ (rw (c .before .number .given .1) at (c .before .before .before .adopt-all .ensures))
+
+pub fill-owners-spec : {M : Type 1} → statement M
+fill-owners-spec =
+    tie.close
+    (tie.spec
+    adopt-all-requires
+    enum-told
+    find-orphan-requires
+    enum-known-number
+    returns
+    returns-2)

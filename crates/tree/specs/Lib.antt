@@ -1,0 +1,4 @@
+pub mod Owners
+pub mod OwnerLaws
+pub mod AdoptLaws
+pub mod TreeStages
