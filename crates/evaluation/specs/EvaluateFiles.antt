@@ -11,7 +11,6 @@ use Rattle.formula.specs.Table.{Table}
 use Rattle.reader.specs.Files.{tableIn}
 use Rattle.demands.specs.Slices.{LentWords}
 use Rattle.demands.specs.Evaluate.{Evaluated, evaluating}
-use Rattle.demands.specs.EvaluateExact as exactly
 use Rattle.evaluation.specs.declared.Evaluation.{Evaluation}
 
 -- the answer, the words as they are left, and of the table t so many entries as are to be stored over es: what x says
