@@ -11,7 +11,7 @@ use Rattle.reader.specs.Files.{tableIn}
 use Rattle.records.specs.Records.{shownEntry, shownEntries}
 use Rattle.records.specs.declared.Entry.{Entry}
 use Rattle.demands.specs.Slices.{LentWords}
-use Rattle.gate.specs.LentSlices.{lentWordsOf}
+use Rattle.presenting.specs.LentSlices.{lentWordsOf}
 use Rattle.demands.specs.Evaluate.{evaluating}
 use Rattle.demands.specs.EvaluationEarned.{EvaluationEarned, Evaluable}
 use Rattle.demands.specs.EvaluateExact as exactly

@@ -43,17 +43,17 @@ use Rattle.records.specs.declared.Entry.{Entry}
 use Rattle.records.specs.declared.Node.{Node}
 use Rattle.records.proofs.Entry as E
 use Rattle.records.proofs.Node as T
-use Rattle.gate.specs.PresentCall.{PresentCall}
+use Rattle.presenting.specs.PresentCall.{PresentCall}
 use Rattle.permit.specs.declared.State.{State}
 use Rattle.permit.specs.declared.numbered.Numbered.{Numbered}
 use Rattle.permit.proofs.State as S
 use Rattle.permit.proofs.State.Laws as S′
 use Rattle.permit.proofs.numbered.Numbered as N
 use Rattle.permit.proofs.numbered.Numbered.Laws as N′
-use Rattle.gate.proofs.present.present_step as step
-use Rattle.gate.proofs.present.present_step.Symbol as step-def
-use Rattle.gate.proofs.present.present_step.Symbol.{name as #step}
-use Rattle.gate.proofs.present.present_step.Met as step-thm
+use Rattle.presenting.proofs.present_step as step
+use Rattle.presenting.proofs.present_step.Symbol as step-def
+use Rattle.presenting.proofs.present_step.Symbol.{name as #step}
+use Rattle.presenting.proofs.present_step.Met as step-thm
 use Rattle.gate.proofs.present.focus_present.Key.{name as #fn}
 use Rattle.gate.proofs.present.focus_present as f
 use Rattle.gate.proofs.present.focus_present.Statement as stated
@@ -199,4 +199,4 @@ focus-present-spec 𝓤 H 𝓜 𝓖 𝓡 =
     entered 𝓤 H (tripleOf 𝓤 H (𝓖 .A) f.signature (f.spec 𝓤 H (𝓖 .A) (𝓜 .mem) (𝓡 .run)))
     (tables 𝓤 H 𝓜 𝓡 code.env .C) (tables 𝓤 H 𝓜 𝓡 code.env .Λ) #fn code.function (code.unfolded 𝓤 H 𝓜 𝓡)
     (f-meets 𝓤 H (𝓖 .A) (givenOf 𝓤 H 𝓜 𝓖) (𝓜 .mem) (𝓡 .run) (tablesOf 𝓤 H 𝓜 (tables 𝓤 H 𝓜 𝓡 code.env))
-    (cited 𝓤 H (Step 𝓤 H (𝓖 .A) (𝓜 .mem) (𝓡 .run)) 𝓜 𝓡 code.env #step step-def.routine code.calls-gate·present·present-step (step-thm.met 𝓤 H 𝓜 𝓖 𝓡)))
+    (cited 𝓤 H (Step 𝓤 H (𝓖 .A) (𝓜 .mem) (𝓡 .run)) 𝓜 𝓡 code.env #step step-def.routine code.calls-presenting·present-step (step-thm.met 𝓤 H 𝓜 𝓖 𝓡)))

@@ -62,8 +62,8 @@ use Rattle.reader.proofs.Found as F
 use Rattle.reader.proofs.Found.Laws as F′
 use Rattle.permit.specs.Plain.{stateOf}
 use Rattle.permit.specs.PresentStages.{standsBefore, Settled}
-use Rattle.gate.specs.PresentStep.{told-before, may-store-claim, may-store-proof, may-judge, presented-step}
-use Rattle.gate.specs.PresentCall.{PresentCall, present-call}
+use Rattle.presenting.specs.PresentStep.{told-before, may-store-claim, may-store-proof, may-judge, presented-step}
+use Rattle.presenting.specs.PresentCall.{PresentCall, present-call}
 use Rattle.permit.specs.declared.State.{State}
 use Rattle.permit.specs.declared.numbered.Numbered.{Numbered}
 use Rattle.permit.proofs.State as S
@@ -94,10 +94,10 @@ use Rattle.permit.proofs.present.settle as leave
 use Rattle.permit.proofs.present.settle.Symbol as leave-def
 use Rattle.permit.proofs.present.settle.Symbol.{name as #leave}
 use Rattle.permit.proofs.present.settle.Met as leave-thm
-use Rattle.gate.proofs.present.present_step.Key.{name as #fn}
-use Rattle.gate.proofs.present.present_step as f
-use Rattle.gate.proofs.present.present_step.Statement as stated
-use Rattle.gate.proofs.present.present_step.Code as code
+use Rattle.presenting.proofs.present_step.Key.{name as #fn}
+use Rattle.presenting.proofs.present_step as f
+use Rattle.presenting.proofs.present_step.Statement as stated
+use Rattle.presenting.proofs.present_step.Code as code
 
 abbrev stayed : Stays (f.ended .signature .params) (f.ended .kept)
 stayed = (stay-none (λ _. S.the-row) yes, (stay-none (λ _. u32) yes, (stay-none-slice (0 ∷ []) tt (plain (λ _. u8)) yes, (stay-none-slice (1 ∷ []) tt (plain (λ _. u8)) yes, (stay-slice (2 ∷ []) tt (plain (λ _. E.the-row)), (stay-slice (3 ∷ []) tt (plain (λ _. T.the-row)), (stay-slice (4 ∷ []) tt (plain (λ _. u16)), tt)))))))

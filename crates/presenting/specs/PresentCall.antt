@@ -15,7 +15,7 @@ use Rattle.permit.specs.LentState.{plain-reads}
 use Rattle.permit.specs.declared.State.{State}
 use Rattle.permit.specs.declared.numbered.Numbered.{Numbered}
 use Rattle.demands.specs.Slices.{Lent, short}
-use Rattle.gate.specs.LentSlices.{lentOf}
+use Rattle.presenting.specs.LentSlices.{lentOf}
 use Rattle.demands.specs.Check.{Checked, unread, decoded, check}
 use Rattle.demands.specs.Present.{presentedBy, ifLong, presenting}
 use Rattle.demands.specs.PresentLaws.{Granted, presented-verdict}
@@ -24,7 +24,7 @@ use Rattle.demands.specs.Earned.{Earned}
 use Rattle.demands.specs.RefusedAs.{RefusedAs, refused-as}
 use Rattle.demands.specs.Demands.{presented-sound, presented-exact, presented-refused}
 use Rattle.demands.specs.Numbered.{packed-zero}
-use Rattle.gate.specs.PresentStep.{right, PresentedStep}
+use Rattle.presenting.specs.PresentStep.{right, PresentedStep}
 
 -- the promise of presenting: PresentedStep's three, demand 3, and the refusal that is earned
 pub record PresentCall (s : State) (tag : ℕ) (claim proof : List ℕ) (es : List Entry) (vs : List Node) (cs : List ℕ) (r : ℕ) (s′ : State) (es′ : List Entry) (vs′ : List Node) (cs′ : List ℕ) : Type 0 where

@@ -42,7 +42,7 @@ use Rattle.permit.specs.PresentStages.{standsBefore, settledState, Settled}
 use Rattle.permit.specs.declared.State.{State}
 use Rattle.permit.specs.declared.numbered.Numbered.{Numbered}
 use Rattle.demands.specs.Slices.{short, decodedInto}
-use Rattle.gate.specs.LentSlices.{lentOf}
+use Rattle.presenting.specs.LentSlices.{lentOf}
 use Rattle.demands.specs.Check as checks
 use Rattle.demands.specs.Check.{Checked, check}
 use Rattle.demands.specs.Present.{Presented, held, presentedBy, ifLong, presenting}

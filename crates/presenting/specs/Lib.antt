@@ -1,0 +1,5 @@
+-- what lent records hold
+pub mod LentSlices
+-- presenting, stage by stage, and its promise
+pub mod PresentStep
+pub mod PresentCall
