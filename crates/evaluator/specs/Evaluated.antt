@@ -1,87 +1,330 @@
 -- what entry evaluation and fixpoint iteration are given and leave: what is settled is right, and more becomes so
 use mathlib.Core.Path.{_≡_, refl, sym, ap, _∙_, subst⁻¹}
-use mathlib.Core.List.{List}
-use mathlib.Core.Bool.{true, false}
-use Prim.Native.Nat.{ℕ, _+_, _<_, _≤_}
+use mathlib.Core.List.{List, _++_}
+use mathlib.Core.Bool.{true, false, false≢true}
+use mathlib.Core.Logic.{_⊎_, inl, inr, ⊎-elim}
+use Prim.Native.Nat.{ℕ, _+_, _-_, _<_, _≤_}
 use native.Mathlib.Omega.{arith}
-use native.Mathlib.Decide.{ℕ-discrete}
-use lib.ListN.{length, getD}
-use borrow.Author.Tests.{le-ltb}
-use Rattle.meaning.specs.States.{SameStates}
+use native.Mathlib.Decide.{decLt, ℕ-discrete}
+use lib.Dec.{eqb}
+use lib.ListN.{length, getD, set, take, drop, replicate, length-set, length-replicate}
+use lib.Seq.{getD-set-same, getD-set-other, ext-getD}
+use borrow.Author.Tests.{eq-eqb, ne-eqb, eqb-true}
+use Rattle.verdict.specs.Lists.{written}
+use Rattle.meaning.specs.Truth.{or-true, true-or}
+use Rattle.formula.specs.Table.{Table}
+use Rattle.formula.specs.Plain.{tableOf, tableOf-length}
+use Rattle.formula.specs.Shape.{leaf, Leaf, shape, Operand}
+use Rattle.conditions.specs.Free.{Free, named, inside}
+use Rattle.conditions.specs.WellFormedLaws.{free-in}
+use Rattle.meaning.specs.States.{Model, SameStates}
 use Rattle.meaning.specs.Meaning.{own}
-use Rattle.states.specs.StateWords.{setsOf}
-use Rattle.states.specs.PlainModel.{rowModel}
-use Rattle.evaluator.specs.Top.{alone}
-use Rattle.evaluator.specs.Claim.{tableFrom}
-use Rattle.evaluator.specs.Ready.{Ready}
-use Rattle.evaluator.specs.Marks.{doneOf}
+use Rattle.bits.specs.Bits.{bit, no-bit}
+use Rattle.states.specs.Words.{words}
+use Rattle.states.specs.WordLaws.{word-inside, word-past, words-length, words-at}
+use Rattle.states.specs.StateWords.{Inside, setsOf, by-bits}
+use Rattle.states.specs.PlainModel.{plainModel, wordsIn, rowModel}
+use Rattle.states.specs.Fill.{Filled, zeros-at}
+use Rattle.meaning.specs.StateLaws.{same-trans}
+use Rattle.evaluator.specs.Settled.{formed}
+use Rattle.evaluator.specs.FormedLaws.{Reads, reads-either, formed-right}
+use Rattle.evaluator.specs.Top.{topClause, top, alone}
+use Rattle.evaluator.specs.TopLaws.{top-at, alone-none, not-alone}
+use Rattle.evaluator.specs.Tops.{Tops}
+use Rattle.evaluator.specs.Iteration.{Block}
+use Rattle.evaluator.specs.Counting.{Within, count, measure}
+use Rattle.evaluator.specs.Gathering.{Grown, Gathering, met-below, gather-first, gather-grown, gather-settled, grown-nearer, settled-nearer, gather-block}
+use Rattle.evaluator.specs.Sets.{inSet, in-below, none-in, Inserted, inserted-old, inserted-new, Removed, removed-less, removed-rest}
+use Rattle.evaluator.specs.Users.{Users, Joined}
+use Rattle.evaluator.specs.Claim.{tableFrom, Claim, Given, first-entries, claim-length, leaf-at}
+use Rattle.evaluator.specs.Ready.{Ready, ready-again, formedWord}
+use Rattle.evaluator.specs.Operands.{plain-kind, fixOf, fix-of, reads-kind, operand-name, a-operand, b-operand}
+use Rattle.evaluator.specs.Turn.{startWord, Begun, Iterating, iterating-first, iterating-last}
+
+-- the tables made once
+pub record Prepared (ks xs ys ts us : List ℕ) : Type 0 where
+  pub tops : Tops ks xs ys ts
+  pub users : Users ks xs ys us
+
+-- the free names of e are settled
+abbrev pub Known : List ℕ → List ℕ → List ℕ → List ℕ → ℕ → Type 0
+Known ks xs ys ds e = (y : ℕ) → Free (tableFrom ks xs ys) e y → inSet ds y ≡ true
+
+module _ (ks xs ys : List ℕ) where
+  pub known-more : (e : ℕ) (ds es : List ℕ) → Within (inSet ds) (inSet es) → Known ks xs ys ds e → Known ks xs ys es e
+  known-more e ds es h k y f = h y (k y f)
+
+  -- the free names of an operand are settled, if the entry is no fixpoint or the operand has none
+  module _ (C : Claim ks xs ys) (ds : List ℕ) (e : ℕ) (l : e < length ks) (K : Known ks xs ys ds e) where
+    known-plain : (c : ℕ) → Operand (shape (tableFrom ks xs ys) e) c → (getD ks e 0 < 8) ⊎ (alone (tableFrom ks xs ys) c ≡ true) → Known ks xs ys ds c
+    known-plain c o (inr a) y f = absurd (alone-none (tableFrom ks xs ys) (C .formed .well) c a y f)
+    known-plain c o (inl h) y f = K y (inside _ refl o (λ z _. plain-kind C e l h z) f)
+
+    -- what the entry's kind reads is settled, once its operands are
+    pub reads-name : (getD ks e 0 < 4) ⊎ (9 < getD ks e 0) → (c : ℕ) → Reads (shape (tableFrom ks xs ys) e) c → inSet ds c ≡ true
+    reads-name h c r = ⊎-elim (λ o. absurd (no-operand o)) (λ q. K c (named q)) (reads-either (shape (tableFrom ks xs ys) e) c r)
+      where
+        no-operand : Operand (shape (tableFrom ks xs ys) e) c → ⊥
+        no-operand o = ⊎-elim (λ k. omega (arith, reads-kind C e l c r .0)) (λ k. omega (arith, operand-name C e l c o)) h
+
+    pub known-a : 3 < getD ks e 0 → getD ks e 0 < 10 → (7 < getD ks e 0 → alone (tableFrom ks xs ys) (getD xs e 0) ≡ true) → (a : ℕ) → a ≡ getD xs e 0 → Known ks xs ys ds a
+    known-a h k z a p = subst⁻¹ (Known ks xs ys ds) p (known-plain (getD xs e 0) (a-operand C e l h k) (which (decLt (getD ks e 0) 8)))
+      where
+        which : Dec (getD ks e 0 < 8) → (getD ks e 0 < 8) ⊎ (alone (tableFrom ks xs ys) (getD xs e 0) ≡ true)
+        which (yes m) = inl m
+        which (no m) = inr (z (omega arith))
+
+    pub known-b : 3 < getD ks e 0 → getD ks e 0 < 6 → (b : ℕ) → b ≡ getD ys e 0 → Known ks xs ys ds b
+    known-b h k b p = subst⁻¹ (Known ks xs ys ds) p (known-plain (getD ys e 0) (b-operand C e l h k) (inl (omega arith)))
+
+  pub reads-one : Claim ks xs ys → (e : ℕ) → e < length ks → 5 < getD ks e 0 → (a : ℕ) → a ≡ getD xs e 0 → (ds : List ℕ) → inSet ds a ≡ true
+      → (c : ℕ) → Reads (shape (tableFrom ks xs ys) e) c → inSet ds c ≡ true
+  reads-one C e l h a p ds d c r = ⊎-elim (λ q. ap (inSet ds) (q ∙ sym p) ∙ d) (λ q. absurd (omega (arith, q .0))) (reads-kind C e l c r .1)
+
+  pub reads-two : Claim ks xs ys → (e : ℕ) → e < length ks → (a b : ℕ) → a ≡ getD xs e 0 → b ≡ getD ys e 0 → (ds : List ℕ) → inSet ds a ≡ true → inSet ds b ≡ true
+      → (c : ℕ) → Reads (shape (tableFrom ks xs ys) e) c → inSet ds c ≡ true
+  reads-two C e l a b p q ds d g c r = ⊎-elim (λ z. ap (inSet ds) (z ∙ sym p) ∙ d) (λ z. ap (inSet ds) (z .1 ∙ sym q) ∙ g) (reads-kind C e l c r .1)
 
 module _ (ks xs ys masks rows : List ℕ) (size : ℕ) where
+  abbrev M : Model
+  M = rowModel masks rows size
+
+  abbrev t : Table
+  t = tableFrom ks xs ys
+
   -- what is settled is right
   pub record Standing (ws ds : List ℕ) : Type 0 where
     pub ready : Ready ks xs ys rows size ws
-    pub done-there : length ds ≡ 256
-    pub good : (e : ℕ) → doneOf ds e ≡ true → SameStates size (setsOf ws e) (own (rowModel masks rows size) (tableFrom ks xs ys) e)
+    pub done-there : length ds ≡ 4
+    pub good : (e : ℕ) → inSet ds e ≡ true → SameStates size (setsOf ws e) (own M t e)
 
-  -- what is settled stays so, and no entry above e becomes so
-  pub record Went (e : ℕ) (ws ds vs es : List ℕ) : Type 0 where
+  -- e is settled, and what was settled still is
+  pub record Evaluated (e : ℕ) (ds vs es : List ℕ) : Type 0 where
     pub standing : Standing vs es
-    pub more : (c : ℕ) → doneOf ds c ≡ true → doneOf es c ≡ true
-    pub frame : (c : ℕ) → e < c → doneOf es c ≡ doneOf ds c
+    pub more : Within (inSet ds) (inSet es)
+    pub settled : inSet es e ≡ true
 
-  pub went-on : (b e : ℕ) (ws ds vs es us gs : List ℕ) → b ≤ e → Went b ws ds vs es → Went e vs es us gs → Went e ws ds us gs
-  went-on b e ws ds vs es us gs l A B =
-      record {
-        standing = B .standing;
-        more = λ c d. B .more c (A .more c d);
-        frame = λ c m. B .frame c m ∙ A .frame c (omega arith);
-      }
+  pub stays : (e : ℕ) (ws ds : List ℕ) → Standing ws ds → inSet ds e ≡ true → Evaluated e ds ws ds
+  stays e ws ds S h = record { standing = S; more = λ c d. d; settled = h }
 
-  -- and e itself is settled, if it has no free name
-  pub record Evaluated (e : ℕ) (ws ds vs es : List ℕ) : Type 0 where
-    pub went : Went e ws ds vs es
-    pub settled : alone (tableFrom ks xs ys) e ≡ true → doneOf es e ≡ true
+  -- after another evaluation
+  pub later : (e : ℕ) (cs ds vs es : List ℕ) → Within (inSet cs) (inSet ds) → Evaluated e ds vs es → Evaluated e cs vs es
+  later e cs ds vs es h E = record { standing = E .standing; more = λ c d. E .more c (h c d); settled = E .settled }
 
-  -- the entries below c have been evaluated
-  pub record Swept (c : ℕ) (ws ds vs es : List ℕ) : Type 0 where
-    pub standing : Standing vs es
-    pub more : (e : ℕ) → doneOf ds e ≡ true → doneOf es e ≡ true
-    pub frame : (e : ℕ) → c ≤ e → doneOf es e ≡ doneOf ds e
-    pub settled : (e : ℕ) → e < c → alone (tableFrom ks xs ys) e ≡ true → doneOf es e ≡ true
+  -- its word is formed of what it reads, all of it settled
+  module _ (ws ds : List ℕ) (S : Standing ws ds) (e : ℕ) (l : e < length ks) (reads : (c : ℕ) → Reads (shape t e) c → inSet ds c ≡ true) (vs es : List ℕ)
+      (p : vs ≡ set ws e (formedWord ks xs ys masks rows size ws e)) (q : Inserted ds e es) where
+    at-e : getD vs e 0 ≡ formedWord ks xs ys masks rows size ws e
+    at-e = rw p (getD-set-same ws e _ 0 (omega (arith, S .ready .words-there, S .ready .claim .few)))
 
-  pub swept-none : (ws ds : List ℕ) → Standing ws ds → Swept 0 ws ds ws ds
-  swept-none ws ds S = record { standing = S; more = λ e d. d; frame = λ e l. refl; settled = λ e l. absurd (omega arith) }
+    away : (c : ℕ) → (c ≡ e → ⊥) → getD vs c 0 ≡ getD ws c 0
+    away c n = rw p (getD-set-other ws e c _ 0 n)
 
-  pub swept-more : (c : ℕ) (ws ds vs es us gs : List ℕ) → Swept c ws ds vs es → Evaluated c vs es us gs → Swept (c + 1) ws ds us gs
-  swept-more c ws ds vs es us gs P E =
-      record {
-        standing = E .went .standing;
-        more = λ e d. E .went .more e (P .more e d);
-        frame = λ e l. E .went .frame e (omega arith) ∙ P .frame e (omega arith);
-        settled = λ e l a. go e l a (ℕ-discrete e c);
-      }
+    right-here : SameStates size (setsOf vs e) (own M t e)
+    unfolding formedWord
+    right-here =
+        same-trans (λ s h. ap (λ (w : ℕ). bit w s) at-e ∙ word-inside size _ s h)
+        (formed-right M t (S .ready .claim .formed .well) (setsOf ws) e (λ c r. S .good c (reads c r)))
+
+    inside-words : (c s : ℕ) → c < length ks → size ≤ s → Dec (c ≡ e) → bit (getD vs c 0) s ≡ false
+    unfolding formedWord
+    inside-words c s k h (yes r) = ap (λ (z : ℕ). bit (getD vs z 0) s) r ∙ ap (λ (w : ℕ). bit w s) at-e ∙ word-past size _ s h
+    inside-words c s k h (no n) = ap (λ (w : ℕ). bit w s) (away c n) ∙ S .ready .words-inside c s k h
+
+    pub formed-evaluated : Evaluated e ds vs es
+    formed-evaluated =
+        record {
+          standing = record {
+            ready = ready-again vs (S .ready) (rw p (length-set ws e _) ∙ S .ready .words-there) (λ c s k h. inside-words c s k h (ℕ-discrete c e));
+            done-there = q .long ∙ S .done-there;
+            good = λ c d. good c (ℕ-discrete c e) (or-true (inSet ds c) (eqb c e) (sym (q .tells c) ∙ d));
+          };
+          more = inserted-old q;
+          settled = inserted-new q;
+        }
+      where
+        good : (c : ℕ) → Dec (c ≡ e) → (inSet ds c ≡ true) ⊎ (eqb c e ≡ true) → SameStates size (setsOf vs c) (own M t c)
+        good c (yes r) d = subst⁻¹ (λ (z : ℕ). SameStates size (setsOf vs z) (own M t z)) r right-here
+        good c (no n) (inl d) = λ s h. ap (λ (w : ℕ). bit w s) (away c n) ∙ S .good c d s h
+        good c (no n) (inr d) = absurd (n (eqb-true c e d))
+
+  -- while the block of x is gathered, since ds
+  pub record Meeting (x : ℕ) (ds ws es bs ms : List ℕ) : Type 0 where
+    pub standing : Standing ws es
+    pub more : Within (inSet ds) (inSet es)
+    pub gathering : Gathering t x (fixOf (getD ks x 0)) (inSet es) (inSet bs) (inSet ms)
+    pub block-long : length bs ≡ 4
+    pub met-long : length ms ≡ 4
+
+  unfoldable pub unmet : List ℕ → List ℕ → ℕ
+  unmet bs ms = measure (256 - count 256 (inSet bs)) (inSet ms)
+
+  module _ (x : ℕ) (l : x < length ks) (ds : List ℕ) where
+    pub meeting-first : (ws : List ℕ) → Standing ws ds → Known ks xs ys ds x → 7 < getD ks x 0 → getD ks x 0 < 10 → (bs ms : List ℕ)
+        → (length bs ≡ length (replicate {A = ℕ} 4 0)) × (length ms ≡ length (replicate {A = ℕ} 4 0)) × Grown t (inSet ds) (inSet (replicate 4 0)) (inSet (replicate 4 0)) x (inSet bs) (inSet ms)
+        → Meeting x ds ws ds bs ms
+    meeting-first ws S K h k bs ms (p, q, G) =
+        record {
+          standing = S;
+          more = λ c d. d;
+          gathering = gather-first t (S .ready .claim .formed .well) x (fixOf (getD ks x 0)) (getD xs x 0) (fix-of (S .ready .claim) x l h k)
+              (inSet ds) (inSet (replicate 4 0)) (inSet (replicate 4 0)) (inSet bs) (inSet ms) K (none-in 4) (none-in 4) G;
+          block-long = p ∙ length-replicate {A = ℕ} 4 0;
+          met-long = q ∙ length-replicate {A = ℕ} 4 0;
+        }
+
+    module _ (ws es bs ms : List ℕ) (I : Meeting x ds ws es bs ms) (c : ℕ) (i : inSet ms c ≡ true) where
+      pub met-small : c < x
+      met-small = met-below t (I .standing .ready .claim .formed .well) x (fixOf (getD ks x 0)) (I .gathering) c i
+
+      module _ (ns : List ℕ) (R : Removed ms c ns) where
+        pub meeting-grown : alone t c ≡ false → (cs os : List ℕ)
+            → (length cs ≡ length bs) × (length os ≡ length ns) × Grown t (inSet es) (inSet bs) (inSet ns) c (inSet cs) (inSet os) → Meeting x ds ws es cs os
+        meeting-grown a cs os (p, q, G) =
+            let (z, f) = not-alone t (I .standing .ready .claim .formed .well) c a in
+            record {
+              standing = I .standing;
+              more = I .more;
+              gathering = gather-grown t (I .standing .ready .claim .formed .well) x (fixOf (getD ks x 0)) (inSet es) (inSet bs) (inSet ms) (I .gathering) c i
+                  (inSet ns) (removed-less R) (removed-rest R) z f (inSet cs) (inSet os) G;
+              block-long = p ∙ I .block-long;
+              met-long = q ∙ R .long ∙ I .met-long;
+            }
+
+        pub grown-closer : (cs os : List ℕ)
+            → (length cs ≡ length bs) × (length os ≡ length ns) × Grown t (inSet es) (inSet bs) (inSet ns) c (inSet cs) (inSet os) → unmet cs os < unmet bs ms
+        unfolding unmet
+        grown-closer cs os (p, q, G) =
+            grown-nearer t (I .standing .ready .claim .formed .well) x (fixOf (getD ks x 0)) (inSet es) (inSet bs) (inSet ms) (I .gathering) c i
+            (inSet ns) (removed-less R) (removed-rest R) (in-below ms (I .met-long) c i) (inSet cs) (inSet os) G
+
+        pub meeting-settled : (vs gs : List ℕ) → Evaluated c es vs gs → Meeting x ds vs gs bs ns
+        meeting-settled vs gs E =
+            record {
+              standing = E .standing;
+              more = λ d h. E .more d (I .more d h);
+              gathering = gather-settled t (I .standing .ready .claim .formed .well) x (fixOf (getD ks x 0)) (inSet es) (inSet bs) (inSet ms) (I .gathering) c i
+                  (inSet ns) (removed-less R) (removed-rest R) (inSet gs) (E .more) (E .settled);
+              block-long = I .block-long;
+              met-long = R .long ∙ I .met-long;
+            }
+
+        pub settled-closer : unmet bs ns < unmet bs ms
+        unfolding unmet
+        settled-closer =
+            settled-nearer t (I .standing .ready .claim .formed .well) x (fixOf (getD ks x 0)) (inSet es) (inSet bs) (inSet ms) (I .gathering) c i
+            (inSet ns) (removed-less R) (removed-rest R) (in-below ms (I .met-long) c i)
+
+    -- nothing is met any more
+    module _ (ws es bs ms : List ℕ) (I : Meeting x ds ws es bs ms) (E : (c : ℕ) → inSet ms c ≡ false) where
+      pub met-block : Block t (fixOf (getD ks x 0)) (inSet es) (inSet bs)
+      met-block = gather-block t (I .standing .ready .claim .formed .well) x (fixOf (getD ks x 0)) (inSet es) (inSet bs) (inSet ms) (I .gathering) E
+
+      pub block-there : (c : ℕ) → inSet bs c ≡ true → c < length ks
+      block-there c i = let k = I .gathering .small c i in omega (arith, k, l)
+
+      pub iteration-first : (vs : List ℕ) (w : ℕ) → w ≡ startWord size (getD ks x 0) → Begun bs w ws vs → Iterating ks xs ys masks rows size (fixOf (getD ks x 0)) es bs vs bs
+      unfolding met-block startWord
+      iteration-first vs w q B =
+          iterating-first ks xs ys masks rows size (I .standing .ready .claim) (fixOf (getD ks x 0)) es bs met-block block-there ws vs
+          (I .standing .ready) (I .standing .good) (I .block-long) w q B
+
+      -- no entry waits any more: the block is settled
+      pub block-evaluated : (vs qs gs : List ℕ) → Iterating ks xs ys masks rows size (fixOf (getD ks x 0)) es bs vs qs → ((c : ℕ) → inSet qs c ≡ false)
+          → Joined es bs gs → Evaluated x ds vs gs
+      unfolding met-block
+      block-evaluated vs qs gs Y N U =
+          record {
+            standing = record {
+              ready = Y .ready;
+              done-there = U .long;
+              good = λ c d. iterating-last ks xs ys masks rows size (I .standing .ready .claim) (fixOf (getD ks x 0)) es bs met-block block-there vs qs Y N c
+                  (swap c (or-true (inSet es c) (inSet bs c) (sym (U .both c (in-below gs (U .long) c d)) ∙ d)));
+            };
+            more = λ c d. U .both c (in-below es (I .standing .done-there) c (I .more c d)) ∙ true-or (inSet es c) (inSet bs c) (inl (I .more c d));
+            settled = U .both x (omega (arith, I .standing .ready .claim .few, l)) ∙ true-or (inSet es x) (inSet bs x) (inr (I .gathering .self));
+          }
+        where
+          swap : (c : ℕ) → (inSet es c ≡ true) ⊎ (inSet bs c ≡ true) → (inSet bs c ≡ true) ⊎ (inSet es c ≡ true)
+          swap c (inl h) = inr h
+          swap c (inr h) = inl h
+
+  -- the entries from p on are settled
+  pub record Swept (p : ℕ) (ws ds : List ℕ) : Type 0 where
+    pub standing : Standing ws ds
+    pub settled : (e : ℕ) → p ≤ e → e < length ks → inSet ds e ≡ true
+
+  pub swept-known : (p : ℕ) (ws ds : List ℕ) → Swept p ws ds → (e : ℕ) → p ≡ e + 1 → Known ks xs ys ds e
+  swept-known p ws ds S e q y f =
+      let wf = S .standing .ready .claim .formed .well in
+      S .settled y (let m = wf .free-above e y f in omega (arith, m, q)) (let m = free-in t wf f in omega (arith, m, claim-length ks xs ys))
+
+  pub swept-next : (p : ℕ) (ws ds vs es : List ℕ) → Swept p ws ds → (e : ℕ) → p ≡ e + 1 → Evaluated e ds vs es → Swept e vs es
+  swept-next p ws ds vs es S e q E = record { standing = E .standing; settled = λ c h l. go c h l (ℕ-discrete c e) }
     where
-      go : (e : ℕ) → e < c + 1 → alone (tableFrom ks xs ys) e ≡ true → Dec (e ≡ c) → doneOf gs e ≡ true
-      go e l a (yes q) = subst⁻¹ (λ (z : ℕ). doneOf gs z ≡ true) q (E .settled (ap (alone (tableFrom ks xs ys)) (sym q) ∙ a))
-      go e l a (no n) = E .went .more e (P .settled e (omega arith) a)
+      go : (c : ℕ) → e ≤ c → c < length ks → Dec (c ≡ e) → inSet es c ≡ true
+      go c h l (yes z) = ap (inSet es) z ∙ E .settled
+      go c h l (no n) = E .more c (S .settled c (omega (arith, q, n)) l)
 
-  -- a fixpoint whose block can be solved: no free name, not settled, all below it that have no free name are
-  pub record Isolated (ds : List ℕ) (x : ℕ) : Type 0 where
-    pub lone : alone (tableFrom ks xs ys) x ≡ true
-    pub fresh : doneOf ds x ≡ false
-    pub below : (c : ℕ) → c < x → alone (tableFrom ks xs ys) c ≡ true → doneOf ds c ≡ true
+  pub swept-none : (ws ds : List ℕ) → Standing ws ds → Swept (length ks) ws ds
+  swept-none ws ds S = record { standing = S; settled = λ e h l. absurd (omega arith) }
 
-  pub isolated : (x : ℕ) (ws ds vs es : List ℕ) → Swept x ws ds vs es → alone (tableFrom ks xs ys) x ≡ true → getD ds x 0 ≡ 0 → Isolated es x
-  isolated x ws ds vs es P a z =
-      record { lone = a; fresh = P .frame x (omega arith) ∙ le-ltb 0 (getD ds x 0) (omega arith); below = P .settled }
-
-  pub iterated : (x : ℕ) (ws ds vs es us gs : List ℕ) → Swept x ws ds vs es → Evaluated x vs es us gs → Evaluated x ws ds us gs
-  iterated x ws ds vs es us gs P E =
+  -- at first no entry is settled
+  pub standing-first : Claim ks xs ys → size ≤ 64 → Inside size 64 rows → Standing (replicate 256 0) (replicate 4 0)
+  standing-first C h I =
       record {
-        went = record {
-          standing = E .went .standing;
-          more = λ e d. E .went .more e (P .more e d);
-          frame = λ e l. E .went .frame e l ∙ P .frame e (omega arith);
+        ready = record {
+          claim = C;
+          states = h;
+          rows-inside = I;
+          words-there = length-replicate {A = ℕ} 256 0;
+          words-inside = λ e s k m. ap (λ (w : ℕ). bit w s) (zeros-at 256 e) ∙ no-bit s;
         };
-        settled = E .settled;
+        done-there = length-replicate {A = ℕ} 4 0;
+        good = λ e d. absurd (false≢true (sym (none-in 4 e) ∙ d));
       }
+
+  -- in the end every entry is
+  pub every-word : (ws ds : List ℕ) → Swept 0 ws ds → (zs vs : List ℕ) → length zs ≡ length ks → Filled (λ e. getD ws e 0) zs (length zs) vs → vs ≡ words M t
+  every-word ws ds S zs vs q F =
+      let n = claim-length ks xs ys in
+      let m : length vs ≡ length ks = F .long ∙ q in
+      ext-getD 0 vs (words M t) (m ∙ sym (words-length M t ∙ n))
+      (λ e h. let l : e < length ks = omega (arith, m) in
+      F .below e (omega (arith, q))
+      ∙ by-bits size (own M t e) (getD ws e 0) (S .standing .good e (S .settled e (omega arith) l)) (λ s k. S .standing .ready .words-inside e s l k)
+      ∙ sym (words-at M t e (omega (arith, n))))
+
+-- the words of the first n entries, and what was there before unchanged beyond them
+pub first-written : {ks xs ys : List ℕ} {n : ℕ} {ws : List ℕ} → Given ks xs ys n ws → (masks : List ℕ) (marks : List (List ℕ)) (size : ℕ) (vs : List ℕ)
+    → vs ≡ wordsIn masks marks size (tableFrom (take n ks) (take n xs) (take n ys)) → vs ++ drop n ws ≡ written (wordsIn masks marks size (tableOf ks xs ys n)) ws
+first-written {ks} {xs} {ys} {n} {ws} G masks marks size vs q =
+    let e : vs ≡ wordsIn masks marks size (tableOf ks xs ys n) = q ∙ ap (wordsIn masks marks size) (first-entries G) in
+    let l : length vs ≡ n = ap length e ∙ words-length (plainModel masks marks size) (tableOf ks xs ys n) ∙ tableOf-length ks xs ys n in
+    ap (λ (k : ℕ). vs ++ drop k ws) (sym l) ∙ ap (λ (z : List ℕ). z ++ drop (length z) ws) e
+
+-- the tops tell which entries have no free name
+module _ (ks xs ys ts : List ℕ) (T : Tops ks xs ys ts) (e : ℕ) (l : e < length ks) where
+  pub top-alone : getD ts e 0 ≡ 0 → alone (tableFrom ks xs ys) e ≡ true
+  unfolding alone
+  top-alone z = eq-eqb _ 0 (sym (T e l) ∙ z)
+
+  pub top-not-alone : (getD ts e 0 ≡ 0 → ⊥) → alone (tableFrom ks xs ys) e ≡ false
+  unfolding alone
+  top-not-alone z = ne-eqb _ 0 (λ q. z (T e l ∙ q))
+
+  -- no free name, so all of them are settled
+  pub top-known : Claim ks xs ys → getD ts e 0 ≡ 0 → (ds : List ℕ) → Known ks xs ys ds e
+  top-known C z ds y f = absurd (alone-none (tableFrom ks xs ys) (C .formed .well) e (top-alone z) y f)
+
+  -- a leaf has no free name
+  pub open-kind : Claim ks xs ys → (getD ts e 0 ≡ 0 → ⊥) → 3 < getD ks e 0
+  unfolding alone topClause
+  open-kind C z = go (decLt (getD ks e 0) 4)
+    where
+      go : Dec (getD ks e 0 < 4) → 3 < getD ks e 0
+      go (yes h) = let (v, q) = leaf-at C e l h in absurd (z (T e l ∙ leaf-top v q))
+        where
+          leaf-top : (v : Leaf) → shape (tableFrom ks xs ys) e ≡ leaf v → top (tableFrom ks xs ys) e ≡ 0
+          leaf-top v q = top-at (tableFrom ks xs ys) (C .formed .well) e q
+      go (no h) = omega arith

@@ -1,20 +1,19 @@
--- evaluation in few passes, and that it is each entry's own meaning
+-- sets that obey the closure laws are the own meanings
 pub mod TowardLaws
 pub mod Settled
-pub mod Block
-pub mod BlockLaws
-pub mod LoopLaws
+-- forming a word, and the iteration of a block
+pub mod FormedLaws
+pub mod Iteration
+pub mod Counting
+pub mod Sets
+pub mod Gathering
 pub mod Top
 pub mod TopLaws
-pub mod Reach
-pub mod Spread
--- the code: a claim in plain numbers, and what each function makes of its words
 pub mod Claim
 pub mod Ready
-pub mod Pass
-pub mod PassLaws
-pub mod Solve
 pub mod Tops
-pub mod Marks
+pub mod Operands
+pub mod Users
+pub mod Growing
+pub mod Turn
 pub mod Evaluated
-pub mod EvaluatedLaws

@@ -24,11 +24,11 @@ pub record Ready (ks xs ys rows : List ℕ) (size : ℕ) (ws : List ℕ) : Type 
   pub claim : Claim ks xs ys
   pub states : size ≤ 64
   pub rows-inside : Inside size 64 rows
-  pub words-there : length ws ≡ length ks
+  pub words-there : length ws ≡ 256
   pub words-inside : Inside size (length ks) ws
 
 pub ready-again : {ks xs ys rows : List ℕ} {size : ℕ} {ws : List ℕ} (vs : List ℕ) → Ready ks xs ys rows size ws
-    → length vs ≡ length ks → Inside size (length ks) vs → Ready ks xs ys rows size vs
+    → length vs ≡ 256 → Inside size (length ks) vs → Ready ks xs ys rows size vs
 ready-again vs R p q =
     record { claim = R .claim; states = R .states; rows-inside = R .rows-inside; words-there = p; words-inside = q }
 

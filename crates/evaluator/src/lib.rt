@@ -1,20 +1,23 @@
-// The evaluator: the word of every entry of a claim in a model. What it writes is defined in the crate states (specs/Words); why few passes are enough, in specs/BlockLaws and specs/LoopLaws.
+// The evaluator: the word of every entry of a claim in a model. What it writes is defined in the crate states (specs/Words), why its
+// iteration is right in specs/Iteration and specs/Gathering.
 ghost use mathlib.Core.Path.{_≡_};
-ghost use mathlib.Core.Bool.{true};
-ghost use Prim.Native.Nat.{max, _+_, _<_, _≤_};
-ghost use lib.ListN.{length, getD, set, replicate};
+ghost use mathlib.Core.Bool.{true, false};
+ghost use Prim.Native.Nat.{max, _+_, _*_, _<_, _≤_};
+ghost use lib.ListN.{length, getD, set};
+ghost use Rattle.meaning.specs.States.{start};
 ghost use Rattle.states.specs.PlainModel.{wordsIn};
 ghost use Rattle.states.specs.Fill.{Filled};
 ghost use Rattle.evaluator.specs.Ready.{Ready, leafWord, formedWord};
-ghost use Rattle.evaluator.specs.Pass.{startWord, begunWord, Visited, Passed};
-ghost use Rattle.evaluator.specs.Solve.{Solved};
 ghost use Rattle.evaluator.specs.Tops.{topFrom, Tops};
-ghost use Rattle.evaluator.specs.Marks.{Opened, Spread, Reached};
 ghost use Rattle.evaluator.specs.Claim.{tableFrom, Claim, Given};
+ghost use Rattle.evaluator.specs.Sets.{inSet, Inserted};
+ghost use Rattle.evaluator.specs.Users.{Users, Entered, Woken};
+ghost use Rattle.evaluator.specs.Gathering.{Grown};
+ghost use Rattle.evaluator.specs.Growing.{Meets};
+ghost use Rattle.evaluator.specs.Turn.{startWord, Begun, Turned};
+ghost use Rattle.evaluator.specs.Evaluated.{Prepared, Known, Standing, Evaluated, Swept};
 ghost use Rattle.verdict.specs.Lists.{written};
 ghost use Rattle.formula.specs.Plain.{tableOf};
-ghost use Rattle.evaluator.specs.Evaluated.{Standing, Evaluated, Swept, Isolated};
-ghost use Rattle.evaluator.specs.EvaluatedLaws.{settledMark, restMark};
 use bits::wide;
 use formula::Kind;
 use states::all_states;
@@ -22,6 +25,14 @@ use states::box_word;
 use states::diamond_word;
 use states::letter_word;
 use states::row_words;
+
+mod sets;
+
+use sets::has;
+use sets::insert;
+use sets::join;
+use sets::lowest;
+use sets::remove;
 
 // Where false, true, a letter or a negated letter holds.
 fn leaf_word(masks: &[u32; 64], size: usize, kind: u8, p: u16) -> u64
@@ -78,118 +89,15 @@ fn formed(
     x & y
 }
 
-// Where a fixpoint's iteration starts: mu at no state, nu at all.
-fn start_word(kind: u8, size: usize, w: u64) -> u64
+// Where the iteration of a fixpoint of a kind starts: mu at no state, nu at all.
+fn start_word(kind: u8, size: usize) -> u64
     requires { ⌜ size ≤ 64 ⌝ }
-    ensures { λ r. ⌜ r ≡ startWord size kind w ⌝ }
+    ensures { λ r. ⌜ r ≡ startWord size kind ⌝ }
 {
     if kind == Kind::MU {
         return 0;
     }
-    if kind == Kind::NU {
-        return all_states(size);
-    }
-    w
-}
-
-// The fixpoints of a block at their start.
-fn begin(kinds: &[u8], words: &mut [u64], marks: &[u8; 256], size: usize)
-    requires { ⌜ (length (now words) ≡ length (now kinds)) × (length (now kinds) ≤ 256) × (size ≤ 64) ⌝ }
-    ensures { λ _. ⌜ Filled (begunWord (now (kinds .entry)) (now (marks .entry)) size (now (words .entry))) (now (words .entry))
-        (length (now (kinds .entry))) (now (words .exit)) ⌝ }
-{
-    let mut e: usize = 0;
-    while e < kinds.len() {
-        if marks[e] == 1 {
-            let w = words[e];
-            words[e] = start_word(kinds[e], size, w);
-        }
-        e += 1;
-    }
-}
-
-// The turn of one entry in a pass: did a fixpoint's word change.
-fn visit(
-    kinds: &[u8],
-    a: &[u16],
-    b: &[u16],
-    words: &mut [u64],
-    rows: &[u64; 64],
-    masks: &[u32; 64],
-    marks: &[u8; 256],
-    size: usize,
-    e: usize,
-) -> bool
-    requires { ⌜ Ready (now kinds) (now a) (now b) (now rows) size (now words) ⌝ }
-    requires { ⌜ e < length (now kinds) ⌝ }
-    ensures { λ r. ⌜ Visited (now (kinds .entry)) (now (a .entry)) (now (b .entry)) (now (masks .entry)) (now (rows .entry)) (now (marks .entry))
-        size e (now (words .entry)) (now (words .exit)) r ⌝ }
-{
-    if marks[e] != 1 {
-        return false;
-    }
-    let old = words[e];
-    let w = formed(kinds, a, b, words, rows, masks, size, e);
-    words[e] = w;
-    let kind = kinds[e];
-    if kind < Kind::MU {
-        return false;
-    }
-    if kind > Kind::NU {
-        return false;
-    }
-    w != old
-}
-
-// One pass over a block, upwards: did a fixpoint's word change.
-fn pass(
-    kinds: &[u8],
-    a: &[u16],
-    b: &[u16],
-    words: &mut [u64],
-    rows: &[u64; 64],
-    masks: &[u32; 64],
-    marks: &[u8; 256],
-    size: usize,
-) -> bool
-    requires { ⌜ Ready (now kinds) (now a) (now b) (now rows) size (now words) ⌝ }
-    ensures { λ r. ⌜ Passed (now (kinds .entry)) (now (a .entry)) (now (b .entry)) (now (masks .entry)) (now (rows .entry)) (now (marks .entry)) size
-        (now (words .entry)) (length (now (kinds .entry))) (now (words .exit)) r ⌝ }
-{
-    let mut changed = false;
-    let mut e: usize = 0;
-    while e < kinds.len() {
-        if visit(kinds, a, b, words, rows, masks, marks, size, e) {
-            changed = true;
-        }
-        e += 1;
-    }
-    changed
-}
-
-// Passes over a block until none changes a fixpoint's word. Each but the last changes a bit of one, and 64 states times 256 entries have so many.
-fn solve(
-    kinds: &[u8],
-    a: &[u16],
-    b: &[u16],
-    words: &mut [u64],
-    rows: &[u64; 64],
-    masks: &[u32; 64],
-    marks: &[u8; 256],
-    size: usize,
-)
-    requires { ⌜ Ready (now kinds) (now a) (now b) (now rows) size (now words) ⌝ }
-    ensures { λ _. ⌜ Solved (now (kinds .entry)) (now (a .entry)) (now (b .entry)) (now (masks .entry)) (now (rows .entry)) (now (marks .entry)) size
-        (now (words .entry)) (now (words .exit)) ⌝ }
-{
-    begin(kinds, words, marks, size);
-    let mut r: u32 = 0;
-    while r < 16385 {
-        if !pass(kinds, a, b, words, rows, masks, marks, size) {
-            return;
-        }
-        r += 1;
-    }
+    all_states(size)
 }
 
 fn larger(x: u16, y: u16) -> u16
@@ -239,136 +147,196 @@ fn find_tops(kinds: &[u8], a: &[u16], b: &[u16]) -> [u16; 256]
     tops
 }
 
-// Marks an entry that is not settled.
-fn mark_open(done: &[u8], marks: &mut [u8], c: usize)
-    requires { ⌜ (c < 256) × (length (now done) ≡ 256) × (length (now marks) ≡ 256) ⌝ }
-    ensures { λ _. ⌜ Opened (now (done .entry)) (now (marks .entry)) c (now (marks .exit)) ⌝ }
-{
-    if done[c] == 0 {
-        marks[c] = 1;
-    }
-}
-
-// A marked entry marks its operands.
-fn mark_operands(kinds: &[u8], a: &[u16], b: &[u16], done: &[u8], marks: &mut [u8], e: usize)
+// An entry is entered with those whose words it reads: entry e with c as 256 * c + e.
+fn enter(kinds: &[u8], a: &[u16], b: &[u16], users: &mut [u64], e: usize)
     requires { ⌜ Claim (now kinds) (now a) (now b) ⌝ }
-    requires { ⌜ (e < length (now kinds)) × (length (now done) ≡ 256) × (length (now marks) ≡ 256) ⌝ }
-    ensures { λ _. ⌜ Spread (now (kinds .entry)) (now (a .entry)) (now (b .entry)) (now (done .entry)) (now (marks .entry)) e (now (marks .exit)) ⌝ }
+    requires { ⌜ (e < length (now kinds)) × (length (now users) ≡ 1024) ⌝ }
+    ensures { λ _. ⌜ Entered (now (kinds .entry)) (now (a .entry)) (now (b .entry)) e (now (users .entry)) (now (users .exit)) ⌝ }
 {
-    if marks[e] != 1 {
-        return;
-    }
     let kind = kinds[e];
     if kind < Kind::OR {
         return;
     }
-    if kind == Kind::NAME {
-        return;
-    }
-    mark_open(done, marks, wide(a[e]));
+    insert(users, 256 * wide(a[e]) + e);
     if kind < Kind::DIAMOND {
-        mark_open(done, marks, wide(b[e]));
+        insert(users, 256 * wide(b[e]) + e);
     }
 }
 
-// The block of a fixpoint: it, and what is reached from it and not settled, downwards.
-fn reach(kinds: &[u8], a: &[u16], b: &[u16], done: &[u8], x: usize) -> [u8; 256]
+// Which entries read each entry's word.
+fn find_users(kinds: &[u8], a: &[u16], b: &[u16], users: &mut [u64])
     requires { ⌜ Claim (now kinds) (now a) (now b) ⌝ }
-    requires { ⌜ (x < length (now kinds)) × (length (now done) ≡ 256) ⌝ }
-    ensures { λ r. ⌜ Reached (now (kinds .entry)) (now (a .entry)) (now (b .entry)) (now (done .entry)) x r ⌝ }
-{
-    let mut marks = [0u8; 256];
-    marks[x] = 1;
-    let mut p = x + 1;
-    while p > 0 {
-        p -= 1;
-        mark_operands(kinds, a, b, done, &mut marks, p);
-    }
-    marks
-}
-
-// What is marked becomes settled.
-fn settle_marked(done: &mut [u8], marks: &[u8; 256])
-    requires { ⌜ length (now done) ≡ 256 ⌝ }
-    ensures { λ _. ⌜ Filled (settledMark (now (marks .entry)) (now (done .entry))) (now (done .entry)) 256 (now (done .exit)) ⌝ }
+    requires { ⌜ length (now users) ≡ 1024 ⌝ }
+    ensures { λ _. ⌜ Users (now (kinds .entry)) (now (a .entry)) (now (b .entry)) (now (users .exit)) ⌝ }
 {
     let mut e: usize = 0;
-    while e < 256 {
-        if marks[e] == 1 {
-            done[e] = 1;
-        }
+    while e < kinds.len() {
+        enter(kinds, a, b, users, e);
         e += 1;
     }
 }
 
-// An entry whose operands are settled.
+// An entry that is neither settled nor in the block is met.
+fn meet(done: &[u64; 4], block: &[u64; 4], met: &mut [u64; 4], c: usize)
+    requires { ⌜ (c < 256) × (length (now met) ≡ 4) ⌝ }
+    ensures { λ _. ⌜ Meets (now (done .entry)) (now (block .entry)) (now (met .entry)) c (now (met .exit)) ⌝ }
+{
+    if has(done, c) {
+        return;
+    }
+    if has(block, c) {
+        return;
+    }
+    insert(met, c);
+}
+
+// An entry that is no leaf joins the block, and its operands are met.
+fn grow(
+    kinds: &[u8],
+    a: &[u16],
+    b: &[u16],
+    done: &[u64; 4],
+    block: &mut [u64; 4],
+    met: &mut [u64; 4],
+    e: usize,
+)
+    requires { ⌜ Claim (now kinds) (now a) (now b) ⌝ }
+    requires { ⌜ (e < length (now kinds)) × (3 < getD (now kinds) e 0) × (length (now block) ≡ 4) × (length (now met) ≡ 4) ⌝ }
+    ensures { λ _. ⌜ (length (now (block .exit)) ≡ length (now (block .entry))) × (length (now (met .exit)) ≡ length (now (met .entry))) × Grown
+        (tableFrom (now (kinds .entry)) (now (a .entry)) (now (b .entry))) (inSet (now (done .entry))) (inSet (now (block .entry)))
+        (inSet (now (met .entry))) e (inSet (now (block .exit))) (inSet (now (met .exit))) ⌝ }
+{
+    insert(block, e);
+    let kind = kinds[e];
+    if kind == Kind::NAME {
+        return;
+    }
+    meet(done, block, met, wide(a[e]));
+    if kind < Kind::DIAMOND {
+        meet(done, block, met, wide(b[e]));
+    }
+}
+
+// Every word of the block at the start.
+fn begin(words: &mut [u64; 256], block: &[u64; 4], start: u64)
+    requires { ⌜ (length (now words) ≡ 256) × (length (now block) ≡ 4) ⌝ }
+    ensures { λ _. ⌜ Begun (now (block .entry)) start (now (words .entry)) (now (words .exit)) ⌝ }
+{
+    let mut left = *block;
+    let mut e = lowest(&left);
+    while e < 256 {
+        remove(&mut left, e);
+        words[e] = start;
+        e = lowest(&left);
+    }
+}
+
+// Those of the block that read an entry's word wait to be formed.
+fn wake(users: &[u64; 1024], block: &[u64; 4], e: usize, waiting: &mut [u64; 4])
+    requires { ⌜ (e < 256) × (length (now waiting) ≡ 4) ⌝ }
+    ensures { λ _. ⌜ Woken (now (users .entry)) (now (block .entry)) e (now (waiting .entry)) (now (waiting .exit)) ⌝ }
+{
+    let mut i: usize = 0;
+    while i < 4 {
+        waiting[i] = waiting[i] | (users[4 * e + i] & block[i]);
+        i += 1;
+    }
+}
+
+// The turn of one entry that waits: it is formed, and if its word changed its readers wait.
+fn turn(
+    kinds: &[u8],
+    a: &[u16],
+    b: &[u16],
+    words: &mut [u64; 256],
+    rows: &[u64; 64],
+    masks: &[u32; 64],
+    users: &[u64; 1024],
+    block: &[u64; 4],
+    waiting: &mut [u64; 4],
+    size: usize,
+    e: usize,
+)
+    requires { ⌜ Ready (now kinds) (now a) (now b) (now rows) size (now words) ⌝ }
+    requires { ⌜ (e < length (now kinds)) × (length (now waiting) ≡ 4) ⌝ }
+    ensures { λ _. ⌜ Turned (now (kinds .entry)) (now (a .entry)) (now (b .entry)) (now (masks .entry)) (now (rows .entry)) size (now (users .entry))
+        (now (block .entry)) e (now (words .entry)) (now (waiting .entry)) (now (words .exit)) (now (waiting .exit)) ⌝ }
+{
+    remove(waiting, e);
+    let w = formed(kinds, a, b, words, rows, masks, size, e);
+    if w == words[e] {
+        return;
+    }
+    words[e] = w;
+    wake(users, block, e, waiting);
+}
+
+// An entry that reads only what is settled.
 fn settle_entry(
     kinds: &[u8],
     a: &[u16],
     b: &[u16],
-    words: &mut [u64],
-    done: &mut [u8],
+    words: &mut [u64; 256],
+    done: &mut [u64; 4],
     rows: &[u64; 64],
     masks: &[u32; 64],
     size: usize,
     e: usize,
 )
     requires { ⌜ Ready (now kinds) (now a) (now b) (now rows) size (now words) ⌝ }
-    requires { ⌜ (e < length (now kinds)) × (length (now done) ≡ 256) ⌝ }
+    requires { ⌜ (e < length (now kinds)) × (length (now done) ≡ 4) ⌝ }
     ensures { λ _. ⌜ now (words .exit) ≡ set (now (words .entry)) e (formedWord (now (kinds .entry)) (now (a .entry)) (now (b .entry))
         (now (masks .entry)) (now (rows .entry)) size (now (words .entry)) e) ⌝ }
-    ensures { λ _. ⌜ now (done .exit) ≡ set (now (done .entry)) e 1 ⌝ }
+    ensures { λ _. ⌜ Inserted (now (done .entry)) e (now (done .exit)) ⌝ }
 {
     let w = formed(kinds, a, b, words, rows, masks, size, e);
     words[e] = w;
-    done[e] = 1;
+    insert(done, e);
 }
 
-// A fixpoint without free names, with all that is reached from it: its block is solved and then settled.
-fn settle_block(
-    kinds: &[u8],
-    a: &[u16],
-    b: &[u16],
-    words: &mut [u64],
-    done: &mut [u8],
-    rows: &[u64; 64],
-    masks: &[u32; 64],
-    size: usize,
-    x: usize,
-)
-    requires { ⌜ Standing (now kinds) (now a) (now b) (now masks) (now rows) size (now words) (now done) ⌝ }
-    requires { ⌜ (x < length (now kinds)) × Isolated (now kinds) (now a) (now b) (now masks) (now rows) size (now done) x ⌝ }
-    ensures { λ _. ⌜ Evaluated (now (kinds .entry)) (now (a .entry)) (now (b .entry)) (now (masks .entry)) (now (rows .entry)) size x
-        (now (words .entry)) (now (done .entry)) (now (words .exit)) (now (done .exit)) ⌝ }
+// Whether an entry is a fixpoint whose body has a free name; one whose body has none has its body's word.
+fn needs_rounds(kinds: &[u8], a: &[u16], tops: &[u16; 256], e: usize) -> bool
+    requires { ⌜ (e < length (now kinds)) × (length (now a) ≡ length (now kinds)) × (length (now kinds) ≤ 256) ×
+        (7 < getD (now kinds) e 0 → getD (now kinds) e 0 < 10 → getD (now a) e 0 < 256) ⌝ }
+    ensures { λ r. ⌜ (r ≡ true → (7 < getD (now (kinds .entry)) e 0) × (getD (now (kinds .entry)) e 0 < 10)) ×
+        (r ≡ false → 7 < getD (now (kinds .entry)) e 0 → getD (now (kinds .entry)) e 0 < 10 → getD (now (tops .entry)) (getD (now (a .entry)) e 0) 0
+        ≡ 0) ⌝ }
 {
-    let marks = reach(kinds, a, b, done, x);
-    solve(kinds, a, b, words, rows, masks, &marks, size);
-    settle_marked(done, &marks);
+    let kind = kinds[e];
+    if kind < Kind::MU {
+        return false;
+    }
+    if kind > Kind::NU {
+        return false;
+    }
+    tops[wide(a[e])] != 0
 }
 
-// An entry, settled if it has no free name.
+// Settles an entry whose free names are settled.
 fn eval_entry(
     kinds: &[u8],
     a: &[u16],
     b: &[u16],
     tops: &[u16; 256],
-    words: &mut [u64],
-    done: &mut [u8],
+    users: &[u64; 1024],
+    words: &mut [u64; 256],
+    done: &mut [u64; 4],
     rows: &[u64; 64],
     masks: &[u32; 64],
     size: usize,
     e: usize,
 )
     requires { ⌜ Standing (now kinds) (now a) (now b) (now masks) (now rows) size (now words) (now done) ⌝ }
-    requires { ⌜ Tops (now kinds) (now a) (now b) (now tops) ⌝ }
-    requires { ⌜ e < length (now kinds) ⌝ }
+    requires { ⌜ Prepared (now kinds) (now a) (now b) (now tops) (now users) ⌝ }
+    requires { ⌜ (e < length (now kinds)) × Known (now kinds) (now a) (now b) (now done) e ⌝ }
     ensures { λ _. ⌜ Evaluated (now (kinds .entry)) (now (a .entry)) (now (b .entry)) (now (masks .entry)) (now (rows .entry)) size e
-        (now (words .entry)) (now (done .entry)) (now (words .exit)) (now (done .exit)) ⌝ }
+        (now (done .entry)) (now (words .exit)) (now (done .exit)) ⌝ }
 {
-    if done[e] != 0 {
+    if has(done, e) {
         return;
     }
-    if tops[e] != 0 {
+    if needs_rounds(kinds, a, tops, e) {
+        iterate(kinds, a, b, tops, users, words, done, rows, masks, size, e);
         return;
     }
     let kind = kinds[e];
@@ -376,99 +344,143 @@ fn eval_entry(
         settle_entry(kinds, a, b, words, done, rows, masks, size, e);
         return;
     }
-    if kind > Kind::BOX {
-        iterate(kinds, a, b, tops, words, done, rows, masks, size, e);
+    if kind == Kind::NAME {
+        settle_entry(kinds, a, b, words, done, rows, masks, size, e);
         return;
     }
-    let x = wide(a[e]);
-    eval_entry(kinds, a, b, tops, words, done, rows, masks, size, x);
+    eval_entry(
+        kinds,
+        a,
+        b,
+        tops,
+        users,
+        words,
+        done,
+        rows,
+        masks,
+        size,
+        wide(a[e]),
+    );
     if kind < Kind::DIAMOND {
-        let y = wide(b[e]);
-        eval_entry(kinds, a, b, tops, words, done, rows, masks, size, y);
+        eval_entry(
+            kinds,
+            a,
+            b,
+            tops,
+            users,
+            words,
+            done,
+            rows,
+            masks,
+            size,
+            wide(b[e]),
+        );
         settle_entry(kinds, a, b, words, done, rows, masks, size, e);
         return;
     }
     settle_entry(kinds, a, b, words, done, rows, masks, size, e);
 }
 
-// A fixpoint without free names: the entries below it that have none, then its block.
+// Settles a fixpoint whose free names are settled, with its block: itself, and what is reached from it by operands that have a free name
+// and are not settled. Whatever is met and has no free name is evaluated. Then the block's words go from the start until each is formed
+// of the others.
 fn iterate(
     kinds: &[u8],
     a: &[u16],
     b: &[u16],
     tops: &[u16; 256],
-    words: &mut [u64],
-    done: &mut [u8],
+    users: &[u64; 1024],
+    words: &mut [u64; 256],
+    done: &mut [u64; 4],
     rows: &[u64; 64],
     masks: &[u32; 64],
     size: usize,
     x: usize,
 )
     requires { ⌜ Standing (now kinds) (now a) (now b) (now masks) (now rows) size (now words) (now done) ⌝ }
-    requires { ⌜ Tops (now kinds) (now a) (now b) (now tops) ⌝ }
-    requires { ⌜ (x < length (now kinds)) × (getD (now tops) x 0 ≡ 0) × (getD (now done) x 0 ≡ 0) ⌝ }
+    requires { ⌜ Prepared (now kinds) (now a) (now b) (now tops) (now users) ⌝ }
+    requires { ⌜ (x < length (now kinds)) × Known (now kinds) (now a) (now b) (now done) x × (7 < getD (now kinds) x 0) × (getD (now kinds) x 0 < 10)
+        ⌝ }
     ensures { λ _. ⌜ Evaluated (now (kinds .entry)) (now (a .entry)) (now (b .entry)) (now (masks .entry)) (now (rows .entry)) size x
-        (now (words .entry)) (now (done .entry)) (now (words .exit)) (now (done .exit)) ⌝ }
+        (now (done .entry)) (now (words .exit)) (now (done .exit)) ⌝ }
 {
-    let mut c: usize = 0;
-    while c < x {
-        eval_entry(kinds, a, b, tops, words, done, rows, masks, size, c);
-        c += 1;
+    let mut block = [0u64; 4];
+    let mut met = [0u64; 4];
+    grow(kinds, a, b, done, &mut block, &mut met, x);
+    let mut c = lowest(&met);
+    while c < 256 {
+        remove(&mut met, c);
+        if tops[c] != 0 {
+            grow(kinds, a, b, done, &mut block, &mut met, c);
+        } else {
+            if needs_rounds(kinds, a, tops, c) {
+                iterate(kinds, a, b, tops, users, words, done, rows, masks, size, c);
+            } else {
+                eval_entry(kinds, a, b, tops, users, words, done, rows, masks, size, c);
+            }
+        }
+        c = lowest(&met);
     }
-    settle_block(kinds, a, b, words, done, rows, masks, size, x);
+    begin(words, &block, start_word(kinds[x], size));
+    let mut waiting = block;
+    let mut e = lowest(&waiting);
+    while e < 256 {
+        turn(
+            kinds,
+            a,
+            b,
+            words,
+            rows,
+            masks,
+            users,
+            &block,
+            &mut waiting,
+            size,
+            e,
+        );
+        e = lowest(&waiting);
+    }
+    join(done, &block);
 }
 
-// Every entry that has no free name.
+// Every entry, from the highest down: its free names lie above it and are settled.
 fn eval_all(
     kinds: &[u8],
     a: &[u16],
     b: &[u16],
     tops: &[u16; 256],
-    words: &mut [u64],
-    done: &mut [u8],
+    users: &[u64; 1024],
+    words: &mut [u64; 256],
+    done: &mut [u64; 4],
     rows: &[u64; 64],
     masks: &[u32; 64],
     size: usize,
 )
     requires { ⌜ Standing (now kinds) (now a) (now b) (now masks) (now rows) size (now words) (now done) ⌝ }
-    requires { ⌜ Tops (now kinds) (now a) (now b) (now tops) ⌝ }
-    ensures { λ _. ⌜ Swept (now (kinds .entry)) (now (a .entry)) (now (b .entry)) (now (masks .entry)) (now (rows .entry)) size
-        (length (now (kinds .entry))) (now (words .entry)) (now (done .entry)) (now (words .exit)) (now (done .exit)) ⌝ }
+    requires { ⌜ Prepared (now kinds) (now a) (now b) (now tops) (now users) ⌝ }
+    ensures { λ _. ⌜ Swept (now (kinds .entry)) (now (a .entry)) (now (b .entry)) (now (masks .entry)) (now (rows .entry)) size 0 (now (words .exit))
+        (now (done .exit)) ⌝ }
 {
-    let mut e: usize = 0;
-    while e < kinds.len() {
-        eval_entry(kinds, a, b, tops, words, done, rows, masks, size, e);
-        e += 1;
+    let mut e = kinds.len();
+    while e > 0 {
+        e -= 1;
+        eval_entry(kinds, a, b, tops, users, words, done, rows, masks, size, e);
     }
 }
 
-// What is not settled.
-fn rest_marks(done: &[u8]) -> [u8; 256]
-    requires { ⌜ length (now done) ≡ 256 ⌝ }
-    ensures { λ r. ⌜ Filled (restMark (now (done .entry))) (replicate 256 0) 256 r ⌝ }
-{
-    let mut marks = [0u8; 256];
-    let mut c: usize = 0;
-    while c < 256 {
-        if done[c] == 0 {
-            marks[c] = 1;
-        }
-        c += 1;
-    }
-    marks
-}
-
-fn clear_words(words: &mut [u64])
-    ensures { λ _. ⌜ Filled (λ e. 0) (now (words .entry)) (length (now (words .entry))) (now (words .exit)) ⌝ }
+// The words go to where they are wanted.
+fn hand_over(found: &[u64; 256], words: &mut [u64])
+    requires { ⌜ length (now words) ≤ 256 ⌝ }
+    ensures { λ _. ⌜ Filled (λ e. getD (now (found .entry)) e 0) (now (words .entry)) (length (now (words .entry))) (now (words .exit)) ⌝ }
 {
     let mut e: usize = 0;
     while e < words.len() {
-        words[e] = 0;
+        words[e] = found[e];
         e += 1;
     }
 }
 
-// The word of every entry, from nothing: the entries without free names upwards, then the rest at once.
+// The word of every entry, from nothing.
 fn fill_words(
     kinds: &[u8],
     a: &[u16],
@@ -483,16 +495,29 @@ fn fill_words(
     ensures { λ _. ⌜ now (words .exit) ≡ wordsIn (now (masks .entry)) (now (marks .entry)) size
         (tableFrom (now (kinds .entry)) (now (a .entry)) (now (b .entry))) ⌝ }
 {
-    clear_words(words);
     let rows = row_words(marks, size);
     let tops = find_tops(kinds, a, b);
-    let mut done = [0u8; 256];
-    eval_all(kinds, a, b, &tops, words, &mut done, &rows, masks, size);
-    let rest = rest_marks(&done);
-    solve(kinds, a, b, words, &rows, masks, &rest, size);
+    let mut users = [0u64; 1024];
+    find_users(kinds, a, b, &mut users);
+    let mut done = [0u64; 4];
+    let mut found = [0u64; 256];
+    eval_all(
+        kinds,
+        a,
+        b,
+        &tops,
+        &users,
+        &mut found,
+        &mut done,
+        &rows,
+        masks,
+        size,
+    );
+    hand_over(&found, words);
 }
 
-// The word of every entry of a claim in a model: one for each entry, bit s for state s and all bits past the last state zero. No further word is touched.
+// The word of every entry of a claim in a model: one for each entry, bit s for state s and all bits past the last state zero. No further
+// word is touched.
 pub fn evaluate(
     kinds: &[u8],
     a: &[u16],

@@ -1,67 +1,46 @@
--- the entries below e stand at their start if they are in the block
-use mathlib.Core.Path.{_≡_}
-use Prim.Native.Nat.{_-_, _≤_}
+-- those that are left wait for the start
+use mathlib.Core.Path.{_≡_, refl, _∙_}
 use native.Mathlib.Omega.{arith}
-use borrow.Author.Needs.{needs}
-use mathlib.Core.Logic.{⊎-elim}
 use lib.ListN.{length}
-use Rattle.states.specs.Fill.{Filled, filled-none}
-use Rattle.evaluator.specs.Pass.{begunWord, begun-set, begun-keep}
+use Rattle.evaluator.specs.Sets.{inSet, Lowest}
+use Rattle.evaluator.specs.Counting.{count}
+use Rattle.evaluator.specs.Turn.{Beginning, begin-first, begin-next, begin-nearer, begin-last}
+use borrow.Author.Needs.{needs}
 use Rattle.evaluator.proofs.begin.Statement.{statement}
 use Rattle.evaluator.proofs.begin.Tie as tie
 
 abbrev Inv-loop : tie.InvT-loop
-Inv-loop kinds words₀ marks size e₀ words e = (e ≤ length kinds) × Filled (begunWord kinds marks size words₀) words₀ e words
+Inv-loop words₀ block start left₀ e₀ words left e = Beginning block start words₀ left words × Lowest left e × (length words₀ ≡ 256)
 
 abbrev μ-loop : tie.MeasureT-loop
-μ-loop kinds words₀ marks size e₀ words e = length kinds - e
+μ-loop words₀ block start left₀ e₀ words left e = count 256 (inSet left)
+
+lowest-requires : tie.Need-lowest-requires Inv-loop μ-loop
+lowest-requires c κs = c .before .before .pre .1
 
 loop-holds : tie.Need-loop-holds Inv-loop μ-loop
-loop-holds c = (omega arith, filled-none _ _)
+loop-holds c = (begin-first _ _ _ (c .before .before .before .pre .1), c .lowest .ensures, c .before .before .before .pre .0)
 
-element-copy-out-if1 : tie.Need-element-copy-out-if1 Inv-loop μ-loop
-element-copy-out-if1 c = search needs
-
-mul-w : tie.Need-mul-w Inv-loop μ-loop
-mul-w c = search needs
-
-slice-read-w : tie.Need-slice-read-w Inv-loop μ-loop
-slice-read-w c = omega (arith, c .before .before .before .before .loop .inv .1 .long)
-
-shared-slice-read-start-word : tie.Need-shared-slice-read-start-word Inv-loop μ-loop
-shared-slice-read-start-word c = search needs
-
-start-word-requires : tie.Need-start-word-requires Inv-loop μ-loop
-start-word-requires c κs = search needs
+remove-requires : tie.Need-remove-requires Inv-loop μ-loop
+remove-requires c κs = (c .before .loop-test .taken, c .before .before .loop .inv .0 .set-long)
 
 mul-words : tie.Need-mul-words Inv-loop μ-loop
-mul-words c = search needs
+mul-words c = omega (arith, c .before .before .loop-test .taken)
 
-slice-write-words : tie.Need-slice-write-words Inv-loop μ-loop
-slice-write-words c = omega (arith, c .before .before .before .before .before .before .loop .inv .1 .long)
+element-write-words : tie.Need-element-write-words Inv-loop μ-loop
+element-write-words c = search needs
 
-add-e : tie.Need-add-e Inv-loop μ-loop
-add-e c = search needs
+lowest-requires-2 : tie.Need-lowest-requires-2 Inv-loop μ-loop
+lowest-requires-2 c κs = c .before .remove .ensures .long ∙ c .before .before .before .before .loop .inv .0 .set-long
 
 loop-less : tie.Need-loop-less Inv-loop μ-loop
-loop-less c = search needs
+loop-less c = begin-nearer (c .before .before .before .before .before .before .before .before .before .args .block .now) (c .before .before .before .before .before .before .before .before .before .args .start) (c .before .before .before .before .before .before .before .before .before .args .words .now) _ _ _ (c .before .before .before .before .loop-test .taken) (c .before .before .before .before .before .loop .inv .1 .found (c .before .before .before .before .loop-test .taken)) (c .before .before .remove .ensures)
 
 loop-again : tie.Need-loop-again Inv-loop μ-loop
-loop-again c = (
-  omega arith,
-  ⊎-elim
-      (λ v. rw (v .4) (begun-set _ _ _ (c .before .before .before .loop .inv .1) _ (omega (arith, c .before .before .before .before .before .before .pre .0)) (v .0 .taken) (v .3 .ensures)))
-      (λ v. rw (v .1) (begun-keep _ _ _ (c .before .before .before .loop .inv .1) (v .0 .left)))
-      (c .if1 .came),
-)
-
-same-length : tie.Need-same-length Inv-loop μ-loop
-same-length c = c .before .loop .inv .1 .long
+loop-again c = (begin-next _ _ _ _ _ _ _ (c .before .before .before .before .before .loop .inv .0) (c .before .before .before .before .before .loop .inv .1 .found (c .before .before .before .before .loop-test .taken)) (omega (arith, c .before .before .before .before .before .loop .inv .2, c .before .before .before .before .loop-test .taken)) (c .before .before .remove .ensures), c .lowest2 .ensures, c .before .before .before .before .before .loop .inv .2)
 
 returns : tie.Need-returns Inv-loop μ-loop
-returns c =
-    let q : c .before .loop .e ≡ length (c .before .before .before .before .args .kinds .now) = omega arith in
-    rw q at (c .before .loop .inv .1)
+returns c = begin-last _ _ _ _ _ (c .before .loop .inv .0) (c .before .loop .inv .1 .none (omega (arith, c .loop-test .left)))
 
 pub begin-spec : {M : Type 1} → statement M
 begin-spec =
@@ -69,16 +48,12 @@ begin-spec =
     (tie.spec
     Inv-loop
     μ-loop
+    lowest-requires
     loop-holds
-    element-copy-out-if1
-    mul-w
-    slice-read-w
-    shared-slice-read-start-word
-    start-word-requires
+    remove-requires
     mul-words
-    slice-write-words
-    add-e
+    element-write-words
+    lowest-requires-2
     loop-less
     loop-again
-    same-length
     returns)

@@ -2,7 +2,7 @@
 use mathlib.Core.Path.{sym, _∙_}
 use lib.Seq.{length-take-le}
 use Rattle.evaluator.specs.Claim.{first-claim}
-use Rattle.evaluator.specs.EvaluatedLaws.{first-written}
+use Rattle.evaluator.specs.Evaluated.{first-written}
 use borrow.Author.Needs.{needs}
 use Rattle.evaluator.proofs.evaluate.Statement.{statement}
 use Rattle.evaluator.proofs.evaluate.Tie as tie

@@ -1,60 +1,48 @@
 -- what is settled is right from the first call to the last, and in the end every entry is
-use mathlib.Core.Path.{_∙_}
+use mathlib.Core.Path.{refl, _∙_}
+use native.Mathlib.Omega.{arith}
+use Prim.Native.Nat.{ℕ}
+use lib.ListN.{length-replicate}
 use Rattle.evaluator.specs.Claim.{tableFrom}
 use Rattle.states.specs.PlainModel.{rows-inside, rows-words}
-use Rattle.evaluator.specs.EvaluatedLaws.{standing-first, every-word}
+use Rattle.evaluator.specs.Evaluated.{standing-first, every-word}
 use borrow.Author.Needs.{needs}
 use Rattle.evaluator.proofs.fill_words.Statement.{statement}
 use Rattle.evaluator.proofs.fill_words.Tie as tie
 
-clear-words-requires : tie.Need-clear-words-requires
-clear-words-requires c κs = search needs
-
 row-words-requires : tie.Need-row-words-requires
-row-words-requires c κs = search needs
+row-words-requires c κs = c .before .before .before .before .pre .1 .0
 
 find-tops-requires : tie.Need-find-tops-requires
-find-tops-requires c κs = search needs
+find-tops-requires c κs = c .before .before .before .before .before .pre .0
 
-slice-aggregate-eval-all : tie.Need-slice-aggregate-eval-all
-slice-aggregate-eval-all c = search needs
+slice-aggregate-find-users : tie.Need-slice-aggregate-find-users
+slice-aggregate-find-users c = search needs
+
+find-users-requires : tie.Need-find-users-requires
+find-users-requires c κs = (c .before .before .before .before .before .before .before .pre .0, length-replicate {A = ℕ} 1024 0)
 
 eval-all-requires : tie.Need-eval-all-requires
-eval-all-requires c κs = (
-  standing-first _ _ _ _ _ _ _ _ (c .before .before .before .before .before .before .before .before .before .before .before .before .before .before .pre .0) (c .before .before .before .before .before .before .before .before .before .before .before .before .before .before .pre .1 .0) (rows-inside (c .before .before .before .before .before .row-words .ensures) 64) (c .before .before .before .before .before .before .before .before .before .before .before .before .before .before .pre .1 .1) (c .before .before .before .before .before .before .before .before .clear-words .ensures),
-  c .before .before .before .before .find-tops .ensures,
-)
+eval-all-requires c κs = (standing-first _ _ _ _ _ _ (c .before .before .before .before .before .before .before .before .before .before .before .before .before .before .pre .0) (c .before .before .before .before .before .before .before .before .before .before .before .before .before .before .pre .1 .0) (rows-inside (c .before .before .before .before .before .before .before .before .before .row-words .ensures) 64), record { tops = c .before .before .before .before .before .before .before .before .find-tops .ensures; users = c .before .before .before .before .before .before .find-users .ensures })
 
-slice-aggregate-rest-marks : tie.Need-slice-aggregate-rest-marks
-slice-aggregate-rest-marks c = search needs
-
-rest-marks-requires : tie.Need-rest-marks-requires
-rest-marks-requires c κs = search needs
-
-solve-requires : tie.Need-solve-requires
-solve-requires c κs = search needs
+hand-over-requires : tie.Need-hand-over-requires
+hand-over-requires c κs = omega (arith, c .before .before .before .before .before .before .before .before .before .before .before .before .before .before .before .before .before .pre .1 .1, c .before .before .before .before .before .before .before .before .before .before .before .before .before .before .before .before .before .pre .0 .few)
 
 same-length : tie.Need-same-length
 same-length c = search needs
 
 returns : tie.Need-returns
-returns c =
-    let given = c .before .before .before .before .before .before .before .before .before .before .before .before .before .before .before .before .before .before .before .before .before .before .before .before .before .before .args in
-    let R = c .before .before .before .before .before .before .before .before .before .before .before .eval-all .ensures in
-    every-word _ _ _ _ _ _ _ _ (R .standing) (R .settled) _ (c .before .before .before .before .before .before .rest-marks .ensures) _ (c .before .before .solve .ensures)
-    ∙ rows-words (c .before .before .before .before .before .before .before .before .before .before .before .before .before .before .before .before .before .row-words .ensures) (given .masks .now) (tableFrom (given .kinds .now) (given .a .now) (given .b .now))
+returns c = every-word _ _ _ _ _ _ _ _ (c .before .before .before .before .before .eval-all .ensures) _ _ (c .before .before .before .before .before .before .before .before .before .before .before .before .before .before .before .before .before .before .before .before .pre .1 .1) (c .before .before .hand-over .ensures) ∙ rows-words (c .before .before .before .before .before .before .before .before .before .before .before .before .before .before .before .row-words .ensures) (c .before .before .before .before .before .before .before .before .before .before .before .before .before .before .before .before .before .before .before .before .args .masks .now) (tableFrom (c .before .before .before .before .before .before .before .before .before .before .before .before .before .before .before .before .before .before .before .before .args .kinds .now) (c .before .before .before .before .before .before .before .before .before .before .before .before .before .before .before .before .before .before .before .before .args .a .now) (c .before .before .before .before .before .before .before .before .before .before .before .before .before .before .before .before .before .before .before .before .args .b .now))
 
 pub fill-words-spec : {M : Type 1} → statement M
 fill-words-spec =
     tie.close
     (tie.spec
-    clear-words-requires
     row-words-requires
     find-tops-requires
-    slice-aggregate-eval-all
+    slice-aggregate-find-users
+    find-users-requires
     eval-all-requires
-    slice-aggregate-rest-marks
-    rest-marks-requires
-    solve-requires
+    hand-over-requires
     same-length
     returns)

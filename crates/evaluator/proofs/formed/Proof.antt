@@ -34,7 +34,7 @@ mul-x c =
 
 shared-slice-read-x : tie.Need-shared-slice-read-x
 shared-slice-read-x c =
-    omega (arith, c .before .wide .ensures, a-entry (c .before .before .before .before .before .before .before .before .before .pre .0 .claim) _ (c .before .before .before .before .before .before .before .before .before .pre .1) (c .before .before .if1 .left), c .before .before .before .before .before .before .before .before .before .pre .0 .words-there)
+    omega (arith, c .before .wide .ensures, a-entry (c .before .before .before .before .before .before .before .before .before .pre .0 .claim) _ (c .before .before .before .before .before .before .before .before .before .pre .1) (c .before .before .if1 .left), c .before .before .before .before .before .before .before .before .before .pre .0 .words-there, c .before .before .before .before .before .before .before .before .before .pre .0 .claim .few)
 
 diamond-word-requires : tie.Need-diamond-word-requires
 diamond-word-requires c κs = search needs
@@ -73,7 +73,7 @@ mul-y c =
 shared-slice-read-y : tie.Need-shared-slice-read-y
 shared-slice-read-y c =
     let k = b-below (c .before .before .before .before .before .before .before .before .before .before .before .before .before .before .before .pre .0 .claim) _ (c .before .before .before .before .before .before .before .before .before .before .before .before .before .before .before .pre .1) (c .before .before .before .before .before .before .before .before .if1 .left) (omega (arith, c .before .before .before .if4 .left, c .before .before .before .before .if3 .left, c .before .before .before .before .before .if2 .left)) in
-    omega (arith, k, c .before .before .before .before .before .before .before .before .before .before .before .before .before .before .before .pre .1, c .before .wide2 .ensures, c .before .before .before .before .before .before .before .before .before .before .before .before .before .before .before .pre .0 .words-there)
+    omega (arith, k, c .before .before .before .before .before .before .before .before .before .before .before .before .before .before .before .pre .1, c .before .wide2 .ensures, c .before .before .before .before .before .before .before .before .before .before .before .before .before .before .before .pre .0 .words-there, c .before .before .before .before .before .before .before .before .before .before .before .before .before .before .before .pre .0 .claim .few)
 
 returns-5 : tie.Need-returns-5
 returns-5 c =
