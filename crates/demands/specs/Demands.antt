@@ -1,5 +1,5 @@
 -- the demands on the gate over the definitions, each with its proof; `Bytes s`: the numbers of s are below 256
--- what to read to believe them: `Correct`, `Irrefutable` and `Earned` rest on 648 lines of definitions, all contracts of the calls on 1536 lines;
+-- what to read to believe them: `Correct`, `Irrefutable` and `Earned` rest on 648 lines of definitions, all contracts of the calls on 1540 lines;
 -- tests/believed.sh counts and lists them
 use mathlib.Core.Path.{_≡_}
 use mathlib.Core.Logic.{_↔_, _⊎_}
@@ -35,10 +35,10 @@ use Rattle.proofs.specs.ProofExact.{proof-decodes, proof-encodes}
 use Rattle.calculus.specs.Sequents.{sequent}
 use Rattle.model.specs.Described.{modelOf}
 use Rattle.permit.specs.GateState.{Gate, opened}
-use Rattle.demands.specs.Slices.{Lent, short, LentWords}
+use Rattle.demands.specs.Slices.{Lent, LongEnough, LentWords}
 use Rattle.demands.specs.Check.{verdict}
 use Rattle.demands.specs.Present.{presenting}
-use Rattle.demands.specs.PresentLaws.{Granted, presented-verdict, presented-granted}
+use Rattle.demands.specs.PresentLaws.{Granted, presented-verdict, presented-granted, long-not-short, presented-short}
 use Rattle.demands.specs.Evaluate.{evaluating}
 use Rattle.demands.specs.Correct.{Correct, Irrefutable}
 use Rattle.demands.specs.Earned.{Earned}
@@ -74,12 +74,16 @@ module _ (claim proof : List ℕ) (bc : Bytes claim) (bp : Bytes proof) where
       (granted, accepted-sound (granted .accepts))
 
   -- gate open, no permit held, slices long enough: whatever the tag, accepted exactly when correct, and refused as earned
-  pub presented-exact : (tag : ℕ) (l : Lent) → short l ≡ false → (presenting opened tag claim proof l .answer ≡ accepted) ↔ Correct claim proof
-  presented-exact tag l long = rw (presented-verdict tag claim proof l long) accepted-exact
+  pub presented-exact : (tag : ℕ) (l : Lent) → LongEnough l → (presenting opened tag claim proof l .answer ≡ accepted) ↔ Correct claim proof
+  presented-exact tag l long = rw (presented-verdict tag claim proof l (long-not-short l long)) accepted-exact
 
-  pub presented-refused : {n q : ℕ} (tag : ℕ) (l : Lent) → short l ≡ false
+  pub presented-refused : {n q : ℕ} (tag : ℕ) (l : Lent) → LongEnough l
       → (presenting opened tag claim proof l .answer ≡ refused n q) ↔ Earned claim proof n q
-  presented-refused {n} {q} tag l long = rw (presented-verdict tag claim proof l long) (refused-exact {n = n} {q = q})
+  presented-refused {n} {q} tag l long = rw (presented-verdict tag claim proof l (long-not-short l long)) (refused-exact {n = n} {q = q})
+
+  -- and with a slice that is too short, whatever the files are, 1 at 0
+  pub presented-too-short : (tag : ℕ) (l : Lent) → (LongEnough l → ⊥) → presenting opened tag claim proof l .answer ≡ refused 1 0
+  presented-too-short tag l = presented-short tag claim proof l
 
 -- every node of a correct proof: in every finite model every state has a true member of its sequent
 pub every-node : {claim proof : List ℕ} (k : Correct claim proof) (M : Model) (s : ℕ) → s < M .size

@@ -1,7 +1,7 @@
 -- lent slices: the lengths that refusal 1 asks for, and what a slice holds once a decoding is written to it
 use mathlib.Core.List.{List}
 use mathlib.Core.Bool.{Bool, _||_}
-use Prim.Native.Nat.{ℕ}
+use Prim.Native.Nat.{ℕ, _≤_}
 use lib.Dec.{ltb}
 use lib.ListN.{length}
 use Rattle.verdict.specs.Lists.{written}
@@ -18,6 +18,12 @@ pub record Lent : Type 0 where
 -- 1: under 256 entries, 1,024 nodes or 24,576 codes
 abbrev pub short : Lent → Bool
 short l = ltb (length (l .entries)) 256 || (ltb (length (l .nodes)) 1024 || ltb (length (l .codes)) 24576)
+
+-- "slices are long enough when none that the call takes is under its length in refusal 1"
+pub record LongEnough (l : Lent) : Type 0 where
+  pub entries : 256 ≤ length (l .entries)
+  pub nodes : 1024 ≤ length (l .nodes)
+  pub codes : 24576 ≤ length (l .codes)
 
 abbrev pub decodedInto : Table → Proof → Lent → Lent
 decodedInto t p l = record {

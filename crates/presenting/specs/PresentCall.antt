@@ -14,7 +14,7 @@ use Rattle.permit.specs.Plain.{stateOf, leftBy}
 use Rattle.permit.specs.LentState.{plain-reads}
 use Rattle.permit.specs.declared.State.{State}
 use Rattle.permit.specs.declared.numbered.Numbered.{Numbered}
-use Rattle.demands.specs.Slices.{Lent, short}
+use Rattle.demands.specs.Slices.{Lent, short, LongEnough}
 use Rattle.presenting.specs.LentSlices.{lentOf}
 use Rattle.demands.specs.Check.{Checked, unread, decoded, check}
 use Rattle.demands.specs.Present.{presentedBy, ifLong, presenting}
@@ -37,9 +37,9 @@ pub record PresentCall (s : State) (tag : ℕ) (claim proof : List ℕ) (es : Li
   -- "whenever presenting says so, the gate then holds the tag it was given"
   pub holds : r ≡ 0 → s′ ≡ record { phase = 2; tag = tag }
   -- slices long enough, gate open, no permit held: accepted exactly when claim and proof are well formed and keep every rule
-  pub exact : stateOf s ≡ opened → short (lentOf es vs cs) ≡ false → (r ≡ 0) ↔ Correct claim proof
+  pub exact : stateOf s ≡ opened → LongEnough (lentOf es vs cs) → (r ≡ 0) ↔ Correct claim proof
   -- and any other answer is the refusal that they earn
-  pub refuses : stateOf s ≡ opened → short (lentOf es vs cs) ≡ false → RefusedAs (Earned claim proof) r
+  pub refuses : stateOf s ≡ opened → LongEnough (lentOf es vs cs) → RefusedAs (Earned claim proof) r
 
 module _ (tag : ℕ) (claim proof : List ℕ) (bc : Bytes claim) (bp : Bytes proof) (l : Lent) where
   too-short : short l ≡ true → presenting opened tag claim proof l .answer ≡ refused 1 0
@@ -73,7 +73,7 @@ module _ {s : State} {tag : ℕ} {claim proof : List ℕ} {es : List Entry} {vs 
   holds : n .answer ≡ 0 → n .state ≡ record { phase = 2; tag = tag }
   holds z = step .state ∙ rw (accepts z, sound z .0 .holds) refl
 
-  module _ (was-open : stateOf s ≡ opened) (long : short (lentOf es vs cs) ≡ false) where
+  module _ (was-open : stateOf s ≡ opened) (long : LongEnough (lentOf es vs cs)) where
     same : answered ≡ presenting opened tag claim proof (lentOf es vs cs) .answer
     same = ap (λ (g : Gate). presenting g tag claim proof (lentOf es vs cs) .answer) was-open
 
