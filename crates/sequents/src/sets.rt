@@ -2,7 +2,7 @@
 ghost use mathlib.Core.Path.{_≡_};
 ghost use mathlib.Core.List.{List, _∷_};
 ghost use Prim.Native.Nat.{ℕ, _<_};
-ghost use lib.ListN.{take};
+ghost use lib.ListN.{length, take};
 ghost use Rattle.verdict.specs.Tests.{member, same as sameSet, remove, each};
 ghost use Rattle.formula.specs.Codes.{code as codeOf, entryOf};
 ghost use Rattle.formula.specs.PlainNodes.{codesAt, proofOf};
@@ -23,6 +23,16 @@ pub fn with(set: [u64; 8], code: u16) -> [u64; 8]
     let mut changed = set;
     changed[word] = changed[word] | (1u64 << (place % 64));
     changed
+}
+
+// A code more, in place.
+fn put(set: &mut [u64; 8], code: u16)
+    requires { ⌜ (code < 512) × (length (now set) ≡ 8) ⌝ }
+    ensures { λ _. ⌜ (length (now (set .exit)) ≡ 8) × ((l : List ℕ) → Holds (now (set .entry)) l → Holds (now (set .exit)) (code ∷ l)) ⌝ }
+{
+    let place = code as usize;
+    let word = place / 64;
+    set[word] = set[word] | (1u64 << (place % 64));
 }
 
 // The set without a code.
@@ -74,8 +84,7 @@ fn set_of(codes: &[u16], from: usize, to: usize) -> [u64; 8]
     let mut i = to;
     while from < i {
         i -= 1;
-        let more = with(set, codes[i]);
-        set = more;
+        put(&mut set, codes[i]);
     }
     set
 }

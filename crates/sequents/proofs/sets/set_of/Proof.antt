@@ -1,8 +1,9 @@
 -- `set_of` meets its contract. The invariant: the set holds the codes from i on.
 use mathlib.Core.Path.{_≡_}
-use Prim.Native.Nat.{_≤_, _-_}
+use Prim.Native.Nat.{ℕ, _≤_, _-_}
 use native.Mathlib.Omega.{arith}
 use native.Mathlib.Nat.{le-refl}
+use lib.ListN.{length, length-replicate}
 use borrow.Author.Needs.{needs}
 use Rattle.sequents.specs.CodeSet.{Holds, holds-none}
 use Rattle.sequents.specs.Part.{part, part-none, part-before, part-member}
@@ -10,39 +11,40 @@ use Rattle.sequents.proofs.sets.set_of.Statement.{statement}
 use Rattle.sequents.proofs.sets.set_of.Tie as tie
 
 abbrev Inv-loop : tie.InvT-loop
-Inv-loop codes from to set₀ i₀ set i = (from ≤ i) × (i ≤ to) × Holds set (part codes i to)
+Inv-loop codes from to set₀ i₀ set i = (from ≤ i) × (i ≤ to) × Holds set (part codes i to) × (length set ≡ 8)
 
 abbrev μ-loop : tie.MeasureT-loop
 μ-loop codes from to set₀ i₀ set i = i - from
 
 loop-holds : tie.Need-loop-holds Inv-loop μ-loop
-loop-holds c = (search needs, search needs, rw (part-none _ _ _ (le-refl _)) holds-none)
+loop-holds c = (search needs, search needs, rw (part-none _ _ _ (le-refl _)) holds-none, length-replicate {A = ℕ} 8 0)
 
 sub-i : tie.Need-sub-i Inv-loop μ-loop
 sub-i c = search needs
 
-mul-with : tie.Need-mul-with Inv-loop μ-loop
-mul-with c = search needs
+mul-put : tie.Need-mul-put Inv-loop μ-loop
+mul-put c = search needs
 
-shared-slice-read-with : tie.Need-shared-slice-read-with Inv-loop μ-loop
-shared-slice-read-with c = search needs
+shared-slice-read-put : tie.Need-shared-slice-read-put Inv-loop μ-loop
+shared-slice-read-put c = search needs
 
-with-requires : tie.Need-with-requires Inv-loop μ-loop
-with-requires c κs =
-    let a = c .before .before .before .before .args in
-    c .before .before .before .before .pre .small _ (part-member (a .codes .now) (a .from) (a .to) (c .before .before .loop .i - 1) (omega arith) (omega arith) (search needs))
+put-requires : tie.Need-put-requires Inv-loop μ-loop
+put-requires c κs =
+    let a = c .before .before .before .before .before .args in
+    (c .before .before .before .before .before .pre .small _ (part-member (a .codes .now) (a .from) (a .to) (c .before .before .before .loop .i - 1) (omega arith) (omega arith) (search needs)), c .before .before .before .loop .inv .3)
 
 loop-less : tie.Need-loop-less Inv-loop μ-loop
 loop-less c = search needs
 
 loop-again : tie.Need-loop-again Inv-loop μ-loop
 loop-again c =
-    let a = c .before .before .before .before .before .args in
-    let l = c .before .before .before .loop in (
+    let a = c .before .before .before .before .before .before .args in
+    let l = c .before .before .before .before .loop in (
       search needs,
       search needs,
       rw (part-before (a .codes .now) (l .i) (a .to) (omega arith) (omega arith) (search needs))
-          (c .with .ensures (part (a .codes .now) (l .i) (a .to)) (l .inv .2)),
+          (c .put .ensures .1 (part (a .codes .now) (l .i) (a .to)) (l .inv .2)),
+      c .put .ensures .0,
     )
 
 returns : tie.Need-returns Inv-loop μ-loop
@@ -58,9 +60,9 @@ set-of-spec =
     μ-loop
     loop-holds
     sub-i
-    mul-with
-    shared-slice-read-with
-    with-requires
+    mul-put
+    shared-slice-read-put
+    put-requires
     loop-less
     loop-again
     returns)
