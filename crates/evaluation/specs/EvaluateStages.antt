@@ -35,7 +35,7 @@ use Rattle.model.specs.ModelExact.{good-model}
 use Rattle.model.specs.Decoded.{GoodModel, statesOf, good-states, maskTable}
 use Rattle.states.specs.Words.{words}
 use Rattle.states.specs.PlainModel.{plainModel, wordsIn, plain-described}
-use Rattle.evaluator.specs.Claim.{Given}
+use Rattle.blocks.specs.Claim.{Given}
 use Rattle.demands.specs.Slices.{LentWords}
 use Rattle.demands.specs.Evaluate.{Evaluated, unevaluated, afterModel, afterTable, afterClaim, ifLong, evaluating}
 use Rattle.reader.specs.Files.{tableRead, tableIn}

@@ -4,7 +4,7 @@ ghost use mathlib.Core.Path.{_≡_};
 ghost use lib.ListN.{length};
 ghost use Rattle.formula.specs.Plain.{tableOf};
 ghost use Rattle.claims.specs.ReadClaim.{readClaim};
-ghost use Rattle.evaluator.specs.Claim.{Given};
+ghost use Rattle.blocks.specs.Claim.{Given};
 ghost use Rattle.demands.specs.Evaluate.{withModel, withTable, afterClaim};
 ghost use Rattle.reader.specs.Files.{tableIn};
 ghost use Rattle.evaluation.specs.EvaluateFiles.{EvaluatedFiles, Staged, refusal};

@@ -26,20 +26,20 @@ use Rattle.states.specs.StateWords.{Inside, setsOf, by-bits}
 use Rattle.states.specs.PlainModel.{plainModel, wordsIn, rowModel}
 use Rattle.states.specs.Fill.{Filled, zeros-at}
 use Rattle.meaning.specs.StateLaws.{same-trans}
-use Rattle.evaluator.specs.Settled.{formed}
-use Rattle.evaluator.specs.FormedLaws.{Reads, reads-either, formed-right}
-use Rattle.evaluator.specs.Top.{topClause, top, alone}
-use Rattle.evaluator.specs.TopLaws.{top-at, alone-none, not-alone}
-use Rattle.evaluator.specs.Tops.{Tops}
-use Rattle.evaluator.specs.Iteration.{Block}
-use Rattle.evaluator.specs.Counting.{Within, count, measure}
-use Rattle.evaluator.specs.Gathering.{Grown, Gathering, met-below, gather-first, gather-grown, gather-settled, grown-nearer, settled-nearer, gather-block}
-use Rattle.evaluator.specs.Sets.{inSet, in-below, none-in, Inserted, inserted-old, inserted-new, Removed, removed-less, removed-rest}
-use Rattle.evaluator.specs.Users.{Users, Joined}
-use Rattle.evaluator.specs.Claim.{tableFrom, Claim, Given, first-entries, claim-length, leaf-at}
-use Rattle.evaluator.specs.Ready.{Ready, ready-again, formedWord}
-use Rattle.evaluator.specs.Operands.{plain-kind, fixOf, fix-of, reads-kind, operand-name, a-operand, b-operand}
-use Rattle.evaluator.specs.Turn.{startWord, Begun, Iterating, iterating-first, iterating-last}
+use Rattle.blocks.specs.Settled.{formed}
+use Rattle.blocks.specs.FormedLaws.{Reads, reads-either, formed-right}
+use Rattle.blocks.specs.Top.{topClause, top, alone}
+use Rattle.blocks.specs.TopLaws.{top-at, alone-none, not-alone}
+use Rattle.blocks.specs.Tops.{Tops}
+use Rattle.blocks.specs.Iteration.{Block}
+use Rattle.blocks.specs.Counting.{Within, count, measure}
+use Rattle.blocks.specs.Gathering.{Grown, Gathering, met-below, gather-first, gather-grown, gather-settled, grown-nearer, settled-nearer, gather-block}
+use Rattle.blocks.specs.Sets.{inSet, in-below, none-in, Inserted, inserted-old, inserted-new, Removed, removed-less, removed-rest}
+use Rattle.blocks.specs.Users.{Users, Joined}
+use Rattle.blocks.specs.Claim.{tableFrom, Claim, Given, first-entries, claim-length, leaf-at}
+use Rattle.blocks.specs.Ready.{Ready, ready-again, formedWord}
+use Rattle.blocks.specs.Operands.{plain-kind, fixOf, fix-of, reads-kind, operand-name, a-operand, b-operand}
+use Rattle.blocks.specs.Turn.{startWord, Begun, Iterating, iterating-first, iterating-last}
 
 -- the tables made once
 pub record Prepared (ks xs ys ts us : List ℕ) : Type 0 where

@@ -25,8 +25,8 @@ use Rattle.calculus.specs.JudgeExact.{judge-is, claim-stage, loops-stage}
 use Rattle.verdict.specs.ScanLaws.{Passed, scan-passes, scan-fails, after, scan-then}
 use Rattle.tree.specs.Owners.{Parented, OwnersFilled, tree-judged}
 use Rattle.tree.specs.TreeStages.{tree-then, accepted-tree}
-use Rattle.rules.specs.Flags.{Noted, Companion, companion-fits, loops-judged}
-use Rattle.rules.specs.LoopStages.{linked-of, back-kept-is, no-leaf}
+use Rattle.loops.specs.Flags.{Noted, Companion, companion-fits, loops-judged}
+use Rattle.loops.specs.LoopStages.{linked-of, back-kept-is, no-leaf}
 use Rattle.kept.specs.Judged.{Judged, codes-is}
 
 -- 37 or 38 by rising node

@@ -4,10 +4,10 @@ use mathlib.Core.Logic.{inl, inr, ⊎-elim}
 use Prim.Native.Nat.{_+_, _*_}
 use native.Mathlib.Omega.{arith}
 use lib.ListN.{length, getD, length-replicate}
-use Rattle.evaluator.specs.Claim.{a-entry, a-below, b-below}
-use Rattle.evaluator.specs.Operands.{fixOf, few-kinds}
-use Rattle.evaluator.specs.Sets.{Lowest}
-use Rattle.evaluator.specs.Turn.{Iterating, ahead, iterating-next, iterating-nearer}
+use Rattle.blocks.specs.Claim.{a-entry, a-below, b-below}
+use Rattle.blocks.specs.Operands.{fixOf, few-kinds}
+use Rattle.blocks.specs.Sets.{Lowest}
+use Rattle.blocks.specs.Turn.{Iterating, ahead, iterating-next, iterating-nearer}
 use Rattle.evaluator.specs.Evaluated.{stays, later, known-more, formed-evaluated, reads-name, reads-one, reads-two, known-a, known-b, Meeting, unmet, meeting-first, met-small, meeting-grown, grown-closer, meeting-settled, settled-closer, met-block, block-there, iteration-first, block-evaluated, top-alone, top-not-alone, top-known, open-kind}
 use borrow.Author.Needs.{needs}
 use Prim.Native.Nat.{ℕ, _<_}
@@ -19,16 +19,16 @@ use Rattle.evaluator.proofs.+eval_entry+iterate.Lts-eval_entry as eval-
 use Rattle.evaluator.proofs.iterate.Reads as iterate
 use Rattle.evaluator.proofs.iterate.Kinds as iterate-kinds
 use Rattle.evaluator.proofs.+eval_entry+iterate.Lts-iterate as iterate-lts
-use Rattle.evaluator.proofs.begin.Reads as begin-reads
-use Rattle.evaluator.proofs.grow.Reads as grow-reads
-use Rattle.evaluator.proofs.sets.has.Reads as has-reads
-use Rattle.evaluator.proofs.sets.join.Reads as join-reads
-use Rattle.evaluator.proofs.sets.lowest.Reads as lowest-reads
-use Rattle.evaluator.proofs.sets.remove.Reads as remove-reads
-use Rattle.evaluator.proofs.settle_entry.Reads as settle-entry-reads
-use Rattle.evaluator.proofs.start_word.Reads as start-word-reads
-use Rattle.evaluator.proofs.turn.Reads as turn-reads
-use Rattle.evaluator.proofs.needs_rounds.Reads as needs-rounds-reads
+use Rattle.blocks.proofs.begin.Reads as begin-reads
+use Rattle.blocks.proofs.grow.Reads as grow-reads
+use Rattle.blocks.proofs.sets.has.Reads as has-reads
+use Rattle.blocks.proofs.sets.join.Reads as join-reads
+use Rattle.blocks.proofs.sets.lowest.Reads as lowest-reads
+use Rattle.blocks.proofs.sets.remove.Reads as remove-reads
+use Rattle.blocks.proofs.settle_entry.Reads as settle-entry-reads
+use Rattle.blocks.proofs.start_word.Reads as start-word-reads
+use Rattle.blocks.proofs.turn.Reads as turn-reads
+use Rattle.blocks.proofs.needs_rounds.Reads as needs-rounds-reads
 use Rattle.bits.proofs.wide.Reads as wide-reads
 use Rattle.evaluator.proofs.+eval_entry+iterate.{statement}
 use Rattle.evaluator.proofs.+eval_entry+iterate.Tie.{close}

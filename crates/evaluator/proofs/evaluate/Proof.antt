@@ -1,7 +1,7 @@
 -- the first entries are a claim, and their words stand in front of what was there before
 use mathlib.Core.Path.{sym, _∙_}
 use lib.Seq.{length-take-le}
-use Rattle.evaluator.specs.Claim.{first-claim}
+use Rattle.blocks.specs.Claim.{first-claim}
 use Rattle.evaluator.specs.Evaluated.{first-written}
 use borrow.Author.Needs.{needs}
 use Rattle.evaluator.proofs.evaluate.Statement.{statement}

@@ -3,7 +3,7 @@ use mathlib.Core.Path.{refl, _∙_}
 use native.Mathlib.Omega.{arith}
 use Prim.Native.Nat.{ℕ}
 use lib.ListN.{length-replicate}
-use Rattle.evaluator.specs.Claim.{tableFrom}
+use Rattle.blocks.specs.Claim.{tableFrom}
 use Rattle.states.specs.PlainModel.{rows-inside, rows-words}
 use Rattle.evaluator.specs.Evaluated.{standing-first, every-word}
 use borrow.Author.Needs.{needs}

@@ -13,7 +13,7 @@ use Rattle.formula.specs.PlainNodes.{proofOf}
 use Rattle.calculus.specs.View.{plain}
 use Rattle.calculus.specs.Judge.{root}
 use Rattle.kept.specs.Judged.{placed}
-use Rattle.rules.specs.LoopStages.{noted-of}
+use Rattle.loops.specs.LoopStages.{noted-of}
 use Rattle.rules.specs.JudgeStages.{other-root, claim-root}
 use Rattle.rules.proofs.judge.judge_tree.Statement.{statement}
 use Rattle.rules.proofs.judge.judge_tree.Tie as tie

@@ -1,0 +1,4 @@
+pub mod Flags
+pub mod FlagLaws
+pub mod WalkLaws
+pub mod LoopStages

@@ -1,0 +1,88 @@
+-- `stepped` meets its contract. The invariant: the set holds the targets of the codes from i on.
+use mathlib.Core.Path.{_≡_}
+use mathlib.Core.List.{List}
+use Prim.Native.Nat.{ℕ, _≤_, _-_}
+use native.Mathlib.Omega.{arith}
+use lib.ListN.{getD}
+use borrow.Author.Needs.{needs}
+use Rattle.verdict.specs.Sets.{elements}
+use Rattle.verdict.specs.Tests.{each}
+use Rattle.formula.specs.Plain.{tableOf}
+use Rattle.sequents.specs.Part.{part, part-member}
+use Rattle.sequents.specs.CodeSet.{Holds, holds-none, each-before, each-end}
+use Rattle.calculus.specs.Rules.{stepped as Stepped}
+use Rattle.modal.specs.BoxLaws.{Modal}
+use Rattle.modal.proofs.stepped.Statement.{statement}
+use Rattle.modal.proofs.stepped.Tie as tie
+
+abbrev Inv-loop : tie.InvT-loop
+Inv-loop kinds a codes from to set₀ i₀ set i =
+    (from ≤ i) × (i ≤ to)
+    × ((ys : List ℕ) (n : ℕ) → ((c : ℕ) → elements (part codes from to) c → Modal kinds a ys n c) → Holds set (each (Stepped (tableOf kinds a ys n)) (part codes i to)))
+
+abbrev μ-loop : tie.MeasureT-loop
+μ-loop kinds a codes from to set₀ i₀ set i = i - from
+
+-- the code at hand is one of the part
+here : (c : tie.After-shared-slice-known2 Inv-loop μ-loop) → let s = c .before .before .before .before in
+    elements (part (s .args .codes .now) (s .args .from) (s .args .to)) (getD (s .args .codes .now) (c .before .before .loop .i - 1) 0)
+here c =
+    let s = c .before .before .before .before in
+    part-member (s .args .codes .now) (s .args .from) (s .args .to) (c .before .before .loop .i - 1) (omega arith) (omega arith) (s .pre .0 .long)
+
+loop-holds : tie.Need-loop-holds Inv-loop μ-loop
+loop-holds c = (search needs, search needs, λ ys n M. each-end _ (c .before .args .codes .now) (c .before .args .to) holds-none)
+
+sub-i : tie.Need-sub-i Inv-loop μ-loop
+sub-i c = search needs
+
+mul-code : tie.Need-mul-code Inv-loop μ-loop
+mul-code c = search needs
+
+shared-slice-read-code : tie.Need-shared-slice-read-code Inv-loop μ-loop
+shared-slice-read-code c = search needs
+
+operand-code-requires : tie.Need-operand-code-requires Inv-loop μ-loop
+operand-code-requires c κs =
+    let p = c .before .before .before .before .pre in
+    (p .0 .small _ (here c), p .1 _ (here c), omega arith)
+
+with-requires : tie.Need-with-requires Inv-loop μ-loop
+with-requires c κs = c .operand-code .ensures .0
+
+loop-less : tie.Need-loop-less Inv-loop μ-loop
+loop-less c = search needs
+
+loop-again : tie.Need-loop-again Inv-loop μ-loop
+loop-again c =
+    let s = c .before .before .before .before .before .before in
+    let l = c .before .before .before .before .loop in (
+      search needs,
+      search needs,
+      λ ys n M.
+          let m = M _ (here (c .before .before)) in
+          each-before (Stepped (tableOf (s .args .kinds .now) (s .args .a .now) ys n)) (s .args .codes .now) (l .i) (s .args .to) _ (omega arith) (omega arith) (s .pre .0 .long)
+          (rw (m .is) (c .before .operand-code .ensures .1 ys n (m .inside)))
+          (c .with .ensures _ (l .inv .2 ys n M)),
+    )
+
+returns : tie.Need-returns Inv-loop μ-loop
+returns c ys n M =
+    let whole : c .before .loop .i ≡ c .before .before .before .args .from = omega arith in
+    rw whole at (c .before .loop .inv .2 ys n M)
+
+pub stepped-spec : {M : Type 1} → statement M
+stepped-spec =
+    tie.close
+    (tie.spec
+    Inv-loop
+    μ-loop
+    loop-holds
+    sub-i
+    mul-code
+    shared-slice-read-code
+    operand-code-requires
+    with-requires
+    loop-less
+    loop-again
+    returns)

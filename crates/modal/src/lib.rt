@@ -1,0 +1,98 @@
+// Rule 4, the box step.
+ghost use mathlib.Core.Path.{_≡_};
+ghost use mathlib.Core.List.{List};
+ghost use Prim.Native.Nat.{ℕ, _<_};
+ghost use lib.ListN.{getD};
+ghost use Rattle.verdict.specs.Sets.{elements};
+ghost use Rattle.verdict.specs.Tests.{all, each};
+ghost use Rattle.formula.specs.Plain.{tableOf};
+ghost use Rattle.formula.specs.Codes.{entryOf};
+ghost use Rattle.sequents.specs.CodeSet.{Holds};
+ghost use Rattle.sequents.specs.Placed.{local, Within, NodeReady};
+ghost use Rattle.sequents.specs.Part.{part, Span};
+ghost use Rattle.modal.specs.BoxLaws.{boxed as Boxed, Modal};
+ghost use Rattle.calculus.specs.Rules.{stepped as Stepped};
+ghost use Rattle.calculus.specs.Judge.{box-kept as BoxKept};
+use bits::wide;
+use formula::Kind;
+use sequents::principal::child_is;
+use sequents::principal::of_kind;
+use sequents::principal::operand_code;
+use sequents::sets::entry_of;
+use sequents::sets::with;
+
+// Whether a member of a box step is the principal or a diamond.
+fn boxed(kinds: &[u8; 256], principal: u16, code: u16) -> bool
+    requires { ⌜ code < 512 ⌝ }
+    ensures { λ r. ⌜ r ≡ Boxed (now (kinds .entry)) principal code ⌝ }
+{
+    if code == principal {
+        return true;
+    }
+    kinds[entry_of(code)] == Kind::DIAMOND
+}
+
+// Whether all members are.
+fn all_boxed(kinds: &[u8; 256], principal: u16, codes: &[u16], from: usize, to: usize) -> bool
+    requires { ⌜ Span (now codes) from to ⌝ }
+    ensures { λ r. ⌜ r ≡ all (Boxed (now (kinds .entry)) principal) (part (now (codes .entry)) from to) ⌝ }
+{
+    let mut i = from;
+    while i < to {
+        if !boxed(kinds, principal, codes[i]) {
+            return false;
+        }
+        i += 1;
+    }
+    true
+}
+
+// The targets of modal members, each with its focus.
+fn stepped(kinds: &[u8; 256], a: &[u16; 256], codes: &[u16], from: usize, to: usize) -> [u64; 8]
+    requires { ⌜ Span (now codes) from to × ((c : ℕ) → elements (part (now codes) from to) c → Within (now kinds) (now a)
+        (getD (now a) (entryOf c) 0)) ⌝ }
+    ensures { λ r. ⌜ ((ys : List ℕ) (n : ℕ) → ((c : ℕ) → elements (part (now (codes .entry)) from to) c → Modal (now (kinds .entry)) (now (a .entry))
+        ys n c) → Holds r (each (Stepped (tableOf (now (kinds .entry)) (now (a .entry)) ys n)) (part (now (codes .entry)) from to))) ⌝ }
+{
+    let mut set = [0u64; 8];
+    let mut i = to;
+    while from < i {
+        i -= 1;
+        let code = codes[i];
+        let more = with(set, operand_code(kinds, a, a, code, code % 2));
+        set = more;
+    }
+    set
+}
+
+// 4 box: the principal is a box, all others are diamonds; the child has the targets of all.
+pub fn box_kept(
+    kinds: &[u8; 256],
+    a: &[u16; 256],
+    b: &[u16; 256],
+    count: usize,
+    links: &[u16; 4096],
+    starts: &[u16; 1025],
+    codes: &[u16],
+    v: usize,
+) -> bool
+    requires { ⌜ NodeReady (now kinds) (now a) (now b) count (now links) (now starts) (now codes) v ⌝ }
+    ensures { λ r. ⌜ r ≡ BoxKept (tableOf (now (kinds .entry)) (now (a .entry)) (now (b .entry)) count)
+        (local (now (links .entry)) (now (starts .entry)) (now (codes .entry))) v ⌝ }
+{
+    if !of_kind(kinds, links, starts, codes, v, Kind::BOX) {
+        return false;
+    }
+    let from = wide(starts[v]);
+    let to = wide(starts[v + 1]);
+    if !all_boxed(kinds, links[4 * v], codes, from, to) {
+        return false;
+    }
+    child_is(
+        links,
+        starts,
+        codes,
+        4 * v + 1,
+        stepped(kinds, a, codes, from, to),
+    )
+}
