@@ -7,6 +7,7 @@ use native.Mathlib.Omega.{arith}
 use Rattle.verdict.specs.Tells.{Tells, and-tells, leb-tells, eqb-tells}
 use Rattle.formula.specs.Kind
 use Rattle.formula.specs.Table.{Table}
+use Rattle.formula.specs.Claim.{Claim}
 use Rattle.bits.specs.IfSet.{if-set-le}
 use Rattle.formula.specs.Fields.{hasA, hasB, mapOf}
 use Rattle.encoding.specs.Encode.{FitField, Bytes, encodeField}
@@ -18,7 +19,7 @@ use Rattle.encoding.specs.FileLaws as File
 use Rattle.formula.specs.Members.{formula-tells}
 use Rattle.encoding.specs.FieldLaws.{field-exact}
 use Rattle.claims.specs.ClaimFile.{claimOpening, encodeKind, encodeEntry, encodeEntries, encodeMembers, encodeBody, encodeClaim, FitKind, FitEntry, FitEntries, FitMembers, FitClaim, ClaimFile}
-use Rattle.claims.specs.ReadClaim.{early, kind-fits, kindByte, fields, made, entry, entries, members, body, readClaim}
+use Rattle.claims.specs.ReadClaim.{early, kind-fits, kindByte, fields, made, entry, entries, members, claimOf, body, readClaim}
 
 pub map-byte : (k : ℕ) → mapOf k < 256
 map-byte k = omega (arith, if-set-le (hasA k) 1, if-set-le (hasB k) 2)
@@ -58,32 +59,31 @@ members-exact es f =
 pub body-exact : Exact body encodeBody FitClaim
 unfolding body
 body-exact =
-    exact-as (λ c h. record { entries = h .0; members = h .1 }) (λ c f. (f .entries, f .members))
-    (seq-exact entries-exact members-exact)
+    via-exact (seq-exact entries-exact members-exact) claimOf (λ c. (c .entries, c .members))
+    (λ c f. ((f .entries, f .members), refl, refl))
+    (λ p h. (record { entries = h .0; members = h .1 }, refl))
 
 -- a claim file is read, and decoded
-pub claim-good : {bytes : List ℕ} {es : Table} {ms : List ℕ} → ClaimFile bytes es ms → readClaim bytes ≡ good (es, ms)
+pub claim-good : {bytes : List ℕ} {c : Claim} → ClaimFile bytes c → readClaim bytes ≡ good c
 unfolding readClaim
 claim-good f = File.file-good claimOpening 10 early body body-exact f
 
 -- what is read is a claim file, of what was decoded
-pub good-claim : {bytes : List ℕ} {es : Table} {ms : List ℕ} → Bytes bytes → readClaim bytes ≡ good (es, ms) → ClaimFile bytes es ms
+pub good-claim : {bytes : List ℕ} {c : Claim} → Bytes bytes → readClaim bytes ≡ good c → ClaimFile bytes c
 unfolding readClaim
 good-claim b h = File.good-file claimOpening 10 early body body-exact b h
 
-pub claim-exact : {bytes : List ℕ} {es : Table} {ms : List ℕ} → Bytes bytes → ClaimFile bytes es ms ↔ (readClaim bytes ≡ good (es, ms))
+pub claim-exact : {bytes : List ℕ} {c : Claim} → Bytes bytes → ClaimFile bytes c ↔ (readClaim bytes ≡ good c)
 claim-exact b = (claim-good, good-claim b)
 
 -- one file, one decoding
-pub one-claim : {bytes : List ℕ} {es fs : Table} {ms ns : List ℕ} → ClaimFile bytes es ms → ClaimFile bytes fs ns → (es ≡ fs) × (ms ≡ ns)
-one-claim f g =
-    let h = File.one-decoding claimOpening 10 early body body-exact f g in
-    (ap (λ (c : Table × List ℕ). c .0) h, ap (λ (c : Table × List ℕ). c .1) h)
+pub one-claim : {bytes : List ℕ} {c d : Claim} → ClaimFile bytes c → ClaimFile bytes d → c ≡ d
+one-claim f g = File.one-decoding claimOpening 10 early body body-exact f g
 
 -- decoding what was encoded gives the records back
-pub claim-decodes : (es : Table) (ms : List ℕ) → FitClaim (es, ms) → readClaim (encodeClaim es ms) ≡ good (es, ms)
-claim-decodes es ms f = claim-good (record { encoded = refl; fits = f })
+pub claim-decodes : (c : Claim) → FitClaim c → readClaim (encodeClaim c) ≡ good c
+claim-decodes c f = claim-good (record { encoded = refl; fits = f })
 
 -- encoding what was decoded gives the bytes back
-pub claim-encodes : {bytes : List ℕ} {es : Table} {ms : List ℕ} → Bytes bytes → readClaim bytes ≡ good (es, ms) → encodeClaim es ms ≡ bytes
+pub claim-encodes : {bytes : List ℕ} {c : Claim} → Bytes bytes → readClaim bytes ≡ good c → encodeClaim c ≡ bytes
 claim-encodes b h = sym (good-claim b h .encoded)

@@ -8,6 +8,7 @@ use native.Mathlib.Omega.{arith}
 use Rattle.verdict.specs.Tells.{fails}
 use Rattle.formula.specs.Kind
 use Rattle.formula.specs.Table.{Table}
+use Rattle.formula.specs.Claim.{Claim}
 use Rattle.formula.specs.Codes.{Formula}
 use Rattle.bits.specs.IfSet.{ifSet}
 use Rattle.formula.specs.Fields.{hasA, hasB}
@@ -25,7 +26,7 @@ use Rattle.encoding.specs.Opening.{opens, opens-tells}
 use Rattle.formula.specs.Members.{formula-tells}
 use Rattle.encoding.specs.FieldLaws.{field-takes}
 use Rattle.claims.specs.ClaimFile.{claimOpening, encodeKind, encodeEntry, encodeEntries, FitKind, FitEntry, FitEntries, ClaimFile}
-use Rattle.claims.specs.ReadClaim.{early, made, entry, entries, members, body, readClaim}
+use Rattle.claims.specs.ReadClaim.{early, made, entry, entries, members, claimOf, body, readClaim}
 use Rattle.claims.specs.ClaimExact.{kind-tells, kind-exact, entry-exact, entries-exact, body-exact}
 use Rattle.claims.specs.ClaimDocument.{at-entry-count, at-entry, at-fields, at-member-count, at-member, claimStages, ClaimEarns}
 
@@ -62,7 +63,7 @@ members-refuse es = rising-refuses (count-exact 24 12 (two-exact early)) (count-
 
 parts-refuse : Refuses early body Parts
 unfolding body
-parts-refuse = seq-refuses entries-refuse entries-exact (λ es _. members-refuse es)
+parts-refuse = via-refuses (seq-refuses entries-refuse entries-exact (λ es _. members-refuse es)) claimOf
 
 -- each part is a stage in document 01's words
 parts-stages : Stands Parts claimStages
@@ -135,10 +136,10 @@ claim-refusal b = (claim-earned b, claim-refused)
 pub one-claim-refusal : {bytes : List ℕ} {n q m r : ℕ} → ClaimEarns bytes n q → ClaimEarns bytes m r → (n ≡ m) × (q ≡ r)
 one-claim-refusal f g = File.one-refusal claimOpening 10 early body body-exact body-refuses f g
 
-pub claim-or-refusal : (bytes : List ℕ) → Bytes bytes → ((c : Table × List ℕ) × ClaimFile bytes (c .0) (c .1)) ⊎ ((n : ℕ) × (q : ℕ) × ClaimEarns bytes n q)
+pub claim-or-refusal : (bytes : List ℕ) → Bytes bytes → ((c : Claim) × ClaimFile bytes c) ⊎ ((n : ℕ) × (q : ℕ) × ClaimEarns bytes n q)
 claim-or-refusal bytes b = File.outcome claimOpening 10 early body body-exact body-refuses bytes b
 
-pub claim-not-both : {bytes : List ℕ} {es : Table} {ms : List ℕ} {n q : ℕ} → ClaimFile bytes es ms → ClaimEarns bytes n q → ⊥
+pub claim-not-both : {bytes : List ℕ} {c : Claim} {n q : ℕ} → ClaimFile bytes c → ClaimEarns bytes n q → ⊥
 claim-not-both f g = File.not-both claimOpening 10 early body body-exact body-refuses f g
 
 -- the program's test of the opening decides refusal 10

@@ -6,6 +6,7 @@ use lib.ListN.{length}
 use Rattle.verdict.specs.Lists.{Each, Rising}
 use Rattle.formula.specs.Kind
 use Rattle.formula.specs.Table.{Entry, Table}
+use Rattle.formula.specs.Claim.{Claim}
 use Rattle.formula.specs.Codes.{Formula}
 use Rattle.formula.specs.Fields.{hasA, hasB, mapOf}
 use Rattle.encoding.specs.Encode.{FitField, encodeTwo, encodeField, encodeCounted, Counts}
@@ -31,11 +32,11 @@ encodeEntries es = encodeCounted encodeTwo encodeEntry es
 abbrev pub encodeMembers : List ℕ → List ℕ
 encodeMembers ms = encodeCounted encodeTwo encodeTwo ms
 
-abbrev pub encodeBody : Table × List ℕ → List ℕ
-encodeBody c = encodeEntries (c .0) ++ encodeMembers (c .1)
+abbrev pub encodeBody : Claim → List ℕ
+encodeBody c = encodeEntries (c .entries) ++ encodeMembers (c .members)
 
-abbrev pub encodeClaim : Table → List ℕ → List ℕ
-encodeClaim es ms = claimOpening ++ encodeBody (es, ms)
+abbrev pub encodeClaim : Claim → List ℕ
+encodeClaim c = claimOpening ++ encodeBody c
 
 -- a map, and a kind that it fits
 abbrev pub FitKind : ℕ × ℕ → Type 0
@@ -60,10 +61,10 @@ pub record FitMembers (es : Table) (ms : List ℕ) : Type 0 where
   -- entry numbers in range, no names
   pub each : Each (Formula es) ms
 
-pub record FitClaim (c : Table × List ℕ) : Type 0 where
-  pub entries : FitEntries (c .0)
-  pub members : FitMembers (c .0) (c .1)
+pub record FitClaim (c : Claim) : Type 0 where
+  pub entries : FitEntries (c .entries)
+  pub members : FitMembers (c .entries) (c .members)
 
 -- the bytes are a claim file with these entries and members
-abbrev pub ClaimFile : List ℕ → Table → List ℕ → Type 0
-ClaimFile bytes es ms = Encodes claimOpening encodeBody FitClaim bytes (es, ms)
+abbrev pub ClaimFile : List ℕ → Claim → Type 0
+ClaimFile bytes c = Encodes claimOpening encodeBody FitClaim bytes c

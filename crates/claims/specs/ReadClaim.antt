@@ -5,6 +5,7 @@ use Prim.Native.Nat.{ℕ}
 use lib.Dec.{eqb, leb}
 use Rattle.formula.specs.Kind
 use Rattle.formula.specs.Table.{Entry, Table}
+use Rattle.formula.specs.Claim.{Claim}
 use Rattle.formula.specs.Fields.{hasA, hasB, mapOf}
 use Rattle.encoding.specs.Parse.{Parser, seq, guard, via, bytes, two, field, count, times, listed, rising}
 use Rattle.encoding.specs.File.{Reading, readFile}
@@ -39,10 +40,13 @@ unfoldable pub members : Table → Parser (List ℕ)
 unfolding times isFormula
 members es s at = rising (count 24 12 (two early)) (isFormula es) 14 (two early) s at
 
-unfoldable pub body : Parser (Table × List ℕ)
-unfolding entries members
-body s at = seq entries members s at
+abbrev pub claimOf : Table × List ℕ → Claim
+claimOf p = record { entries = p .0; members = p .1 }
 
-unfoldable pub readClaim : List ℕ → Reading (Table × List ℕ)
+unfoldable pub body : Parser Claim
+unfolding entries members
+body s at = via claimOf (seq entries members) s at
+
+unfoldable pub readClaim : List ℕ → Reading Claim
 unfolding readFile body
 readClaim s = readFile claimOpening 10 early body s

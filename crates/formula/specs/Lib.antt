@@ -4,6 +4,7 @@ pub mod Rule
 pub mod Table
 pub mod Codes
 pub mod Nodes
+pub mod Claim
 pub mod Fields
 pub mod FieldLaws
 pub mod Records
