@@ -8,12 +8,13 @@ use Rattle.formula.specs.Rule
 use Rattle.formula.specs.Table.{Table}
 use Rattle.formula.specs.Codes.{Formula, entryOf}
 use Rattle.formula.specs.Nodes.{Proof}
+use Rattle.formula.specs.Claim.{Claim}
 use Rattle.bits.specs.IfSet.{ifSet}
 use Rattle.formula.specs.Fields.{hasPrincipal, hasFirst, hasSecond, hasBack}
 use Rattle.encoding.specs.Encode.{OneByte, TwoBytes, PairOfBytes, encodeByte, encodePair, encodeTwo, encodeAll, Counts}
 use Rattle.encoding.specs.Stages.{Stages, Unfit}
 use Rattle.encoding.specs.File.{Earned}
-use Rattle.proofs.specs.ProofFile.{proofOpening, encodeRule, Links, encodeLinks, encodeNode, encodeNodes, FitRule, Code, FitLinks, FitNode, FitProof}
+use Rattle.proofs.specs.ProofFile.{proofOpening, encodeRule, Links, encodeLinks, encodeNode, encodeBody, FitRule, Code, FitLinks, FitNode, FitProof}
 
 -- what comes next, after what has been read
 pub data ProofStage : Type 0 where
@@ -80,5 +81,5 @@ abbrev pub proofStages : Table → Stages
 proofStages t = record { Stage = ProofStage; done = done; Reached = Reached t; width = width; Wrong = Wrong t }
 
 -- the proof file earns this refusal at this place
-abbrev pub ProofEarns : Table → List ℕ → ℕ → ℕ → Type 0
-ProofEarns t bytes n q = Earned proofOpening 30 31 encodeNodes (FitProof t) (proofStages t) bytes n q
+abbrev pub ProofEarns : Claim → List ℕ → ℕ → ℕ → Type 0
+ProofEarns c bytes n q = Earned proofOpening 30 31 encodeBody (FitProof c) (proofStages (c .entries)) bytes n q

@@ -13,7 +13,7 @@ use Rattle.verdict.specs.Tells.{Tells, and-tells, or-tells, leb-tells, eqb-tell
 use Rattle.formula.specs.Rule
 use Rattle.formula.specs.Table.{Table}
 use Rattle.formula.specs.Codes.{entryOf}
-use Rattle.formula.specs.Nodes.{Proof}
+use Rattle.formula.specs.Claim.{Claim, Derivation}
 use Rattle.bits.specs.IfSet.{ifSet, if-set-le}
 use Rattle.formula.specs.Fields.{hasPrincipal, hasFirst, hasSecond, hasBack, lowMap}
 use Rattle.encoding.specs.Encode.{Bytes, encodePart, Counts}
@@ -24,8 +24,8 @@ use Rattle.encoding.specs.ListLaws.{count-exact, listed-exact, rising-exact}
 use Rattle.encoding.specs.FileLaws as File
 use Rattle.formula.specs.Members.{formula-tells}
 use Rattle.encoding.specs.FieldLaws.{field-exact}
-use Rattle.proofs.specs.ProofFile.{proofOpening, encodeRule, encodeLinks, links, encodeCodes, full, encodeNode, encodeNodes, encodeProof, FitRule, Code, FitLinks, FitNode, FitProof, ProofFile}
-use Rattle.proofs.specs.ReadProof.{early, rule-fits, ruleOf, ruleByte, fields, sequent, made, node, nodes, readProof}
+use Rattle.proofs.specs.ProofFile.{proofOpening, encodeRule, encodeLinks, links, encodeCodes, full, encodeNode, encodeNodes, encodeBody, encodeProof, FitRule, Code, FitLinks, FitNode, FitNodes, FitProof, ProofFile}
+use Rattle.proofs.specs.ReadProof.{early, rule-fits, ruleOf, ruleByte, fields, sequent, made, node, nodes, derivationOf, body, readProof}
 
 pub low-bits : (r : ℕ) → lowMap r ≤ 15
 low-bits r = omega (arith, if-set-le (hasPrincipal r) 1, if-set-le (hasFirst r) 2, if-set-le (hasSecond r) 4, if-set-le (hasBack r) 8)
@@ -109,34 +109,38 @@ node-exact t =
       ap (λ (b : Bool). encodeRule (w .0 .0, b) ++ (encodeLinks (w .0 .0) (w .1 .0) ++ encodePart b encodeCodes cs)) (full-sequent t (w .0 .1) cs (h .1 .1)),
     ))
 
-pub nodes-exact : (t : Table) → Exact (nodes t) encodeNodes (FitProof t)
+pub nodes-exact : (t : Table) → Exact (nodes t) encodeNodes (FitNodes t)
 unfolding nodes
 nodes-exact t =
     exact-as (λ p h. record { count = h .0 .1; each = h .1 }) (λ p f. ((omega (arith, f .count), f .count), f .each))
     (listed-exact (count-exact 1024 32 (two-exact early)) (node-exact t))
 
-module _ {t : Table} where
+pub body-exact : (c : Claim) → Exact (body (c .entries)) encodeBody (FitProof c)
+unfolding body
+body-exact c = via-exact (nodes-exact (c .entries)) derivationOf (λ d. d .nodes) (λ d f. (f .nodes, refl, refl)) (λ p f. (record { nodes = f }, refl))
+
+module _ {c : Claim} where
   -- a proof file is read, and decoded
-  pub proof-good : {bytes : List ℕ} {p : Proof} → ProofFile t bytes p → readProof t bytes ≡ good p
+  pub proof-good : {bytes : List ℕ} {d : Derivation} → ProofFile c bytes d → readProof c bytes ≡ good d
   unfolding readProof
-  proof-good f = File.file-good proofOpening 30 early (nodes t) (nodes-exact t) f
+  proof-good f = File.file-good proofOpening 30 early (body (c .entries)) (body-exact c) f
 
   -- what is read is a proof file, of what was decoded
-  pub good-proof : {bytes : List ℕ} {p : Proof} → Bytes bytes → readProof t bytes ≡ good p → ProofFile t bytes p
+  pub good-proof : {bytes : List ℕ} {d : Derivation} → Bytes bytes → readProof c bytes ≡ good d → ProofFile c bytes d
   unfolding readProof
-  good-proof b h = File.good-file proofOpening 30 early (nodes t) (nodes-exact t) b h
+  good-proof b h = File.good-file proofOpening 30 early (body (c .entries)) (body-exact c) b h
 
-  pub proof-exact : {bytes : List ℕ} {p : Proof} → Bytes bytes → ProofFile t bytes p ↔ (readProof t bytes ≡ good p)
+  pub proof-exact : {bytes : List ℕ} {d : Derivation} → Bytes bytes → ProofFile c bytes d ↔ (readProof c bytes ≡ good d)
   proof-exact b = (proof-good, good-proof b)
 
   -- one file, one decoding
-  pub one-proof : {bytes : List ℕ} {p q : Proof} → ProofFile t bytes p → ProofFile t bytes q → p ≡ q
-  one-proof f g = File.one-decoding proofOpening 30 early (nodes t) (nodes-exact t) f g
+  pub one-proof : {bytes : List ℕ} {d e : Derivation} → ProofFile c bytes d → ProofFile c bytes e → d ≡ e
+  one-proof f g = File.one-decoding proofOpening 30 early (body (c .entries)) (body-exact c) f g
 
   -- decoding what was encoded gives the records back
-  pub proof-decodes : {p : Proof} → FitProof t p → readProof t (encodeProof p) ≡ good p
+  pub proof-decodes : {d : Derivation} → FitProof c d → readProof c (encodeProof d) ≡ good d
   proof-decodes f = proof-good (record { encoded = refl; fits = f })
 
 -- encoding what was decoded gives the bytes back
-pub proof-encodes : (t : Table) {bytes : List ℕ} {p : Proof} → Bytes bytes → readProof t bytes ≡ good p → encodeProof p ≡ bytes
-proof-encodes t b h = sym (good-proof {t = t} b h .encoded)
+pub proof-encodes : (c : Claim) {bytes : List ℕ} {d : Derivation} → Bytes bytes → readProof c bytes ≡ good d → encodeProof d ≡ bytes
+proof-encodes c b h = sym (good-proof {c = c} b h .encoded)

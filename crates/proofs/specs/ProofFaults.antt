@@ -10,6 +10,7 @@ use Rattle.formula.specs.Rule
 use Rattle.formula.specs.Table.{Table}
 use Rattle.formula.specs.Codes.{Formula, entryOf}
 use Rattle.formula.specs.Nodes.{Proof}
+use Rattle.formula.specs.Claim.{Claim, Derivation}
 use Rattle.bits.specs.IfSet.{ifSet}
 use Rattle.formula.specs.Fields.{hasPrincipal, hasFirst, hasSecond, hasBack}
 use Rattle.encoding.specs.Encode.{Bytes, OneByte, TwoBytes, PairOfBytes, encodeByte, encodePair, encodeTwo, encodeAll, Counts}
@@ -25,8 +26,8 @@ use Rattle.encoding.specs.Opening.{opens, opens-tells}
 use Rattle.formula.specs.Members.{formula-tells}
 use Rattle.encoding.specs.FieldLaws.{field-takes}
 use Rattle.proofs.specs.ProofFile.{proofOpening, encodeRule, encodeLinks, encodeNode, FitRule, FitLinks, FitNode, ProofFile}
-use Rattle.proofs.specs.ReadProof.{early, ruleOf, fields, sequent, made, node, nodes, readProof}
-use Rattle.proofs.specs.ProofExact.{rule-tells, rule-exact, fields-exact, node-exact, nodes-exact}
+use Rattle.proofs.specs.ReadProof.{early, ruleOf, fields, sequent, made, node, nodes, derivationOf, body, readProof}
+use Rattle.proofs.specs.ProofExact.{rule-tells, rule-exact, fields-exact, node-exact, body-exact}
 use Rattle.proofs.specs.ProofDocument.{at-node-count, at-node, at-fields, at-code-count, at-code, SomeNodes, proofStages, ProofEarns}
 
 -- the stages as the parsers are joined
@@ -135,33 +136,34 @@ module _ (t : Table) where
     wrongs = λ w n u. u;
   }
 
-pub nodes-refuse : (t : Table) → Refuses early (nodes t) (proofStages t)
-nodes-refuse t = refuses-as (renames-each (parts-stages t)) (renames-each (stages-parts t)) (parts-refuse t)
+pub body-refuses : (t : Table) → Refuses early (body t) (proofStages t)
+unfolding body
+body-refuses t = via-refuses (refuses-as (renames-each (parts-stages t)) (renames-each (stages-parts t)) (parts-refuse t)) derivationOf
 
-module _ (t : Table) where
+module _ (c : Claim) where
   -- no number lies
-  pub proof-earned : {bytes : List ℕ} {n q : ℕ} → Bytes bytes → readProof t bytes ≡ refused n q → ProofEarns t bytes n q
+  pub proof-earned : {bytes : List ℕ} {n q : ℕ} → Bytes bytes → readProof c bytes ≡ refused n q → ProofEarns c bytes n q
   unfolding readProof
-  proof-earned b h = File.refused-earned proofOpening 30 early (nodes t) (nodes-exact t) (nodes-refuse t) b h
+  proof-earned b h = File.refused-earned proofOpening 30 early (body (c .entries)) (body-exact c) (body-refuses (c .entries)) b h
 
   -- and each is given where it is earned
-  pub proof-refused : {bytes : List ℕ} {n q : ℕ} → ProofEarns t bytes n q → readProof t bytes ≡ refused n q
+  pub proof-refused : {bytes : List ℕ} {n q : ℕ} → ProofEarns c bytes n q → readProof c bytes ≡ refused n q
   unfolding readProof
-  proof-refused e = File.earned-refused proofOpening 30 early (nodes t) (nodes-exact t) (nodes-refuse t) e
+  proof-refused e = File.earned-refused proofOpening 30 early (body (c .entries)) (body-exact c) (body-refuses (c .entries)) e
 
   -- exactly what document 01 says is refused, with its number and place
-  pub proof-refusal : {bytes : List ℕ} {n q : ℕ} → Bytes bytes → (readProof t bytes ≡ refused n q) ↔ ProofEarns t bytes n q
+  pub proof-refusal : {bytes : List ℕ} {n q : ℕ} → Bytes bytes → (readProof c bytes ≡ refused n q) ↔ ProofEarns c bytes n q
   proof-refusal b = (proof-earned b, proof-refused)
 
-  pub one-proof-refusal : {bytes : List ℕ} {n q m r : ℕ} → ProofEarns t bytes n q → ProofEarns t bytes m r → (n ≡ m) × (q ≡ r)
-  one-proof-refusal f g = File.one-refusal proofOpening 30 early (nodes t) (nodes-exact t) (nodes-refuse t) f g
+  pub one-proof-refusal : {bytes : List ℕ} {n q m r : ℕ} → ProofEarns c bytes n q → ProofEarns c bytes m r → (n ≡ m) × (q ≡ r)
+  one-proof-refusal f g = File.one-refusal proofOpening 30 early (body (c .entries)) (body-exact c) (body-refuses (c .entries)) f g
 
-  pub proof-or-refusal : (bytes : List ℕ) → Bytes bytes → ((p : Proof) × ProofFile t bytes p) ⊎ ((n : ℕ) × (q : ℕ) × ProofEarns t bytes n q)
-  proof-or-refusal bytes b = File.outcome proofOpening 30 early (nodes t) (nodes-exact t) (nodes-refuse t) bytes b
+  pub proof-or-refusal : (bytes : List ℕ) → Bytes bytes → ((d : Derivation) × ProofFile c bytes d) ⊎ ((n : ℕ) × (q : ℕ) × ProofEarns c bytes n q)
+  proof-or-refusal bytes b = File.outcome proofOpening 30 early (body (c .entries)) (body-exact c) (body-refuses (c .entries)) bytes b
 
-  pub proof-not-both : {bytes : List ℕ} {p : Proof} {n q : ℕ} → ProofFile t bytes p → ProofEarns t bytes n q → ⊥
-  proof-not-both f g = File.not-both proofOpening 30 early (nodes t) (nodes-exact t) (nodes-refuse t) f g
+  pub proof-not-both : {bytes : List ℕ} {d : Derivation} {n q : ℕ} → ProofFile c bytes d → ProofEarns c bytes n q → ⊥
+  proof-not-both f g = File.not-both proofOpening 30 early (body (c .entries)) (body-exact c) (body-refuses (c .entries)) f g
 
   -- the program's test of the opening decides refusal 30
-  pub proof-closed : (bytes : List ℕ) → opens proofOpening bytes ≡ false → readProof t bytes ≡ refused 30 0
+  pub proof-closed : (bytes : List ℕ) → opens proofOpening bytes ≡ false → readProof c bytes ≡ refused 30 0
   proof-closed bytes h = proof-refused (no-opening (λ r e. fails (opens-tells proofOpening bytes) h (r, e)))

@@ -10,6 +10,7 @@ use Rattle.formula.specs.Rule
 use Rattle.formula.specs.Table.{Table}
 use Rattle.formula.specs.Codes.{Formula, entryOf}
 use Rattle.formula.specs.Nodes.{Node, Proof}
+use Rattle.formula.specs.Claim.{Claim, Derivation}
 use Rattle.bits.specs.IfSet.{ifSet}
 use Rattle.formula.specs.Fields.{hasPrincipal, hasFirst, hasSecond, hasBack, lowMap}
 use Rattle.encoding.specs.Encode.{FitField, TwoBytes, encodeByte, encodeTwo, encodePart, encodeField, encodeCounted, Counts}
@@ -51,8 +52,11 @@ encodeNode v = encodeRule (v .rule, full (v .codes)) ++ (encodeLinks (v .rule) (
 abbrev pub encodeNodes : Proof → List ℕ
 encodeNodes p = encodeCounted encodeTwo encodeNode p
 
-abbrev pub encodeProof : Proof → List ℕ
-encodeProof p = proofOpening ++ encodeNodes p
+abbrev pub encodeBody : Derivation → List ℕ
+encodeBody d = encodeNodes (d .nodes)
+
+abbrev pub encodeProof : Derivation → List ℕ
+encodeProof d = proofOpening ++ encodeBody d
 
 -- a map, and a rule that it fits; bits 5 to 7 are zero
 abbrev pub FitRule : ℕ × ℕ → Type 0
@@ -78,11 +82,14 @@ pub record FitNode (t : Table) (v : Node) : Type 0 where
   -- members are never name entries
   pub members : Each (Code t) (v .codes)
 
-pub record FitProof (t : Table) (p : Proof) : Type 0 where
+pub record FitNodes (t : Table) (p : Proof) : Type 0 where
   -- node count (1 to 1,024)
   pub count : Counts 1024 (length p)
   pub each : Each (FitNode t) p
 
--- the bytes are a proof file with these nodes, over this table
-abbrev pub ProofFile : Table → List ℕ → Proof → Type 0
-ProofFile t bytes p = Encodes proofOpening encodeNodes (FitProof t) bytes p
+pub record FitProof (c : Claim) (d : Derivation) : Type 0 where
+  pub nodes : FitNodes (c .entries) (d .nodes)
+
+-- the bytes are a proof file with these nodes, over this claim's table
+abbrev pub ProofFile : Claim → List ℕ → Derivation → Type 0
+ProofFile c bytes d = Encodes proofOpening encodeBody (FitProof c) bytes d

@@ -9,13 +9,14 @@ use Rattle.verdict.specs.Tells.{fails, fails-holds}
 use Rattle.formula.specs.Table.{Table, kind}
 use Rattle.formula.specs.Codes.{Formula, entryOf}
 use Rattle.formula.specs.Nodes.{Node}
+use Rattle.formula.specs.Claim.{Claim}
 use Rattle.formula.specs.Plain.{tableOf-length, tableOf-kind}
 use Rattle.encoding.specs.Parse.{Parser, seq, via, part, byte, two, count, listed, rising}
 use Rattle.encoding.specs.File.{readFile}
 use Rattle.formula.specs.Members.{isFormula, formula-tells}
 use Rattle.proofs.specs.ProofFile.{proofOpening}
-use Rattle.proofs.specs.ReadProof.{early, ruleByte, fields, isCode, sequent, made, node, nodes, readProof}
-use Rattle.proofs.specs.ProofParts.{kindTable}
+use Rattle.proofs.specs.ReadProof.{early, ruleByte, fields, isCode, sequent, made, node, nodes, derivationOf, body, readProof}
+use Rattle.proofs.specs.ProofParts.{kindTable, kindClaim}
 
 -- the kinds of a table's entries stand in a list
 pub record Kinds (t : Table) (ks : List ℕ) (n : ℕ) : Type 0 where
@@ -55,6 +56,7 @@ module _ {t : Table} {ks : List ℕ} {n : ℕ} (k : Kinds t ks n) where
   unfolding node
   node-same = ap {B = Parser Node} (λ (q : Parser (List ℕ)) (s : List ℕ) (at : ℕ). via made (seq ruleByte (λ h. seq (fields (h .0)) (λ _. part [] (h .1) q))) s at) sequent-same
 
-  pub by-kinds : (s : List ℕ) → readProof t s ≡ readProof (kindTable ks n) s
-  unfolding readProof nodes
-  by-kinds s = ap (λ (q : Parser Node). readFile proofOpening 30 early (λ s at. listed (count 1024 32 (two early)) q s at) s) node-same
+pub by-kinds : (c : Claim) {ks : List ℕ} {n : ℕ} → Kinds (c .entries) ks n → (s : List ℕ) → readProof c s ≡ readProof (kindClaim ks n) s
+unfolding readProof body nodes
+by-kinds c k s =
+    ap (λ (q : Parser Node). readFile proofOpening 30 early (λ s at. via derivationOf (λ s at. listed (count 1024 32 (two early)) q s at) s at) s) (node-same k)

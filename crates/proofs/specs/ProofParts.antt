@@ -5,6 +5,7 @@ use Prim.Native.Nat.{ℕ, suc, _+_}
 use lib.ListN.{drop}
 use Rattle.formula.specs.Table.{Table}
 use Rattle.formula.specs.Nodes.{Proof}
+use Rattle.formula.specs.Claim.{Claim}
 use Rattle.bits.specs.IfSet.{ifSet}
 use Rattle.formula.specs.Fields.{hasPrincipal, hasFirst, hasSecond, hasBack}
 use Rattle.formula.specs.Plain.{tableOf}
@@ -16,6 +17,10 @@ use Rattle.proofs.specs.ReadProof.{early, ruleByte, fields, isCode, node
 -- a table of which only the kinds are known
 abbrev pub kindTable : List ℕ → ℕ → Table
 kindTable ks n = tableOf ks [] [] n
+
+-- all of a claim that the reading of a proof looks at
+abbrev pub kindClaim : List ℕ → ℕ → Claim
+kindClaim ks n = record { entries = kindTable ks n; members = [] }
 
 -- map, rule and fields
 abbrev pub heading : Parser ((ℕ × Bool) × Links)

@@ -7,6 +7,7 @@ use Rattle.formula.specs.Rule
 use Rattle.formula.specs.Table.{Table}
 use Rattle.formula.specs.Codes.{entryOf}
 use Rattle.formula.specs.Nodes.{Node, Proof}
+use Rattle.formula.specs.Claim.{Claim, Derivation}
 use Rattle.formula.specs.Fields.{hasPrincipal, hasFirst, hasSecond, hasBack, lowMap}
 use Rattle.encoding.specs.Parse.{Parser, seq, guard, via, part, byte, bytes, two, field, count, times, listed, rising}
 use Rattle.encoding.specs.File.{Reading, readFile}
@@ -53,6 +54,13 @@ unfoldable pub nodes : Table → Parser Proof
 unfolding times node
 nodes t s at = listed (count 1024 32 (two early)) (node t) s at
 
-unfoldable pub readProof : Table → List ℕ → Reading Proof
-unfolding readFile nodes
-readProof t s = readFile proofOpening 30 early (nodes t) s
+abbrev pub derivationOf : Proof → Derivation
+derivationOf p = record { nodes = p }
+
+unfoldable pub body : Table → Parser Derivation
+unfolding nodes
+body t s at = via derivationOf (nodes t) s at
+
+unfoldable pub readProof : Claim → List ℕ → Reading Derivation
+unfolding readFile body
+readProof c s = readFile proofOpening 30 early (body (c .entries)) s

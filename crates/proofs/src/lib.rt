@@ -8,7 +8,7 @@ ghost use Rattle.encoding.specs.Opening.{opens};
 ghost use Rattle.encoding.specs.Outcome.{verdictOf};
 ghost use Rattle.proofs.specs.ProofFile.{proofOpening};
 ghost use Rattle.proofs.specs.ReadProof.{rule-fits, isCode, sequent, node, readProof};
-ghost use Rattle.proofs.specs.ProofParts.{kindTable, codesOf, nodesOf};
+ghost use Rattle.proofs.specs.ProofParts.{kindTable, kindClaim, codesOf, nodesOf};
 ghost use Rattle.proofs.specs.ProofSteps.{Finds, FindsHead};
 use encoding::opens;
 use encoding::word_at;
@@ -205,7 +205,7 @@ fn nodes_walk(bytes: &[u8], n: usize, kinds: &[u8; 256], count: usize) -> Step
 // The verdict on the bytes of a proof, by the kinds of the entries that its codes speak of. Nothing is written.
 pub fn judge_proof(bytes: &[u8], kinds: &[u8; 256], count: usize) -> Verdict
     requires { ⌜ count ≤ 256 ⌝ }
-    ensures { λ r. ⌜ shown r ≡ verdictOf (readProof (kindTable (now (kinds .entry)) count) (now (bytes .entry))) ⌝ }
+    ensures { λ r. ⌜ shown r ≡ verdictOf (readProof (kindClaim (now (kinds .entry)) count) (now (bytes .entry))) ⌝ }
 {
     if !crate::opens_proof(bytes) {
         return Verdict::Refused {

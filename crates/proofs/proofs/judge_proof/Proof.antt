@@ -7,8 +7,7 @@ use Prim.Native.Nat.{ℕ, _≤_}
 use lib.ListN.{length}
 use borrow.Author.Tests.{not-true, not-false}
 use Rattle.verdict.specs.Verdict.{refused}
-use Rattle.formula.specs.Table.{Table}
-use Rattle.formula.specs.Nodes.{Proof}
+use Rattle.formula.specs.Claim.{Claim, Derivation}
 use Rattle.encoding.specs.Encode.{Counts}
 use Rattle.encoding.specs.File.{Reading}
 use Rattle.encoding.specs.Outcome.{verdictOf}
@@ -16,7 +15,7 @@ use Rattle.encoding.specs.Places.{wordAt}
 use Rattle.encoding.specs.Opening.{opens}
 use Rattle.proofs.specs.ProofFile.{proofOpening}
 use Rattle.proofs.specs.ReadProof.{readProof}
-use Rattle.proofs.specs.ProofParts.{kindTable, nodesOf}
+use Rattle.proofs.specs.ProofParts.{kindClaim, nodesOf}
 use Rattle.proofs.specs.ProofSteps.{Finds}
 use Rattle.proofs.specs.ProofWhole.{not-opened, no-count, count-unfit, nodes-stop, nodes-followed, nodes-end}
 use Rattle.proofs.specs.declared.Step.{Step}
@@ -29,11 +28,11 @@ module _ (c : tie.Start) where
   abbrev file : List ℕ
   file = c .args .bytes .now
 
-  abbrev table : Table
-  table = kindTable (c .args .kinds .now) (c .args .count)
+  abbrev claim : Claim
+  claim = kindClaim (c .args .kinds .now) (c .args .count)
 
   -- the verdict on the file is what was returned
-  verdict : {r : Reading Proof} → readProof table file ≡ r → verdictOf r ≡ verdictOf (readProof table file)
+  verdict : {r : Reading Derivation} → readProof claim file ≡ r → verdictOf r ≡ verdictOf (readProof claim file)
   verdict e = ap verdictOf (sym e)
 
 -- the opening stands
@@ -42,10 +41,10 @@ begun c = sym (c .before .opens-proof .ensures) ∙ not-false _ (c .if1 .left)
 
 -- a node count out of range
 miscounted : (c : tie.After-word-at) → (Counts 1024 (c .word-at .result) → ⊥)
-    → refused 32 4 ≡ verdictOf (readProof (table (c .before .before .before .before .before)) (file (c .before .before .before .before .before)))
+    → refused 32 4 ≡ verdictOf (readProof (claim (c .before .before .before .before .before)) (file (c .before .before .before .before .before)))
 miscounted c n =
     let entry = c .before .before .before .before .before in
-    verdict entry (count-unfit (table entry) (file entry) (begun (c .before .before)) (omega arith) (λ k. n (subst (Counts 1024) (sym (c .word-at .ensures)) k)))
+    verdict entry (count-unfit (claim entry) (file entry) (begun (c .before .before)) (omega arith) (λ k. n (subst (Counts 1024) (sym (c .word-at .ensures)) k)))
 
 -- a node count in range, and what was found after it
 module _ (c : tie.After-nodes-walk) where
@@ -61,10 +60,10 @@ module _ (c : tie.After-nodes-walk) where
   counts : Counts 1024 (wordAt (file entry) 4)
   counts = subst (Counts 1024) (c .before .before .before .word-at .ensures) (omega arith)
 
-  found : (r : Step) → c .nodes-walk .result ≡ r → Finds (file entry) 58374 (nodesOf (table entry) (wordAt (file entry) 4) (file entry)) r
+  found : (r : Step) → c .nodes-walk .result ≡ r → Finds (file entry) 58374 (nodesOf (claim entry .entries) (wordAt (file entry) 4) (file entry)) r
   found r e =
-      subst (λ (n : ℕ). Finds (file entry) 58374 (nodesOf (table entry) n (file entry)) r) (c .before .before .before .word-at .ensures)
-      (subst (λ (r : Step). Finds (file entry) 58374 (nodesOf (table entry) (c .before .before .before .word-at .result) (file entry)) r) e (c .nodes-walk .ensures))
+      subst (λ (n : ℕ). Finds (file entry) 58374 (nodesOf (claim entry .entries) n (file entry)) r) (c .before .before .before .word-at .ensures)
+      (subst (λ (r : Step). Finds (file entry) 58374 (nodesOf (claim entry .entries) (c .before .before .before .word-at .result) (file entry)) r) e (c .nodes-walk .ensures))
 
 opens-proof-requires : tie.Need-opens-proof-requires
 opens-proof-requires c κs = search needs
