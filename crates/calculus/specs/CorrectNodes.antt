@@ -1,16 +1,15 @@
--- a proof that keeps every rule, over an entry table
+-- a proof that keeps every rule, over a claim
 use Prim.Native.Nat.{ℕ, _<_}
 use lib.ListN.{length}
-use Rattle.formula.specs.Table.{Table}
 use Rattle.formula.specs.Codes.{Formula, entryOf}
-use Rattle.formula.specs.Nodes.{Proof}
+use Rattle.formula.specs.Claim.{Claim, Derivation}
 use Rattle.calculus.specs.Tree.{Tree}
 use Rattle.calculus.specs.Sequents.{sequent}
 use Rattle.calculus.specs.Rules.{Keeps}
 use Rattle.calculus.specs.Loops.{GoodLoops}
 
-pub record CorrectNodes (t : Table) (p : Proof) : Type 0 where
-  pub members : (v c : ℕ) → v < length p → sequent p v c → Formula t (entryOf c)
-  pub tree : Tree p
-  pub keeps : (v : ℕ) → v < length p → Keeps t p v
-  pub loops : GoodLoops p
+pub record CorrectNodes (c : Claim) (d : Derivation) : Type 0 where
+  pub members : (v x : ℕ) → v < length (d .nodes) → sequent (d .nodes) v x → Formula (c .entries) (entryOf x)
+  pub tree : Tree (d .nodes)
+  pub keeps : (v : ℕ) → v < length (d .nodes) → Keeps c d v
+  pub loops : GoodLoops (d .nodes)

@@ -1,7 +1,6 @@
 -- the judge refuses with a number at a place just when the tables earn that number there
 use mathlib.Core.Path.{_≡_, refl, sym, _∙_, ap}
 use mathlib.Core.Logic.{_≢_, _⊎_, inl, inr, _↔_}
-use mathlib.Core.List.{List}
 use mathlib.Core.Bool.{Bool, true, false}
 use Prim.Native.Nat.{ℕ, _<_}
 use native.Mathlib.Decide.{ℕ-discrete}
@@ -9,11 +8,11 @@ use native.Mathlib.Omega.{arith}
 use lib.ListN.{length}
 use borrow.Author.Tests.{eq-eqb, ne-eqb}
 use Rattle.formula.specs.Rule
-use Rattle.formula.specs.Table.{Table}
 use Rattle.formula.specs.Nodes.{Proof}
+use Rattle.formula.specs.Claim.{Claim, Derivation}
 use Rattle.calculus.specs.Tree.{Tree}
 use Rattle.calculus.specs.Sequents.{rule}
-use Rattle.calculus.specs.Rules.{Keeps, back}
+use Rattle.calculus.specs.Rules.{Keeps, back, by-tree}
 use Rattle.calculus.specs.CorrectNodes.{CorrectNodes}
 use Rattle.verdict.specs.Verdict.{Verdict, accepted, refused, pick, scan}
 use Rattle.calculus.specs.View.{plain}
@@ -71,7 +70,10 @@ pick-refuses false x {m} {r} {k} {q} h =
     let b : r ≡ q = cc in
     inl (refl, a, b)
 
-module _ (t : Table) (claim : List ℕ) (p : Proof) (G : Given t p) where
+module _ (c : Claim) (d : Derivation) (G : Given c d) where
+  abbrev p : Proof
+  p = d .nodes
+
   children-told : (v : ℕ) → v < length p → Tells (children-fit (plain p) v) (ChildrenFit p v)
   children-told v i = children-fit-tells p v i
 
@@ -79,104 +81,104 @@ module _ (t : Table) (claim : List ℕ) (p : Proof) (G : Given t p) where
   adopted-told v i = adopted-tells p v i
 
   module _ (T : Tree p) where
-    keeps-told : (v : ℕ) → v < length p → Tells (keeps t (plain p) v) (Keeps t p v)
-    keeps-told v i = keeps-tells t p T G v i
+    keeps-told : (v : ℕ) → v < length p → Tells (keeps c (plain p) v) (Keeps c d v)
+    keeps-told v i = keeps-tells c d T G v i
 
-    module _ (K : Before (length p) (Keeps t p)) where
+    module _ (K : Before (length p) (Keeps c d)) where
       leaf-told : (v : ℕ) → v < length p → Tells (loop (plain p) v) (GoodLeaf p v)
-      leaf-told v i = leaf-tells t p T v (K v i)
+      leaf-told v i = leaf-tells c d T v (K v i)
 
-      loops-earn : Claimed claim p → {k q : ℕ} → loops-stage t claim p ≡ refused k q → Earns t claim p k q
+      loops-earn : Claimed c d → {k q : ℕ} → loops-stage c d ≡ refused k q → Earns c d k q
       loops-earn C {k} {q} h = go (scanned (λ _. 39) (length p) leaf-told accepted h)
         where
-          bad : Lacks (GoodLeaf p) (length p) q → Dec (rule p q ≡ Rule.BACK) → Earns t claim p 39 q
+          bad : Lacks (GoodLeaf p) (length p) q → Dec (rule p q ≡ Rule.BACK) → Earns c d 39 q
           bad l (yes b) =
               let π = ancestor-path p T (keeps-back b (K q (l .inside)) .companion) in
               bad-loop T C K (l .inside) (l .before) b π (λ g. l .lacks (λ _ ρ. good-walk T π g ρ))
           bad l (no n) = absurd (l .lacks (λ b. absurd (n b)))
 
-          go : ((39 ≡ k) × Lacks (GoodLeaf p) (length p) q) ⊎ (Before (length p) (GoodLeaf p) × (accepted ≡ refused k q)) → Earns t claim p k q
+          go : ((39 ≡ k) × Lacks (GoodLeaf p) (length p) q) ⊎ (Before (length p) (GoodLeaf p) × (accepted ≡ refused k q)) → Earns c d k q
           go (inl (e, l)) = rw (← e) (bad l (ℕ-discrete (rule p q) Rule.BACK))
           go (inr (f, r)) = absurd (accepted-not-refused (sym r))
 
-    rules-earn : Claimed claim p → {k q : ℕ} → rules-stage t claim p ≡ refused k q → Earns t claim p k q
-    rules-earn C {k} {q} h = go (scanned (rule-number (plain p)) (length p) keeps-told (loops-stage t claim p) h)
+    rules-earn : Claimed c d → {k q : ℕ} → rules-stage c d ≡ refused k q → Earns c d k q
+    rules-earn C {k} {q} h = go (scanned (rule-number (plain p)) (length p) keeps-told (loops-stage c d) h)
       where
-        bad : Lacks (Keeps t p) (length p) q → Dec (rule p q ≡ Rule.BACK) → Earns t claim p (rule-number (plain p) q) q
-        bad l (yes b) = rw (number-back p q b) (bad-link T C (l .inside) (l .before) b (λ k. l .lacks (back b k)))
+        bad : Lacks (Keeps c d) (length p) q → Dec (rule p q ≡ Rule.BACK) → Earns c d (rule-number (plain p) q) q
+        bad l (yes b) = rw (number-back p q b) (bad-link T C (l .inside) (l .before) b (λ k. l .lacks (by-tree (back b k))))
         bad l (no n) = rw (number-other p q n) (rule-broken T C (l .inside) (l .before) n (l .lacks))
 
-        go : ((rule-number (plain p) q ≡ k) × Lacks (Keeps t p) (length p) q) ⊎ (Before (length p) (Keeps t p) × (loops-stage t claim p ≡ refused k q)) → Earns t claim p k q
+        go : ((rule-number (plain p) q ≡ k) × Lacks (Keeps c d) (length p) q) ⊎ (Before (length p) (Keeps c d) × (loops-stage c d ≡ refused k q)) → Earns c d k q
         go (inl (e, l)) = rw (← e) (bad l (ℕ-discrete (rule p q) Rule.BACK))
         go (inr (f, r)) = loops-earn f C r
 
-    claim-earn : {k q : ℕ} → claim-stage t claim p ≡ refused k q → Earns t claim p k q
-    claim-earn {k} {q} h = go (pick-refuses (root claim (plain p)) (rules-stage t claim p) h)
+    claim-earn : {k q : ℕ} → claim-stage c d ≡ refused k q → Earns c d k q
+    claim-earn {k} {q} h = go (pick-refuses (root c (plain p)) (rules-stage c d) h)
       where
-        go : ((root claim (plain p) ≡ false) × (36 ≡ k) × (0 ≡ q)) ⊎ ((root claim (plain p) ≡ true) × (rules-stage t claim p ≡ refused k q)) → Earns t claim p k q
-        go (inl (f, e, z)) = rw (← e, ← z) (other-root T (fails (root-tells claim p) f))
-        go (inr (r, h)) = rules-earn (root-tells claim p .says r) h
+        go : ((root c (plain p) ≡ false) × (36 ≡ k) × (0 ≡ q)) ⊎ ((root c (plain p) ≡ true) × (rules-stage c d ≡ refused k q)) → Earns c d k q
+        go (inl (f, e, z)) = rw (← e, ← z) (other-root T (fails (root-tells c d) f))
+        go (inr (r, h)) = rules-earn (root-tells c d .says r) h
 
   -- no number lies
-  pub refused-earned : {k q : ℕ} → judge t claim p ≡ refused k q → Earns t claim p k q
-  refused-earned {k} {q} h = go (scanned (λ _. 35) (length p) children-told (orphans-stage t claim p) (rw (judge-is t claim p) at h))
+  pub refused-earned : {k q : ℕ} → judge c d ≡ refused k q → Earns c d k q
+  refused-earned {k} {q} h = go (scanned (λ _. 35) (length p) children-told (orphans-stage c d) (rw (judge-is c d) at h))
     where
-      next : Before (length p) (ChildrenFit p) → ((35 ≡ k) × Lacks (Adopted p) (length p) q) ⊎ (Before (length p) (Adopted p) × (claim-stage t claim p ≡ refused k q)) → Earns t claim p k q
-      next f (inl (e, l)) = rw (← e) (orphan f (l .inside) (l .before) (λ z. l .lacks (inl z)) (λ v c. l .lacks (inr (v, child-real p c, c))))
+      next : Before (length p) (ChildrenFit p) → ((35 ≡ k) × Lacks (Adopted p) (length p) q) ⊎ (Before (length p) (Adopted p) × (claim-stage c d ≡ refused k q)) → Earns c d k q
+      next f (inl (e, l)) = rw (← e) (orphan f (l .inside) (l .before) (λ z. l .lacks (inl z)) (λ v e. l .lacks (inr (v, child-real p e, e))))
       next f (inr (g, r)) = claim-earn (to-tree p f g) r
 
-      go : ((35 ≡ k) × Lacks (ChildrenFit p) (length p) q) ⊎ (Before (length p) (ChildrenFit p) × (orphans-stage t claim p ≡ refused k q)) → Earns t claim p k q
+      go : ((35 ≡ k) × Lacks (ChildrenFit p) (length p) q) ⊎ (Before (length p) (ChildrenFit p) × (orphans-stage c d ≡ refused k q)) → Earns c d k q
       go (inl (e, l)) = rw (← e) (bad-child (l .inside) (l .before) (l .lacks))
-      go (inr (f, r)) = next f (scanned (λ _. 35) (length p) adopted-told (claim-stage t claim p) r)
+      go (inr (f, r)) = next f (scanned (λ _. 35) (length p) adopted-told (claim-stage c d) r)
 
   -- and each is given where it is earned
-  children-pass : Before (length p) (ChildrenFit p) → judge t claim p ≡ orphans-stage t claim p
-  children-pass f = judge-is t claim p ∙ all-scanned (λ _. 35) (length p) children-told (orphans-stage t claim p) f
+  children-pass : Before (length p) (ChildrenFit p) → judge c d ≡ orphans-stage c d
+  children-pass f = judge-is c d ∙ all-scanned (λ _. 35) (length p) children-told (orphans-stage c d) f
 
-  tree-passes : Tree p → judge t claim p ≡ claim-stage t claim p
-  tree-passes T = children-pass (tree-children p T) ∙ all-scanned (λ _. 35) (length p) adopted-told (claim-stage t claim p) (tree-adopted p T)
+  tree-passes : Tree p → judge c d ≡ claim-stage c d
+  tree-passes T = children-pass (tree-children p T) ∙ all-scanned (λ _. 35) (length p) adopted-told (claim-stage c d) (tree-adopted p T)
 
-  claim-passes : Tree p → Claimed claim p → judge t claim p ≡ rules-stage t claim p
-  claim-passes T C = tree-passes T ∙ rw (root-tells claim p .holds C) refl
+  claim-passes : Tree p → Claimed c d → judge c d ≡ rules-stage c d
+  claim-passes T C = tree-passes T ∙ rw (root-tells c d .holds C) refl
 
-  pub earned-refused : {k q : ℕ} → Earns t claim p k q → judge t claim p ≡ refused k q
+  pub earned-refused : {k q : ℕ} → Earns c d k q → judge c d ≡ refused k q
   earned-refused (bad-child i b n) =
-      judge-is t claim p ∙ first-scanned (λ _. 35) (length p) children-told (orphans-stage t claim p) (record { inside = i; before = b; lacks = n })
+      judge-is c d ∙ first-scanned (λ _. 35) (length p) children-told (orphans-stage c d) (record { inside = i; before = b; lacks = n })
   earned-refused (orphan {q = q} f i b z n) =
-      children-pass f ∙ first-scanned (λ _. 35) (length p) adopted-told (claim-stage t claim p) (record { inside = i; before = b; lacks = none })
+      children-pass f ∙ first-scanned (λ _. 35) (length p) adopted-told (claim-stage c d) (record { inside = i; before = b; lacks = none })
     where
       none : Adopted p q → ⊥
       none (inl e) = z e
-      none (inr (v, _, c)) = n v c
-  earned-refused (other-root T n) = tree-passes T ∙ rw (fails-holds (root-tells claim p) n) refl
+      none (inr (v, _, e)) = n v e
+  earned-refused (other-root T n) = tree-passes T ∙ rw (fails-holds (root-tells c d) n) refl
   earned-refused (rule-broken {q = q} T C i b n k) =
       claim-passes T C
-      ∙ first-scanned (rule-number (plain p)) (length p) (keeps-told T) (loops-stage t claim p) (record { inside = i; before = b; lacks = k })
+      ∙ first-scanned (rule-number (plain p)) (length p) (keeps-told T) (loops-stage c d) (record { inside = i; before = b; lacks = k })
       ∙ ap (λ (m : ℕ). refused m q) (number-other p q n)
   earned-refused (bad-link {q = q} T C i b e k) =
       claim-passes T C
-      ∙ first-scanned (rule-number (plain p)) (length p) (keeps-told T) (loops-stage t claim p) (record { inside = i; before = b; lacks = λ z. k (keeps-back e z) })
+      ∙ first-scanned (rule-number (plain p)) (length p) (keeps-told T) (loops-stage c d) (record { inside = i; before = b; lacks = λ z. k (keeps-back e z) })
       ∙ ap (λ (m : ℕ). refused m q) (number-back p q e)
   earned-refused (bad-loop T C K i b e π n) =
       claim-passes T C
-      ∙ all-scanned (rule-number (plain p)) (length p) (keeps-told T) (loops-stage t claim p) K
+      ∙ all-scanned (rule-number (plain p)) (length p) (keeps-told T) (loops-stage c d) K
       ∙ first-scanned (λ _. 39) (length p) (leaf-told T K) accepted (record { inside = i; before = b; lacks = λ g. n (g e π) })
 
-  pub exact-refusal : {k q : ℕ} → (judge t claim p ≡ refused k q) ↔ Earns t claim p k q
+  pub exact-refusal : {k q : ℕ} → (judge c d ≡ refused k q) ↔ Earns c d k q
   exact-refusal = (refused-earned, earned-refused)
 
   -- every proof of tables is correct or earns one refusal
-  pub outcome : (CorrectNodes t p × Claimed claim p) ⊎ ((k : ℕ) × (q : ℕ) × Earns t claim p k q)
-  outcome = go (judge t claim p) refl
+  pub outcome : (CorrectNodes c d × Claimed c d) ⊎ ((k : ℕ) × (q : ℕ) × Earns c d k q)
+  outcome = go (judge c d) refl
     where
-      go : (x : Verdict) → judge t claim p ≡ x → (CorrectNodes t p × Claimed claim p) ⊎ ((k : ℕ) × (q : ℕ) × Earns t claim p k q)
-      go accepted h = inl (accepted-correct t claim p G h)
+      go : (x : Verdict) → judge c d ≡ x → (CorrectNodes c d × Claimed c d) ⊎ ((k : ℕ) × (q : ℕ) × Earns c d k q)
+      go accepted h = inl (accepted-correct c d G h)
       go (refused k q) h = inr (k, q, refused-earned h)
 
-  pub one-refusal : {k q m r : ℕ} → Earns t claim p k q → Earns t claim p m r → (k ≡ m) × (q ≡ r)
+  pub one-refusal : {k q m r : ℕ} → Earns c d k q → Earns c d m r → (k ≡ m) × (q ≡ r)
   one-refusal {k} {q} {m} {r} x y =
       let h : refused k q ≡ refused m r = sym (earned-refused x) ∙ earned-refused y in
       ((cc), (cc))
 
-  pub correct-earns-nothing : {k q : ℕ} → CorrectNodes t p → Claimed claim p → Earns t claim p k q → ⊥
-  correct-earns-nothing C R x = accepted-not-refused (sym (earned-refused x) ∙ correct-accepted t claim p G C R)
+  pub correct-earns-nothing : {k q : ℕ} → CorrectNodes c d → Claimed c d → Earns c d k q → ⊥
+  correct-earns-nothing C R x = accepted-not-refused (sym (earned-refused x) ∙ correct-accepted c d G C R)

@@ -1,14 +1,13 @@
 -- what 35 to 39 mean at a place, declaratively, in document 01's order
 use mathlib.Core.Path.{_≡_}
 use mathlib.Core.Logic.{_≢_, _⊎_}
-use mathlib.Core.List.{List}
 use Prim.Native.Nat.{ℕ, _<_, _≤_}
 use lib.ListN.{length}
 use Rattle.formula.specs.Rule
 use Rattle.verdict.specs.Sets.{Same, elements, image}
-use Rattle.formula.specs.Table.{Table}
 use Rattle.formula.specs.Codes.{code}
 use Rattle.formula.specs.Nodes.{Proof, node}
+use Rattle.formula.specs.Claim.{Claim, Derivation}
 use Rattle.calculus.specs.Tree.{Child, Tree}
 use Rattle.calculus.specs.Sequents.{rule, sequent}
 use Rattle.calculus.specs.Paths.{Path}
@@ -38,22 +37,25 @@ module _ (p : Proof) where
   GoodLeaf l = rule p l ≡ Rule.BACK → (π : Path p (node p l .back) l) → GoodLoop p (node p l .back) l π
 
 -- the root's members are the claim's, all in focus
-abbrev pub Claimed : List ℕ → Proof → Type 0
-Claimed claim p = Same (sequent p 0) (image (λ e. code e 1) (elements claim))
+abbrev pub Claimed : Claim → Derivation → Type 0
+Claimed c d = Same (sequent (d .nodes) 0) (image (λ e. code e 1) (elements (c .members)))
 
 -- all numbers before q
 abbrev pub Before : ℕ → (ℕ → Type 0) → Type 0
 Before q P = (w : ℕ) → w < q → P w
 
-module _ (t : Table) (claim : List ℕ) (p : Proof) where
+module _ (c : Claim) (d : Derivation) where
+  abbrev p : Proof
+  p = d .nodes
+
   -- refusal k at place q
   pub data Earns : ℕ → ℕ → Type 0 where
     bad-child : {q : ℕ} → q < length p → Before q (ChildrenFit p) → (ChildrenFit p q → ⊥) → Earns 35 q
     orphan : {q : ℕ} → Before (length p) (ChildrenFit p) → q < length p → Before q (Adopted p) → q ≢ 0 → ((v : ℕ) → Child p v q → ⊥) → Earns 35 q
-    other-root : Tree p → (Claimed claim p → ⊥) → Earns 36 0
-    rule-broken : {q : ℕ} → Tree p → Claimed claim p → q < length p → Before q (Keeps t p) → rule p q ≢ Rule.BACK → (Keeps t p q → ⊥) → Earns 37 q
-    bad-link : {q : ℕ} → Tree p → Claimed claim p → q < length p → Before q (Keeps t p) → rule p q ≡ Rule.BACK → (BackLeaf t p q → ⊥) → Earns 38 q
-    bad-loop : {q : ℕ} → Tree p → Claimed claim p → Before (length p) (Keeps t p) → q < length p → Before q (GoodLeaf p)
+    other-root : Tree p → (Claimed c d → ⊥) → Earns 36 0
+    rule-broken : {q : ℕ} → Tree p → Claimed c d → q < length p → Before q (Keeps c d) → rule p q ≢ Rule.BACK → (Keeps c d q → ⊥) → Earns 37 q
+    bad-link : {q : ℕ} → Tree p → Claimed c d → q < length p → Before q (Keeps c d) → rule p q ≡ Rule.BACK → (BackLeaf c d q → ⊥) → Earns 38 q
+    bad-loop : {q : ℕ} → Tree p → Claimed c d → Before (length p) (Keeps c d) → q < length p → Before q (GoodLeaf p)
         → rule p q ≡ Rule.BACK
         → (π : Path p (node p q .back) q)
         → (GoodLoop p (node p q .back) q π → ⊥)

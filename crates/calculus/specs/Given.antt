@@ -2,11 +2,11 @@
 use Prim.Native.Nat.{ℕ, _<_}
 use lib.ListN.{length}
 use Rattle.verdict.specs.Lists.{Rising}
-use Rattle.formula.specs.Table.{Table}
 use Rattle.formula.specs.Codes.{Formula, entryOf}
-use Rattle.formula.specs.Nodes.{Proof, node}
+use Rattle.formula.specs.Nodes.{node}
+use Rattle.formula.specs.Claim.{Claim, Derivation}
 use Rattle.calculus.specs.Sequents.{sequent}
 
-pub record Given (t : Table) (p : Proof) : Type 0 where
-  pub rising : (v : ℕ) → v < length p → Rising (node p v .codes)
-  pub members : (v c : ℕ) → v < length p → sequent p v c → Formula t (entryOf c)
+pub record Given (c : Claim) (d : Derivation) : Type 0 where
+  pub rising : (v : ℕ) → v < length (d .nodes) → Rising (node (d .nodes) v .codes)
+  pub members : (v x : ℕ) → v < length (d .nodes) → sequent (d .nodes) v x → Formula (c .entries) (entryOf x)

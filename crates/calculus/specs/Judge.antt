@@ -11,7 +11,7 @@ use Rattle.formula.specs.Target.{target, targetA, targetB}
 use Rattle.formula.specs.Codes.{code, entryOf, focusOf}
 use Rattle.verdict.specs.Tests.{choose, all, any, member, remove, each}
 use Rattle.formula.specs.Fields.{hasFirst, hasSecond}
-use Rattle.formula.specs.Nodes.{Proof}
+use Rattle.formula.specs.Claim.{Claim, Derivation}
 use Rattle.calculus.specs.Rules.{stepped}
 use Rattle.calculus.specs.View.{View, quick}
 use Rattle.verdict.specs.Verdict.{Verdict, accepted, refused, pick, scan}
@@ -157,16 +157,27 @@ module _ (t : Table) (q : View) where
   unfolding ancestor
   back-kept v = ancestor q (q .node v .back) v && (eqb (rule q (q .node v .back)) Rule.D && q .same (codes q v) (codes q (q .node v .back)))
 
-  -- the test of each rule, in the order of their numbers
+  -- the test of each rule that speaks of children, in the order of their numbers
   unfoldable pub tests : List (ℕ → Bool)
-  unfolding ax1-kept ax2-kept or-kept and-kept box-kept mu-kept nu-kept weaken-kept focus-kept discharge-kept back-kept
+  unfolding ax1-kept ax2-kept or-kept and-kept box-kept mu-kept nu-kept weaken-kept focus-kept discharge-kept
   tests =
       ax1-kept ∷ ax2-kept ∷ or-kept ∷ and-kept ∷ box-kept ∷ mu-kept ∷ nu-kept ∷ weaken-kept ∷ focus-kept 0 1 ∷ focus-kept 1 0
-      ∷ discharge-kept ∷ back-kept ∷ []
+      ∷ discharge-kept ∷ []
+
+module _ (c : Claim) (q : View) where
+  -- what a node owes its children
+  unfoldable pub step-kept : ℕ → Bool
+  unfolding tests
+  step-kept v = getD (tests (c .entries) q) (rule q v) (λ _. false) v
+
+  -- what a leaf owes its tree
+  unfoldable pub leaf-kept : ℕ → Bool
+  unfolding back-kept
+  leaf-kept v = eqb (rule q v) Rule.BACK && back-kept (c .entries) q v
 
   unfoldable pub keeps : ℕ → Bool
-  unfolding tests
-  keeps v = getD tests (rule q v) (λ _. false) v
+  unfolding step-kept leaf-kept
+  keeps v = step-kept v || leaf-kept v
 
 module _ (q : View) where
   unfoldable pub on-loop : ℕ → Bool
@@ -187,21 +198,21 @@ module _ (q : View) where
   rule-number v = choose (eqb (rule q v) Rule.BACK) 38 37
 
 -- the claim's members, all in focus
-unfoldable pub root : List ℕ → View → Bool
+unfoldable pub root : Claim → View → Bool
 unfolding each
-root claim q = q .same (codes q 0) (each (λ e. code e 1) claim)
+root c q = q .same (codes q 0) (each (λ e. code e 1) (c .members))
 
 -- what a view earns
-unfoldable pub judgeView : Table → List ℕ → View → Verdict
+unfoldable pub judgeView : Claim → View → Verdict
 unfolding scan children-fit adopted root keeps loop rule-number
-judgeView t claim q =
+judgeView c q =
     let n = q .size in
     let loops = scan (loop q) (λ _. 39) n 0 accepted in
-    let rules = scan (keeps t q) (rule-number q) n 0 loops in
-    let claimed = pick (root claim q) rules (refused 36 0) in
+    let rules = scan (keeps c q) (rule-number q) n 0 loops in
+    let claimed = pick (root c q) rules (refused 36 0) in
     let orphans = scan (adopted q) (λ _. 35) n 0 claimed in
     scan (children-fit q) (λ _. 35) n 0 orphans
 
-unfoldable pub judge : Table → List ℕ → Proof → Verdict
+unfoldable pub judge : Claim → Derivation → Verdict
 unfolding judgeView quick
-judge t claim p = judgeView t claim (quick p)
+judge c d = judgeView c (quick (d .nodes))

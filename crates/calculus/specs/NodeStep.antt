@@ -12,9 +12,10 @@ use Rattle.formula.specs.Table.{Table, kind}
 use Rattle.formula.specs.Codes.{Formula, code, entryOf, focusOf}
 use Rattle.formula.specs.Target.{targetA}
 use Rattle.formula.specs.Nodes.{Proof, node}
+use Rattle.formula.specs.Claim.{Claim, Derivation}
 use Rattle.calculus.specs.Tree.{Child, first, second}
 use Rattle.calculus.specs.Sequents.{rule, sequent, firstSequent, principal, formula, focus, side, Belongs}
-use Rattle.calculus.specs.Rules.{stepped, A, B, Principal, Clash, Truth, BackLeaf, Keeps, ax1, ax2, or, and, box, mu, nu, weaken, into-focus, out-of-focus, discharge, back}
+use Rattle.calculus.specs.Rules.{stepped, A, B, Principal, Clash, Truth, Step, ax1, ax2, or, and, box, mu, nu, weaken, into-focus, out-of-focus, discharge}
 use Rattle.calculus.specs.Loops.{OnLoop}
 use Rattle.meaning.specs.States.{Model, Successor}
 use Rattle.calculus.specs.Falsity.{Falsity, Passes}
@@ -30,17 +31,24 @@ pub record Stepped {t : Table} {m : Model} (M : Falsity t m) (p : Proof) (v j : 
   pub keeps-rank : OnLoop p v → rank ≤ j
   pub box-falls : OnLoop p v → rule p v ≡ Rule.BOX → rank < j
 
-module _ {t : Table} {m : Model} (M : Falsity t m) (p : Proof) (v : ℕ) (real : v < length p) {j s : ℕ} (r : RefutesWithin M j s (sequent p v)) where
+module _ (c : Claim) {m : Model} (M : Falsity (c .entries) m) (d : Derivation) (v : ℕ) (real : v < length (d .nodes)) {j s : ℕ}
+    (r : RefutesWithin M j s (sequent (d .nodes) v)) where
+  abbrev t : Table
+  t = c .entries
+
+  abbrev p : Proof
+  p = d .nodes
+
   -- same state, same rank
   stay : (w : ℕ) → Child p v w → rule p v ≢ Rule.BOX → sequent p w ⊆ Fails M j s → Stepped M p v j
-  stay w c n f = record {
+  stay w e n f = record {
     child = w;
-    edge = c;
+    edge = e;
     state = s;
     rank = j;
     refuted = record { inside = r .inside; all = f };
     keeps-rank = λ _. omega arith;
-    box-falls = λ _ e. absurd (n e);
+    box-falls = λ _ b. absurd (n b);
   }
 
   first-child : (Rule.OR ≤ rule p v) × (rule p v ≤ Rule.D) → Child p v (node p v .first)
@@ -56,14 +64,14 @@ module _ {t : Table} {m : Model} (M : Falsity t m) (p : Proof) (v : ℕ) (real :
   member-false c n = owed-false M j (focusOf c) (entryOf c) s (r .inside) (r .all c n)
 
   -- axioms are not refuted
-  clash-absurd : Clash t p v → ⊥
+  clash-absurd : Clash c d v → ⊥
   clash-absurd k =
       let lacks = M .letter-false (entryOf (k .plain)) s (r .inside) (k .plain-kind) (member-false (k .plain) (k .exactly .from (k .plain) (inl (inr refl)))) in
       let has = M .negated-false (entryOf (k .negated)) s (r .inside) (k .negated-kind) (member-false (k .negated) (k .exactly .from (k .negated) (inr refl))) in
       let z : _≡_ {A = ℕ} 0 1 = cc (lacks, has, k .one-letter) in
       omega arith
 
-  truth-absurd : Truth t p v → ⊥
+  truth-absurd : Truth c d v → ⊥
   truth-absurd k = M .true-false (entryOf (k .member)) s (r .inside) (k .of-kind) (member-false (k .member) (k .exactly .from (k .member) (inr refl)))
 
   -- what the principal owes, and what passes to its targets with its focus
@@ -79,10 +87,10 @@ module _ {t : Table} {m : Model} (M : Falsity t m) (p : Proof) (v : ℕ) (real :
   side-out : (e : ℕ) → M .false-at e s → side p v plus code e 0 ⊆ Fails M j s
   side-out e o = plus-⊆ _ side-fails (fails-code M j s e 0 (omega arith) o)
 
-  or-fails : Principal t p v Kind.OR → side p v plus code (A t p v) (focus p v) plus code (B t p v) (focus p v) ⊆ Fails M j s
+  or-fails : Principal c d v Kind.OR → side p v plus code (A c d v) (focus p v) plus code (B c d v) (focus p v) ⊆ Fails M j s
   or-fails P =
       let (a, b) = passes .or (formula p v) s (r .inside) (P .of-kind) (owed (P .belongs)) in
-      plus-⊆ _ (side-alike (A t p v) a) (fails-code M j s (B t p v) (focus p v) (omega arith) b)
+      plus-⊆ _ (side-alike (A c d v) a) (fails-code M j s (B c d v) (focus p v) (omega arith) b)
 
   -- F: the new member may need more steps; no loop path has an F
   focus-step : rule p v ≡ Rule.F → Formula t (formula p v) → Belongs p v → firstSequent p v ⊆ side p v plus code (formula p v) 1 → Stepped M p v j
@@ -100,14 +108,14 @@ module _ {t : Table} {m : Model} (M : Falsity t m) (p : Proof) (v : ℕ) (real :
         box-falls = λ l. absurd (l .not-F e);
       }
 
-  module _ (P : Principal t p v Kind.BOX) (d : side p v ⊆ (λ c. kind t (entryOf c) ≡ Kind.DIAMOND)) (u : ℕ) (edge : Successor m s u) (o : OwedNext M j (focus p v) (A t p v) u) where
+  module _ (P : Principal c d v Kind.BOX) (diamonds : side p v ⊆ (λ x. kind t (entryOf x) ≡ Kind.DIAMOND)) (u : ℕ) (edge : Successor m s u) (o : OwedNext M j (focus p v) (A c d v) u) where
     -- at the successor that refutes the box, every member owes for its target
     member-next : (c : ℕ) → sequent p v c → OwedNext M j (focusOf c) (targetA t (entryOf c)) u
     member-next c n = pick (ℕ-discrete c (principal p v))
       where
         pick : Dec (c ≡ principal p v) → OwedNext M j (focusOf c) (targetA t (entryOf c)) u
         pick (yes q) = rw q o
-        pick (no q) = owed-passes M j (focusOf c) .diamond (entryOf c) s (r .inside) (d c (n, q)) (r .all c n) u edge
+        pick (no q) = owed-passes M j (focusOf c) .diamond (entryOf c) s (r .inside) (diamonds c (n, q)) (r .all c n) u edge
 
     targets-fail : image (stepped t) (sequent p v) ⊆ Fails M (pred j) u
     targets-fail = image-⊆ (Fails M (pred j) u) (stepped t) λ c n.
@@ -125,23 +133,22 @@ module _ {t : Table} {m : Model} (M : Falsity t m) (p : Proof) (v : ℕ) (real :
       box-falls = λ l _. let (c, n, h) = l .has-focus in focused-next M j (focusOf c) (targetA t (entryOf c)) u h (member-next c n);
     }
 
-  pub node-step : ((c : ℕ) → sequent p v c → Formula t (entryOf c)) → Keeps t p v → ((rule p v ≡ Rule.BACK) × BackLeaf t p v) ⊎ Stepped M p v j
+  pub node-step : ((x : ℕ) → sequent p v x → Formula t (entryOf x)) → Step c d v → Stepped M p v j
   node-step F (ax1 e k) = absurd (clash-absurd k)
   node-step F (ax2 e k) = absurd (truth-absurd k)
-  node-step F (or e P f) = inr (stay-first (omega arith) (f .into) (or-fails P))
-  node-step F (and e P f g) = inr (⊎-elim
-      (λ a. stay-first (omega arith) (f .into) (side-alike (A t p v) a))
-      (λ b. stay (node p v .second) (second real e refl) (omega arith) (⊆-trans (g .into) (side-alike (B t p v) b)))
-      (passes .and (formula p v) s (r .inside) (P .of-kind) (owed (P .belongs))))
-  node-step F (box e P d f) =
+  node-step F (or e P f) = stay-first (omega arith) (f .into) (or-fails P)
+  node-step F (and e P f g) = ⊎-elim
+      (λ a. stay-first (omega arith) (f .into) (side-alike (A c d v) a))
+      (λ b. stay (node p v .second) (second real e refl) (omega arith) (⊆-trans (g .into) (side-alike (B c d v) b)))
+      (passes .and (formula p v) s (r .inside) (P .of-kind) (owed (P .belongs)))
+  node-step F (box e P h f) =
       let (u, edge, o) = passes .box (formula p v) s (r .inside) (P .of-kind) (owed (P .belongs)) in
-      inr (box-step P d u edge o e (f .into))
+      box-step P h u edge o e (f .into)
   node-step F (mu e P f) =
-      inr (stay-first (omega arith) (f .into) (side-out (A t p v) (M .mu-false (formula p v) s (r .inside) (P .of-kind) (member-false (principal p v) (P .belongs)))))
+      stay-first (omega arith) (f .into) (side-out (A c d v) (M .mu-false (formula p v) s (r .inside) (P .of-kind) (member-false (principal p v) (P .belongs))))
   node-step F (nu e P f) =
-      inr (stay-first (omega arith) (f .into) (side-alike (A t p v) (passes .nu (formula p v) s (r .inside) (P .of-kind) (owed (P .belongs)))))
-  node-step F (weaken e b f) = inr (stay-first (omega arith) (f .into) side-fails)
-  node-step F (into-focus e b h f) = inr (focus-step e (F (principal p v) b) b (f .into))
-  node-step F (out-of-focus e b h f) = inr (stay-first (omega arith) (f .into) (side-out (formula p v) (member-false (principal p v) b)))
-  node-step F (discharge e f) = inr (stay-first (omega arith) (f .into) (r .all))
-  node-step F (back e k) = inl (e, k)
+      stay-first (omega arith) (f .into) (side-alike (A c d v) (passes .nu (formula p v) s (r .inside) (P .of-kind) (owed (P .belongs))))
+  node-step F (weaken e b f) = stay-first (omega arith) (f .into) side-fails
+  node-step F (into-focus e b h f) = focus-step e (F (principal p v) b) b (f .into)
+  node-step F (out-of-focus e b h f) = stay-first (omega arith) (f .into) (side-out (formula p v) (member-false (principal p v) b))
+  node-step F (discharge e f) = stay-first (omega arith) (f .into) (r .all)

@@ -8,9 +8,10 @@ use Rattle.formula.specs.Rule
 use Rattle.verdict.specs.Sets.{⊆-trans}
 use Rattle.formula.specs.Table.{Table}
 use Rattle.formula.specs.Nodes.{Proof, node}
+use Rattle.formula.specs.Claim.{Claim, Derivation}
 use Rattle.calculus.specs.Sequents.{rule, sequent}
 use Rattle.calculus.specs.Paths.{Path, stop, down, On, join, on-start, on-middle, on-join, ends, Ancestor}
-use Rattle.calculus.specs.Rules.{BackLeaf}
+use Rattle.calculus.specs.Rules.{BackLeaf, Keeps, back, by-children, by-tree}
 use Rattle.calculus.specs.Loops.{OnLoop, GoodLoop}
 use Rattle.calculus.specs.CorrectNodes.{CorrectNodes}
 use Rattle.meaning.specs.States.{Model}
@@ -19,25 +20,25 @@ use Rattle.calculus.specs.Refutes.{RefutesWithin}
 use Rattle.calculus.specs.NodeStep.{Stepped, node-step}
 
 -- a back leaf that some state refutes
-pub record RefutedLeaf {t : Table} {m : Model} (M : Falsity t m) (p : Proof) : Type 0 where
+pub record RefutedLeaf (c : Claim) {m : Model} (M : Falsity (c .entries) m) (d : Derivation) : Type 0 where
   pub leaf : ℕ
-  pub inside : leaf < length p
-  pub is-back : rule p leaf ≡ Rule.BACK
-  pub keeps : BackLeaf t p leaf
+  pub inside : leaf < length (d .nodes)
+  pub is-back : rule (d .nodes) leaf ≡ Rule.BACK
+  pub keeps : BackLeaf c d leaf
   pub state : ℕ
   pub rank : ℕ
-  pub refuted : RefutesWithin M rank state (sequent p leaf)
+  pub refuted : RefutesWithin M rank state (sequent (d .nodes) leaf)
 
-abbrev pub companion : {t : Table} {m : Model} {M : Falsity t m} {p : Proof} → RefutedLeaf M p → ℕ
-companion {p} l = node p (l .leaf) .back
+abbrev pub companion : {c : Claim} {m : Model} {M : Falsity (c .entries) m} {d : Derivation} → RefutedLeaf c M d → ℕ
+companion {d} l = node (d .nodes) (l .leaf) .back
 
 -- what holds of v where it is refuted within j
-pub record Reached {t : Table} {m : Model} (M : Falsity t m) (p : Proof) (v j : ℕ) : Type 0 where
-  pub to : RefutedLeaf M p
-  pub above : Ancestor p (companion to) v
-  pub path : Path p v (to .leaf)
+pub record Reached (c : Claim) {m : Model} (M : Falsity (c .entries) m) (d : Derivation) (v j : ℕ) : Type 0 where
+  pub to : RefutedLeaf c M d
+  pub above : Ancestor (d .nodes) (companion to) v
+  pub path : Path (d .nodes) v (to .leaf)
   pub bound : to .rank ≤ j
-  pub box-falls : (x : ℕ) → On path x → rule p x ≡ Rule.BOX → to .rank < j
+  pub box-falls : (x : ℕ) → On path x → rule (d .nodes) x ≡ Rule.BOX → to .rank < j
 
 -- v is refuted once more, with fewer steps
 pub record Again {t : Table} {m : Model} (M : Falsity t m) (p : Proof) (v j : ℕ) : Type 0 where
@@ -46,8 +47,11 @@ pub record Again {t : Table} {m : Model} (M : Falsity t m) (p : Proof) (v j : �
   pub refuted : RefutesWithin M rank state (sequent p v)
   pub fewer : rank < j
 
-module _ {t : Table} {m : Model} (M : Falsity t m) (p : Proof) where
-  leaf-reached : {v j s : ℕ} → v < length p → rule p v ≡ Rule.BACK → BackLeaf t p v → RefutesWithin M j s (sequent p v) → Reached M p v j
+module _ (c : Claim) {m : Model} (M : Falsity (c .entries) m) (d : Derivation) where
+  abbrev p : Proof
+  p = d .nodes
+
+  leaf-reached : {v j s : ℕ} → v < length p → rule p v ≡ Rule.BACK → BackLeaf c d v → RefutesWithin M j s (sequent p v) → Reached c M d v j
   leaf-reached {v} {j} {s} real e k r = record {
     to = record { leaf = v; inside = real; is-back = e; keeps = k; state = s; rank = j; refuted = r };
     above = k .companion;
@@ -56,7 +60,7 @@ module _ {t : Table} {m : Model} (M : Falsity t m) (p : Proof) where
     box-falls = λ x q b. absurd (omega (arith, ap (rule p) q));
   }
 
-  more : {v i j : ℕ} → i ≤ j → Reached M p v i → Reached M p v j
+  more : {v i j : ℕ} → i ≤ j → Reached c M d v i → Reached c M d v j
   more h ρ = record {
     to = ρ .to;
     above = ρ .above;
@@ -66,12 +70,12 @@ module _ {t : Table} {m : Model} (M : Falsity t m) (p : Proof) where
   }
 
   -- with a leaf its companion is refuted
-  pub companion-refuted : (l : RefutedLeaf M p) → RefutesWithin M (l .rank) (l .state) (sequent p (companion l))
+  pub companion-refuted : (l : RefutedLeaf c M d) → RefutesWithin M (l .rank) (l .state) (sequent p (companion l))
   companion-refuted l = record { inside = l .refuted .inside; all = ⊆-trans (l .keeps .same .from) (l .refuted .all) }
 
   -- from a child's leaf to the node's own
-  module _ (ok : CorrectNodes t p) {v j : ℕ} (σ : Stepped M p v j) (ρ : Reached M p (σ .child) (σ .rank)) where
-    abbrev l : RefutedLeaf M p
+  module _ (ok : CorrectNodes c d) {v j : ℕ} (σ : Stepped M p v j) (ρ : Reached c M d (σ .child) (σ .rank)) where
+    abbrev l : RefutedLeaf c M d
     l = ρ .to
 
     up : Path p (companion l) v
@@ -110,31 +114,32 @@ module _ {t : Table} {m : Model} (M : Falsity t m) (p : Proof) where
           fewer = ⊎-elim (λ n. whole-falls v (on-start whole) (ap (rule p) (sym (at-v x n)) ∙ b)) (λ n. whole-falls x n b) (on-join up whole x o);
         }
 
-    reached : Ancestor p (companion l) v → Reached M p v j
+    reached : Ancestor p (companion l) v → Reached c M d v j
     reached a = record { to = l; above = a; path = whole; bound = omega (arith, ρ .bound, σ .keeps-rank on-loop); box-falls = whole-falls }
 
-    from-child : Again M p v j ⊎ Reached M p v j
+    from-child : Again M p v j ⊎ Reached c M d v j
     from-child = ⊎-elim (λ n. inl (again n)) (λ a. inr (reached a)) (ends up)
 
-  module _ (ok : CorrectNodes t p) where
+  module _ (ok : CorrectNodes c d) where
     -- for every node, from the last one down
     abbrev pub Statement : ℕ → Type 0
-    Statement v = (j s : ℕ) → RefutesWithin M j s (sequent p v) → Reached M p v j
+    Statement v = (j s : ℕ) → RefutesWithin M j s (sequent p v) → Reached c M d v j
 
-    child-leaf : {v j : ℕ} → ((w : ℕ) → v < w → w < length p → Statement w) → Stepped M p v j → Again M p v j ⊎ Reached M p v j
+    child-leaf : {v j : ℕ} → ((w : ℕ) → v < w → w < length p → Statement w) → Stepped M p v j → Again M p v j ⊎ Reached c M d v j
     child-leaf below σ =
         from-child ok σ (below (σ .child) (ok .tree .above (σ .edge)) (ok .tree .inside (σ .edge)) (σ .rank) (σ .state) (σ .refuted))
 
     module _ (v : ℕ) (real : v < length p) (below : (w : ℕ) → v < w → w < length p → Statement w) where
       -- induction on the rank at one node
-      at-node : (b j s : ℕ) → j < b → RefutesWithin M j s (sequent p v) → Reached M p v j
+      at-node : (b j s : ℕ) → j < b → RefutesWithin M j s (sequent p v) → Reached c M d v j
       at-node zero j s h r = absurd (omega arith)
       at-node (suc b) j s h r =
-          let lower : Again M p v j → Reached M p v j = λ a. more (omega (arith, a .fewer)) (at-node b (a .rank) (a .state) (omega (arith, a .fewer)) (a .refuted)) in
-          ⊎-elim
-          (λ (e, k). leaf-reached real e k r)
-          (λ σ. ⊎-elim lower (λ ρ. ρ) (child-leaf below σ))
-          (node-step M p v real r (λ c n. ok .members v c real n) (ok .keeps v real))
+          let lower : Again M p v j → Reached c M d v j = λ a. more (omega (arith, a .fewer)) (at-node b (a .rank) (a .state) (omega (arith, a .fewer)) (a .refuted)) in
+          let by-rule : Keeps c d v → Reached c M d v j = elim [
+            by-children k ↦ ⊎-elim lower (λ ρ. ρ) (child-leaf below (node-step c M d v real r (λ x n. ok .members v x real n) k))
+            | by-tree (back e k) ↦ leaf-reached real e k r
+          ] in
+          by-rule (ok .keeps v real)
 
     -- induction on the node number, from the last node down
     from-last : (n v : ℕ) → length p ≤ v + n → v < length p → Statement v

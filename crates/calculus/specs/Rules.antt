@@ -8,6 +8,7 @@ use Rattle.formula.specs.Table.{Table, entry, kind}
 use Rattle.formula.specs.Target.{targetA, targetB}
 use Rattle.formula.specs.Codes.{code, entryOf, focusOf}
 use Rattle.formula.specs.Nodes.{Proof, node}
+use Rattle.formula.specs.Claim.{Claim, Derivation}
 use Rattle.calculus.specs.Sequents.{rule, sequent, firstSequent, secondSequent, formula, focus, side, Belongs}
 use Rattle.calculus.specs.Paths.{Ancestor}
 
@@ -15,7 +16,13 @@ use Rattle.calculus.specs.Paths.{Ancestor}
 abbrev pub stepped : Table → ℕ → ℕ
 stepped t c = code (targetA t (entryOf c)) (focusOf c)
 
-module _ (t : Table) (p : Proof) (v : ℕ) where
+module _ (c : Claim) (d : Derivation) (v : ℕ) where
+  abbrev t : Table
+  t = c .entries
+
+  abbrev p : Proof
+  p = d .nodes
+
   -- the targets of the principal's operands
   abbrev pub A : ℕ
   A = targetA t (formula p v)
@@ -42,42 +49,50 @@ module _ (t : Table) (p : Proof) (v : ℕ) where
     pub of-kind : kind t (entryOf member) ≡ Kind.TRUE
     pub exactly : Same (sequent p v) (none plus member)
 
+  -- what a node owes its children, by its rule
+  pub data Step : Type 0 where
+    ax1 : rule p v ≡ Rule.AX1 → Clash → Step
+    ax2 : rule p v ≡ Rule.AX2 → Truth → Step
+    or : rule p v ≡ Rule.OR
+        → Principal Kind.OR
+        → Same (firstSequent p v) (side p v plus code A (focus p v) plus code B (focus p v))
+        → Step
+    and : rule p v ≡ Rule.AND
+        → Principal Kind.AND
+        → Same (firstSequent p v) (side p v plus code A (focus p v))
+        → Same (secondSequent p v) (side p v plus code B (focus p v))
+        → Step
+    box : rule p v ≡ Rule.BOX
+        → Principal Kind.BOX
+        → side p v ⊆ (λ x. kind t (entryOf x) ≡ Kind.DIAMOND)
+        → Same (firstSequent p v) (image (stepped t) (sequent p v))
+        → Step
+    mu : rule p v ≡ Rule.MU → Principal Kind.MU → Same (firstSequent p v) (side p v plus code A 0) → Step
+    nu : rule p v ≡ Rule.NU → Principal Kind.NU → Same (firstSequent p v) (side p v plus code A (focus p v)) → Step
+    weaken : rule p v ≡ Rule.W → Belongs p v → Same (firstSequent p v) (side p v) → Step
+    into-focus : rule p v ≡ Rule.F
+        → Belongs p v
+        → focus p v ≡ 0
+        → Same (firstSequent p v) (side p v plus code (formula p v) 1)
+        → Step
+    out-of-focus : rule p v ≡ Rule.U
+        → Belongs p v
+        → focus p v ≡ 1
+        → Same (firstSequent p v) (side p v plus code (formula p v) 0)
+        → Step
+    discharge : rule p v ≡ Rule.D → Same (firstSequent p v) (sequent p v) → Step
+
   -- linked to a proper ancestor of rule 10 with the same sequent
   pub record BackLeaf : Type 0 where
     pub companion : Ancestor p (node p v .back) v
     pub companion-rule : rule p (node p v .back) ≡ Rule.D
     pub same : Same (sequent p v) (sequent p (node p v .back))
 
+  -- what a leaf owes its tree
+  pub data Leaf : Type 0 where
+    back : rule p v ≡ Rule.BACK → BackLeaf → Leaf
+
   -- node v keeps its rule
   pub data Keeps : Type 0 where
-    ax1 : rule p v ≡ Rule.AX1 → Clash → Keeps
-    ax2 : rule p v ≡ Rule.AX2 → Truth → Keeps
-    or : rule p v ≡ Rule.OR
-        → Principal Kind.OR
-        → Same (firstSequent p v) (side p v plus code A (focus p v) plus code B (focus p v))
-        → Keeps
-    and : rule p v ≡ Rule.AND
-        → Principal Kind.AND
-        → Same (firstSequent p v) (side p v plus code A (focus p v))
-        → Same (secondSequent p v) (side p v plus code B (focus p v))
-        → Keeps
-    box : rule p v ≡ Rule.BOX
-        → Principal Kind.BOX
-        → side p v ⊆ (λ c. kind t (entryOf c) ≡ Kind.DIAMOND)
-        → Same (firstSequent p v) (image (stepped t) (sequent p v))
-        → Keeps
-    mu : rule p v ≡ Rule.MU → Principal Kind.MU → Same (firstSequent p v) (side p v plus code A 0) → Keeps
-    nu : rule p v ≡ Rule.NU → Principal Kind.NU → Same (firstSequent p v) (side p v plus code A (focus p v)) → Keeps
-    weaken : rule p v ≡ Rule.W → Belongs p v → Same (firstSequent p v) (side p v) → Keeps
-    into-focus : rule p v ≡ Rule.F
-        → Belongs p v
-        → focus p v ≡ 0
-        → Same (firstSequent p v) (side p v plus code (formula p v) 1)
-        → Keeps
-    out-of-focus : rule p v ≡ Rule.U
-        → Belongs p v
-        → focus p v ≡ 1
-        → Same (firstSequent p v) (side p v plus code (formula p v) 0)
-        → Keeps
-    discharge : rule p v ≡ Rule.D → Same (firstSequent p v) (sequent p v) → Keeps
-    back : rule p v ≡ Rule.BACK → BackLeaf → Keeps
+    by-children : Step → Keeps
+    by-tree : Leaf → Keeps

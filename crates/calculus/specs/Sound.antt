@@ -9,9 +9,11 @@ use Rattle.verdict.specs.Sets.{Set, Same, _⊆_, elements, image, image-⊆, �
 use Rattle.formula.specs.Table.{Table}
 use Rattle.formula.specs.Codes.{code, entryOf, code-entry}
 use Rattle.formula.specs.Nodes.{Proof, node}
+use Rattle.formula.specs.Claim.{Claim, Derivation}
 use Rattle.calculus.specs.Sequents.{sequent}
 use Rattle.calculus.specs.Paths.{ancestor-below}
 use Rattle.calculus.specs.CorrectNodes.{CorrectNodes}
+use Rattle.calculus.specs.Faults.{Claimed}
 use Rattle.meaning.specs.States.{Model}
 use Rattle.calculus.specs.Falsity.{Falsity}
 use Rattle.calculus.specs.Refutes.{Refutes, RefutesWithin, all-within}
@@ -26,33 +28,30 @@ all-or-some {P} d (x ∷ l) = go (d x) (all-or-some d l)
     go (yes q) (inl f) = inl (λ c n. ⊎-elim (λ (e : c ≡ x). subst P (sym e) q) (λ (k : List·Memᴰ c l). f c k) (List·Memᴰ·cases-cons n))
     go (yes q) (inr (c, n, k)) = inr (c, List·Memᴰ·tail n, k)
 
-module _ {t : Table} {m : Model} (M : Falsity t m) (p : Proof) (ok : CorrectNodes t p) where
+module _ (c : Claim) {m : Model} (M : Falsity (c .entries) m) (d : Derivation) (ok : CorrectNodes c d) where
+  abbrev p : Proof
+  p = d .nodes
+
   -- a refuted node has a refuted companion with a smaller number
   none-below : (n v : ℕ) → v < n → v < length p → (j s : ℕ) → RefutesWithin M j s (sequent p v) → ⊥
   none-below zero v h real j s r = omega arith
   none-below (suc n) v h real j s r =
-      let ρ = every-node M p ok v real j s r in
+      let ρ = every-node c M d ok v real j s r in
       let up = ancestor-below (ok .tree) (ρ .above) in
-      none-below n (companion (ρ .to)) (omega arith) (omega arith) (ρ .to .rank) (ρ .to .state) (companion-refuted M p (ρ .to))
+      none-below n (companion (ρ .to)) (omega arith) (omega arith) (ρ .to .rank) (ρ .to .state) (companion-refuted c M d (ρ .to))
 
   -- not the root alone: no node
   pub no-node-refuted : (v : ℕ) → v < length p → (s : ℕ) → Refutes M s (sequent p v) → ⊥
   no-node-refuted v real s r =
-      let (j, f) = all-within M s (r .inside) (node p v .codes) (λ c n. ok .members v c real n) (r .all) in
+      let (j, f) = all-within M s (r .inside) (node p v .codes) (λ x n. ok .members v x real n) (r .all) in
       none-below (suc v) v (omega arith) real j s (record { inside = r .inside; all = f })
 
   pub root-not-refuted : 0 < length p → (s : ℕ) → Refutes M s (sequent p 0) → ⊥
   root-not-refuted = no-node-refuted 0
 
   -- the root's members are the claim's, all in focus
-  pub claim-not-refuted : 0 < length p
-      → (claim : List ℕ)
-      → Same (sequent p 0) (image (λ e. code e 1) (elements claim))
-      → (s : ℕ)
-      → s < m .size
-      → ((e : ℕ) → List·Memᴰ e claim → M .false-at e s)
-      → ⊥
-  claim-not-refuted real claim same s h f = root-not-refuted real s (record {
+  pub claim-not-refuted : 0 < length p → Claimed c d → (s : ℕ) → s < m .size → ((e : ℕ) → List·Memᴰ e (c .members) → M .false-at e s) → ⊥
+  claim-not-refuted real same s h f = root-not-refuted real s (record {
     inside = h;
-    all = ⊆-trans (same .into) (image-⊆ (λ c. M .false-at (entryOf c) s) (λ e. code e 1) (λ e n. rw (code-entry e 1 (omega arith)) (f e n)));
+    all = ⊆-trans (same .into) (image-⊆ (λ x. M .false-at (entryOf x) s) (λ e. code e 1) (λ e n. rw (code-entry e 1 (omega arith)) (f e n)));
   })
