@@ -4,19 +4,18 @@ use mathlib.Core.List.{List}
 use mathlib.Core.Bool.{Bool, true, false, not}
 use Prim.Native.Nat.{ℕ, _<_, _≤_}
 use native.Mathlib.Omega.{arith}
-use lib.ListN.{length}
+use lib.ListN.{length, take, drop, length-append}
+use lib.Seq.{take-append-seam}
 use borrow.Author.Tests.{not-true, not-false}
-use Rattle.verdict.specs.Verdict as verdicts
 use Rattle.verdict.specs.Lists.{written}
-use Rattle.verdict.specs.Shown.{shown}
-use Rattle.verdict.specs.declared.Verdict.{Verdict}
-use Rattle.verdict.specs.declared.Verdict.the-variants.{Accepted, Refused}
-use Rattle.formula.specs.Table.{Table}
+use Rattle.formula.specs.Table.{Entry, Table}
 use Rattle.formula.specs.Claim.{Claim}
-use Rattle.formula.specs.Columns.{kindColumn, aColumn, bColumn}
+use Rattle.formula.specs.Plain.{tableOf}
+use Rattle.formula.specs.Held.{ClaimHeld}
+use Rattle.formula.specs.Columns.{column, column-length, kindColumn, aColumn, bColumn, table-of-columns}
 use Rattle.encoding.specs.Parse.{Got, fault, got, bind}
 use Rattle.encoding.specs.File.{Reading, refused, good, ending}
-use Rattle.encoding.specs.Outcome.{verdictOf}
+use Rattle.encoding.specs.Outcome.{RefusedWith}
 use Rattle.encoding.specs.Opening.{opens, begins-tells}
 use Rattle.claims.specs.ClaimFile.{claimOpening}
 use Rattle.claims.specs.ReadClaim.{early, entries, members, claimOf, body, readClaim}
@@ -24,69 +23,48 @@ use Rattle.encoding.specs.Walk.{file-opens, file-closed, bytes-follow, none-fol
 use Rattle.claims.specs.ClaimEntries.{ListRead, EntryArrays, EntriesStored, entriesAt}
 use Rattle.claims.specs.ClaimMembers.{MembersStored, membersAt, members-same}
 use Rattle.claims.specs.declared.ClaimRead.{ClaimRead}
+use Rattle.claims.specs.declared.ClaimRead.the-variants.{Read, Refused}
 
 -- the arrays that a claim is decoded into
 pub record ClaimArrays (ks xs ys ms : List ℕ) : Type 0 where
   pub entries : EntryArrays ks xs ys
   pub members : length ms ≡ 24
 
--- what a reading leaves: the whole decoding, and on a refusal nothing
-abbrev pub entryCount : Reading Claim → ℕ
-entryCount (refused n q) = 0
-entryCount (good c) = length (c .entries)
+-- the file is a claim, of n entries and k members, and is held
+pub record ClaimGot (r : Reading Claim) (ks xs ys ms : List ℕ) (n k : ℕ) : Type 0 where
+  pub claim : Claim
+  pub was : r ≡ good claim
+  pub held : ClaimHeld claim ks xs ys n ms k
 
-abbrev pub memberCount : Reading Claim → ℕ
-memberCount (refused n q) = 0
-memberCount (good c) = length (c .members)
+-- the answer of one walk; a refused file may leave a part of its decoding
+abbrev pub ClaimTells : Reading Claim → List ℕ → List ℕ → List ℕ → List ℕ → ClaimRead → Type 0
+ClaimTells r ks xs ys ms (Read n k) = ClaimGot r ks xs ys ms n k
+ClaimTells r ks xs ys ms (Refused n q) = RefusedWith r n q
 
-abbrev pub kindsAfter : Reading Claim → List ℕ → List ℕ
-kindsAfter (refused n q) old = old
-kindsAfter (good c) old = written (kindColumn (c .entries)) old
+abbrev pub refusal : ℕ → ℕ → ClaimRead
+refusal n q = Refused n q
 
-abbrev pub aAfter : Reading Claim → List ℕ → List ℕ
-aAfter (refused n q) old = old
-aAfter (good c) old = written (aColumn (c .entries)) old
+pub claim-refused : {r : Reading Claim} (ks xs ys ms : List ℕ) {w : ClaimRead} {n q : ℕ} → (w ≡ refusal n q) × (n < 65536) × (q < 65536) → r ≡ refused n q → ClaimTells r ks xs ys ms w
+claim-refused ks xs ys ms (e, a, b) h = rw e (record { was = h; small = (a, b) })
 
-abbrev pub bAfter : Reading Claim → List ℕ → List ℕ
-bAfter (refused n q) old = old
-bAfter (good c) old = written (bColumn (c .entries)) old
+-- a column that was written is there whole
+column-there : (f : Entry → ℕ) (t : Table) (old : List ℕ) → length t ≤ length (written (column f t) old)
+column-there f t old = omega (arith, length-append (column f t) (drop (length (column f t)) old), column-length f t)
 
-abbrev pub membersAfter : Reading Claim → List ℕ → List ℕ
-membersAfter (refused n q) old = old
-membersAfter (good c) old = written (c .members) old
-
--- the counts, and the kinds, As, Bs and members before and after
-pub record Decoded (r : Reading Claim) (n m : ℕ) (ks₀ ks xs₀ xs ys₀ ys ms₀ ms : List ℕ) : Type 0 where
-  pub entries : n ≡ entryCount r
-  pub members : m ≡ memberCount r
-  pub kinds : ks ≡ kindsAfter r ks₀
-  pub a-fields : xs ≡ aAfter r xs₀
-  pub b-fields : ys ≡ bAfter r ys₀
-  pub list : ms ≡ membersAfter r ms₀
-
--- the answer of one walk: the verdict, and the decoding if the file is accepted
-pub record Scanned (r : Reading Claim) (w : ClaimRead) (ks₀ ks xs₀ xs ys₀ ys ms₀ ms : List ℕ) : Type 0 where
-  pub verdict : shown (w .verdict) ≡ verdictOf r
-  pub decoded : verdictOf r ≡ verdicts.accepted → Decoded r (w .entries) (w .members) ks₀ ks xs₀ xs ys₀ ys ms₀ ms
-
-abbrev pub refusedWith : ℕ → ℕ → ClaimRead
-refusedWith n q = record { verdict = Refused n q; entries = 0; members = 0 }
-
-not-accepted : {n q : ℕ} → verdicts.refused n q ≡ verdicts.accepted → ⊥
-not-accepted h = let z : _≡_ {A = ℕ} 0 1 = cc in omega arith
-
-module _ {r : Reading Claim} {ks₀ ks xs₀ xs ys₀ ys ms₀ ms : List ℕ} where
-  pub scanned-refused : {w : ClaimRead} {n q : ℕ} → w ≡ refusedWith n q → r ≡ refused n q → Scanned r w ks₀ ks xs₀ xs ys₀ ys ms₀ ms
-  scanned-refused e f = record { verdict = rw (e, f) refl; decoded = λ h. absurd (not-accepted (sym (ap verdictOf f) ∙ h)) }
-
-  scanned-good : {es : Table} {l : List ℕ} {n m : ℕ} → r ≡ good (record { entries = es; members = l }) → EntriesStored ks₀ ks xs₀ xs ys₀ ys es → length es ≡ n → MembersStored ms₀ ms l → length l ≡ m
-      → Scanned r (record { verdict = Accepted; entries = n; members = m }) ks₀ ks xs₀ xs ys₀ ys ms₀ ms
-  scanned-good f x i y j =
-      record {
-        verdict = rw f refl;
-        decoded = λ h. record
-            { entries = rw f (sym i); members = rw f (sym j); kinds = rw f (x .kinds); a-fields = rw f (x .a-fields); b-fields = rw f (x .b-fields); list = rw f (y .members) };
-      }
+module _ {ks₀ ks xs₀ xs ys₀ ys ms₀ ms : List ℕ} {es : Table} {l : List ℕ} (x : EntriesStored ks₀ ks xs₀ xs ys₀ ys es) (y : MembersStored ms₀ ms l) where
+  stored-held : {n k : ℕ} → length es ≡ n → n ≤ 256 → length l ≡ k → k ≤ 24 → ClaimHeld (record { entries = es; members = l }) ks xs ys n ms k
+  stored-held {n} {k} i a j b = record {
+    same = rw (← i, ← j, x .kinds, x .a-fields, x .b-fields, y .members) (ap (λ (c : Table × List ℕ). claimOf c) both);
+    entries = a;
+    kinds = rw (← i, x .kinds) (column-there (λ r. r .kind) es ks₀);
+    a-fields = rw (← i, x .a-fields) (column-there (λ r. r .a) es xs₀);
+    b-fields = rw (← i, x .b-fields) (column-there (λ r. r .b) es ys₀);
+    members = b;
+    listed = rw (← j, y .members) (omega (arith, length-append l (drop (length l) ms₀)));
+  }
+    where
+      both : _≡_ {A = Table × List ℕ} (tableOf (written (kindColumn es) ks₀) (written (aColumn es) xs₀) (written (bColumn es) ys₀) (length es), take (length l) (written l ms₀)) (es, l)
+      both = rw (table-of-columns es ks₀ xs₀ ys₀, take-append-seam l (drop (length l) ms₀)) refl
 
 module _ (s : List ℕ) {opened : Bool} (test : opened ≡ opens claimOpening s) where
   pub claim-closed : not opened ≡ true → readClaim s ≡ refused 10 0
@@ -128,32 +106,9 @@ module _ (s : List ℕ) {opened : Bool} (test : opened ≡ opens claimOpening s)
         claim-whole : length s ≤ z → readClaim s ≡ good (record { entries = x .list; members = y .list })
         claim-whole f = claim-members ∙ ap (after-members (x .list)) (y .reached .found) ∙ none-follow early s (claimOf (x .list, y .list)) z f
 
-        pub claim-scanned : length s ≤ z → Scanned (readClaim s) (record { verdict = Accepted; entries = n; members = m }) ks₀ ks xs₀ xs ys₀ ys ms₀ ms
-        claim-scanned f = scanned-good (claim-whole f) (x .stored) (x .many) (y .stored) (y .many)
-
--- the answer on a file: the verdict, and the decoding, or everything as it was
-pub record ClaimAnswered (r : Reading Claim) (w : ClaimRead) (ks₀ ks xs₀ xs ys₀ ys ms₀ ms : List ℕ) : Type 0 where
-  pub verdict : shown (w .verdict) ≡ verdictOf r
-  pub decoded : Decoded r (w .entries) (w .members) ks₀ ks xs₀ xs ys₀ ys ms₀ ms
-
-refused-reading : (r : Reading Claim) {n q : ℕ} → verdicts.refused n q ≡ verdictOf r → r ≡ refused n q
-refused-reading (refused m p) {n} {q} h = let i : m ≡ n = cc in let j : p ≡ q = cc in rw (i, j) refl
-refused-reading (good c) {n} {q} h = absurd (not-accepted h)
-
--- by the verdict that was judged first
-module _ (r : Reading Claim) {v : Verdict} (judged : shown v ≡ verdictOf r) where
-  pub answered-refused : {w : ClaimRead} {n q : ℕ} {ks xs ys ms : List ℕ} → v ≡ Refused n q → w ≡ refusedWith n q → ClaimAnswered r w ks ks xs xs ys ys ms ms
-  answered-refused e i =
-      let f = refused-reading r (sym (ap shown e) ∙ judged) in
-      record {
-        verdict = rw (i, f) refl;
-        decoded = record { entries = rw (i, f) refl; members = rw (i, f) refl; kinds = rw f refl; a-fields = rw f refl; b-fields = rw f refl; list = rw f refl };
-      }
-
-  module _ (e : v ≡ Accepted) where
-    pub judged-accepted : verdictOf r ≡ verdicts.accepted
-    judged-accepted = sym judged ∙ ap shown e
-
-    pub answered-accepted : {n m : ℕ} {ks₀ ks xs₀ xs ys₀ ys ms₀ ms : List ℕ} → Decoded r n m ks₀ ks xs₀ xs ys₀ ys ms₀ ms
-        → ClaimAnswered r (record { verdict = Accepted; entries = n; members = m }) ks₀ ks xs₀ xs ys₀ ys ms₀ ms
-    answered-accepted d = record { verdict = sym judged-accepted; decoded = d }
+        pub claim-got : length s ≤ z → ClaimGot (readClaim s) ks xs ys ms n m
+        claim-got f = record {
+          claim = record { entries = x .list; members = y .list };
+          was = claim-whole f;
+          held = stored-held (x .stored) (y .stored) (x .many) (x .few) (y .many) (y .few);
+        }

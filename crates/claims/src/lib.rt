@@ -1,11 +1,8 @@
 // Claim files: the first fault in the order of the bytes (10 to 14), and the table and members of a file that has none.
 ghost use mathlib.Core.Path.{_≡_};
-ghost use Prim.Native.Nat.{_+_, _*_, _≤_};
+ghost use Prim.Native.Nat.{_+_, _*_, _<_, _≤_};
 ghost use lib.ListN.{length};
-ghost use Rattle.verdict.specs.Verdict.{accepted};
-ghost use Rattle.verdict.specs.Shown.{shown};
 ghost use Rattle.encoding.specs.Opening.{opens};
-ghost use Rattle.encoding.specs.Outcome.{verdictOf};
 ghost use Rattle.claims.specs.ClaimFile.{claimOpening};
 ghost use Rattle.claims.specs.ReadClaim.{kind-fits, readClaim};
 ghost use Rattle.encoding.specs.Places.{InFile};
@@ -13,14 +10,13 @@ ghost use Rattle.claims.specs.Numbers.{NumberTells};
 ghost use Rattle.claims.specs.ClaimEntry.{entryAt, EntryTells};
 ghost use Rattle.claims.specs.ClaimEntries.{PartTells, EntryArrays, EntriesStored, entriesAt, entriesFrom};
 ghost use Rattle.claims.specs.ClaimMembers.{mayFollow, memberAt, MembersStored, membersAt, membersFrom};
-ghost use Rattle.claims.specs.ClaimWalk.{ClaimArrays, Decoded, Scanned, ClaimAnswered, refusedWith};
+ghost use Rattle.claims.specs.ClaimWalk.{ClaimArrays, ClaimTells, refusal};
 use crate::number::Number;
 use crate::number::count_at;
 use crate::number::field_at;
 use crate::number::two_at;
 use encoding::opens;
 use formula::Kind;
-use verdict::Verdict;
 
 mod number; // number.rt: two-byte numbers at a place of a file
 
@@ -62,17 +58,10 @@ enum Part {
     Refused { number: u16, place: u16 },
 }
 
-// The verdict on a file, and the counts of a claim, 0 where it is refused.
-pub struct ClaimRead {
-    pub verdict: Verdict,
-    pub entries: usize,
-    pub members: usize,
-}
-
-// How many entries and members a claim has.
-struct ClaimCounts {
-    pub entries: usize,
-    pub members: usize,
+// A claim's counts, or its refusal. Number and place are whole words: what is stored in halves and loaded at once has to wait.
+pub enum ClaimRead {
+    Read { entries: usize, members: usize },
+    Refused { number: usize, place: usize },
 }
 
 // Whether the bytes open as a claim file does.
@@ -271,17 +260,16 @@ fn read_members(
 }
 
 fn refuse(number: u16, place: u16) -> ClaimRead
-    ensures { λ r. ⌜ r ≡ refusedWith number place ⌝ }
+    ensures { λ r. ⌜ (r ≡ refusal number place) × (number < 65536) × (place < 65536) ⌝ }
 {
-    ClaimRead {
-        verdict: Verdict::Refused { number, place },
-        entries: 0,
-        members: 0,
+    ClaimRead::Refused {
+        number: number as usize,
+        place: place as usize,
     }
 }
 
 // The whole file in one walk. A refused file may leave a part of its decoding in the arrays.
-fn scan_claim(
+pub fn read_claim(
     bytes: &[u8],
     kinds: &mut [u8; 256],
     a: &mut [u16; 256],
@@ -289,8 +277,7 @@ fn scan_claim(
     members: &mut [u16; 24],
 ) -> ClaimRead
     requires { ⌜ ClaimArrays (now kinds) (now a) (now b) (now members) ⌝ }
-    ensures { λ r. ⌜ Scanned (readClaim (now (bytes .entry))) r (now (kinds .entry)) (now (kinds .exit)) (now (a .entry)) (now (a .exit))
-        (now (b .entry)) (now (b .exit)) (now (members .entry)) (now (members .exit)) ⌝ }
+    ensures { λ r. ⌜ ClaimTells (readClaim (now (bytes .entry))) (now (kinds .exit)) (now (a .exit)) (now (b .exit)) (now (members .exit)) r ⌝ }
 {
     if !opens_claim(bytes) {
         return refuse(ClaimFault::OPENING, 0);
@@ -310,70 +297,11 @@ fn scan_claim(
                     if end < bytes.len() {
                         return refuse(ClaimFault::LENGTH, end as u16);
                     }
-                    ClaimRead {
-                        verdict: Verdict::Accepted,
-                        entries: entries,
+                    ClaimRead::Read {
+                        entries,
                         members: listed,
                     }
                 }
-            }
-        }
-    }
-}
-
-// What a file earns as a claim, 10 to 14 at their places. Nothing that is lent is written.
-fn judge_claim(bytes: &[u8]) -> Verdict
-    ensures { λ r. ⌜ shown r ≡ verdictOf (readClaim (now (bytes .entry))) ⌝ }
-{
-    let mut kinds = [0u8; 256];
-    let mut a = [0u16; 256];
-    let mut b = [0u16; 256];
-    let mut members = [0u16; 24];
-    let read = scan_claim(bytes, &mut kinds, &mut a, &mut b, &mut members);
-    read.verdict
-}
-
-// The decoding of a file that is a claim, and nothing beyond it.
-fn decode_claim(
-    bytes: &[u8],
-    kinds: &mut [u8; 256],
-    a: &mut [u16; 256],
-    b: &mut [u16; 256],
-    members: &mut [u16; 24],
-) -> ClaimCounts
-    requires { ⌜ verdictOf (readClaim (now bytes)) ≡ accepted ⌝ }
-    requires { ⌜ ClaimArrays (now kinds) (now a) (now b) (now members) ⌝ }
-    ensures { λ r. ⌜ Decoded (readClaim (now (bytes .entry))) (r .entries) (r .members) (now (kinds .entry)) (now (kinds .exit)) (now (a .entry))
-        (now (a .exit)) (now (b .entry)) (now (b .exit)) (now (members .entry)) (now (members .exit)) ⌝ }
-{
-    let read = scan_claim(bytes, kinds, a, b, members);
-    ClaimCounts {
-        entries: read.entries,
-        members: read.members,
-    }
-}
-
-// A refused file writes nothing, so it is judged before it is decoded.
-pub fn read_claim(
-    bytes: &[u8],
-    kinds: &mut [u8; 256],
-    a: &mut [u16; 256],
-    b: &mut [u16; 256],
-    members: &mut [u16; 24],
-) -> ClaimRead
-    requires { ⌜ ClaimArrays (now kinds) (now a) (now b) (now members) ⌝ }
-    ensures { λ r. ⌜ ClaimAnswered (readClaim (now (bytes .entry))) r (now (kinds .entry)) (now (kinds .exit)) (now (a .entry)) (now (a .exit))
-        (now (b .entry)) (now (b .exit)) (now (members .entry)) (now (members .exit)) ⌝ }
-{
-    let verdict = judge_claim(bytes);
-    match verdict {
-        Verdict::Refused { number, place } => refuse(number, place),
-        Verdict::Accepted => {
-            let counts = decode_claim(bytes, kinds, a, b, members);
-            ClaimRead {
-                verdict: Verdict::Accepted,
-                entries: counts.entries,
-                members: counts.members,
             }
         }
     }

@@ -20,4 +20,5 @@ pub mod Plain
 pub mod Columns
 pub mod PlainNodes
 pub mod NodeColumns
+pub mod Held
 pub mod CodeCounts
