@@ -1,4 +1,3 @@
 pub mod ProofDecode
 pub mod ProofStored
 pub mod ProofGood
-pub mod ProofAnswer

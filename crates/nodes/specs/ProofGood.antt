@@ -11,8 +11,9 @@ use lib.ListN.{length, getD, drop}
 use Rattle.verdict.specs.Tells.{fails}
 use Rattle.formula.specs.Table.{Table}
 use Rattle.formula.specs.Nodes.{Node, Proof}
+use Rattle.formula.specs.Claim.{Claim, Derivation}
 use Rattle.encoding.specs.Parse.{Got, fault, got, bind, times, in-range, fits-from}
-use Rattle.encoding.specs.File.{refused, good, ending}
+use Rattle.encoding.specs.File.{refused, good}
 use Rattle.encoding.specs.FileLaws.{refused-not-good, good-same}
 use Rattle.encoding.specs.GotLaws.{fault-not-got, same-value, bind-got}
 use Rattle.encoding.specs.ListLaws.{range-tells}
@@ -20,11 +21,11 @@ use Rattle.encoding.specs.Places.{wordAt}
 use Rattle.encoding.specs.Opening.{opens}
 use Rattle.encoding.specs.Walk.{Reached}
 use Rattle.proofs.specs.ProofFile.{proofOpening}
-use Rattle.proofs.specs.ReadProof.{early, rule-fits, isCode, sequent, made, node, readProof}
+use Rattle.proofs.specs.ReadProof.{rule-fits, isCode, sequent, made, node, readProof}
 use Rattle.proofs.specs.ProofParts.{heading, oneCode, afterCode, codesOf, nodesOf}
 use Rattle.proofs.specs.ProofHead.{head-cut, head-unfit, head-short, head-whole}
 use Rattle.proofs.specs.ProofLaws.{code-cut, code-unfit, code-fits, sequent-cut, sequent-unfit, sequent-codes, node-stops, node-empty, node-codes, node-codes-stop}
-use Rattle.proofs.specs.ProofWhole.{not-opened, no-count, count-unfit, counted}
+use Rattle.proofs.specs.ProofWhole.{ended, not-opened, no-count, count-unfit, counted}
 use Rattle.nodes.specs.ProofDecode.{wordsAt, codesPlace, nodeEnd, nodeLinks, nodeAt, NodeFits, with-codes, no-codes, nodesAt, NodesFit, no-node, one-more, proofIn, Decodes}
 
 -- something was read
@@ -170,30 +171,31 @@ module _ (t : Table) (s : List ℕ) where
     pub decodes : Decodes s
     pub same : p ≡ proofIn s
 
-  nodes-found : {p : Proof} → 6 ≤ length s → wordAt s 4 ≤ 1024 → (g : Got Proof) → nodesOf t (wordAt s 4) s ≡ g → ending early g ≡ good p → Decoded p
+module _ (c : Claim) (s : List ℕ) where
+  nodes-found : {d : Derivation} → 6 ≤ length s → wordAt s 4 ≤ 1024 → (g : Got Proof) → nodesOf (c .entries) (wordAt s 4) s ≡ g → ended g ≡ good d → Decoded (c .entries) s (d .nodes)
   unfolding nodesOf
   nodes-found l k (fault n q) e h = absurd (refused-not-good h)
   nodes-found l k (got x [] o) e h =
-      let (f, i) = nodes-read (wordAt s 4) 6 l (record { value = x; rest = []; place = o; was = e }) in
-      record { decodes = record { long = l; few = k; fit = f }; same = good-same (sym h) ∙ i }
+      let (f, i) = nodes-read (c .entries) s (wordAt s 4) 6 l (record { value = x; rest = []; place = o; was = e }) in
+      record { decodes = record { long = l; few = k; fit = f }; same = ap (λ (d : Derivation). d .nodes) (good-same (sym h)) ∙ i }
   nodes-found l k (got x (y ∷ r) o) e h = absurd (refused-not-good h)
 
-  pub good-decoded : {p : Proof} → readProof t s ≡ good p → Decoded p
-  good-decoded {p} h = opening (opens proofOpening s) refl
+  pub good-decoded : {d : Derivation} → readProof c s ≡ good d → Decoded (c .entries) s (d .nodes)
+  good-decoded {d} h = opening (opens proofOpening s) refl
     where
-      refuses : {n q : ℕ} → readProof t s ≡ refused n q → ⊥
+      refuses : {n q : ℕ} → readProof c s ≡ refused n q → ⊥
       refuses e = refused-not-good (sym e ∙ h)
 
-      count : (o : opens proofOpening s ≡ true) (l : 6 ≤ length s) (b : Bool) → in-range 1024 (wordAt s 4) ≡ b → Decoded p
+      count : (o : opens proofOpening s ≡ true) (l : 6 ≤ length s) (b : Bool) → in-range 1024 (wordAt s 4) ≡ b → Decoded (c .entries) s (d .nodes)
       count o l true e =
           let k = range-tells 1024 (wordAt s 4) .says e in
-          nodes-found l (k .1) (nodesOf t (wordAt s 4) s) refl (sym (counted t s o l k) ∙ h)
-      count o l false e = absurd (refuses (count-unfit t s o l (fails (range-tells 1024 (wordAt s 4)) e)))
+          nodes-found l (k .1) (nodesOf (c .entries) (wordAt s 4) s) refl (sym (counted c s o l k) ∙ h)
+      count o l false e = absurd (refuses (count-unfit c s o l (fails (range-tells 1024 (wordAt s 4)) e)))
 
-      room : opens proofOpening s ≡ true → Dec (length s < 6) → Decoded p
-      room o (yes l) = absurd (refuses (no-count t s o l))
+      room : opens proofOpening s ≡ true → Dec (length s < 6) → Decoded (c .entries) s (d .nodes)
+      room o (yes l) = absurd (refuses (no-count c s o l))
       room o (no l) = count o (omega arith) (in-range 1024 (wordAt s 4)) refl
 
-      opening : (b : Bool) → opens proofOpening s ≡ b → Decoded p
+      opening : (b : Bool) → opens proofOpening s ≡ b → Decoded (c .entries) s (d .nodes)
       opening true o = room o (decLt (length s) 6)
-      opening false o = absurd (refuses (not-opened t s o))
+      opening false o = absurd (refuses (not-opened c s o))

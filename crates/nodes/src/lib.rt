@@ -5,15 +5,11 @@ ghost use lib.ListN.{length, set};
 ghost use lib.Seq.{sets};
 ghost use Rattle.bits.specs.IfSet.{ifSet};
 ghost use Rattle.formula.specs.Fields.{linkWidth};
-ghost use Rattle.proofs.specs.ReadProof.{readProof};
-ghost use Rattle.proofs.specs.ProofParts.{kindTable, fieldAt, linksAt};
+ghost use Rattle.proofs.specs.ProofParts.{fieldAt, linksAt};
 ghost use Rattle.nodes.specs.ProofDecode.{codeCount, wordsAt, nodeLinks, nodeAt, nodeEnd, NodeFits, setLinks, proofIn, Decodes};
 ghost use Rattle.nodes.specs.ProofStored.{NodeArrays, NodesStored};
-ghost use Rattle.nodes.specs.ProofAnswer.{ProofDone};
 use encoding::word_at;
 use formula::Rule;
-use proofs::judge_proof;
-use verdict::Verdict;
 
 // A field at a place: 0 where it does not stand.
 fn field_at(bytes: &[u8], at: usize, stands: bool) -> u16
@@ -133,39 +129,4 @@ pub fn node_count(bytes: &[u8]) -> usize
     ensures { λ r. ⌜ r ≡ length (proofIn (now (bytes .entry))) ⌝ }
 {
     word_at(bytes, 4) as usize
-}
-
-// The verdict on a proof, and how many nodes it has.
-pub struct ProofRead {
-    pub verdict: Verdict,
-    pub nodes: usize,
-}
-
-// The bytes of a proof, judged and, where nothing is wrong with them, decoded: a refusal writes nothing.
-pub fn read_proof(
-    bytes: &[u8],
-    kinds: &[u8; 256],
-    count: usize,
-    rules: &mut [u8; 1024],
-    links: &mut [u16; 4096],
-    starts: &mut [u16; 1025],
-    codes: &mut [u16],
-) -> ProofRead
-    requires { ⌜ (count ≤ 256) × NodeArrays (now rules) (now links) (now starts) (now codes) ⌝ }
-    ensures { λ r. ⌜ ProofDone (readProof (kindTable (now (kinds .entry)) count) (now (bytes .entry))) r (now (rules .entry)) (now (links .entry))
-        (now (starts .entry)) (now (codes .entry)) (now (rules .exit)) (now (links .exit)) (now (starts .exit)) (now (codes .exit)) ⌝ }
-{
-    match judge_proof(bytes, kinds, count) {
-        Verdict::Refused { number, place } => ProofRead {
-            verdict: Verdict::Refused { number, place },
-            nodes: 0,
-        },
-        Verdict::Accepted => {
-            let nodes = decode_proof(bytes, rules, links, starts, codes);
-            ProofRead {
-                verdict: Verdict::Accepted,
-                nodes,
-            }
-        }
-    }
 }

@@ -22,7 +22,7 @@ use Rattle.proofs.specs.ProofParts.{nodesOf}
 use Rattle.proofs.specs.ProofLaws.{nodes-cut, nodes-unfit, nodes-counted}
 
 -- what the nodes make of a file
-abbrev ended : Got Proof → Reading Derivation
+abbrev pub ended : Got Proof → Reading Derivation
 ended g = ending early (bind g (λ p r o. got (derivationOf p) r o))
 
 module _ (c : Claim) (s : List ℕ) where
