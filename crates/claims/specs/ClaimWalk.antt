@@ -41,6 +41,14 @@ abbrev pub ClaimTells : Reading Claim → List ℕ → List ℕ → List ℕ →
 ClaimTells r ks xs ys ms (Read n k) = ClaimGot r ks xs ys ms n k
 ClaimTells r ks xs ys ms (Refused n q) = RefusedWith r n q
 
+-- what holds of the answer in an arm that knows which it is
+module _ {r : Reading Claim} (ks xs ys ms : List ℕ) {w : ClaimRead} (t : ClaimTells r ks xs ys ms w) where
+  pub claim-as-read : {n k : ℕ} → w ≡ Read n k → ClaimGot r ks xs ys ms n k
+  claim-as-read e = rw e at t
+
+  pub claim-as-refused : {n q : ℕ} → w ≡ Refused n q → RefusedWith r n q
+  claim-as-refused e = rw e at t
+
 abbrev pub refusal : ℕ → ℕ → ClaimRead
 refusal n q = Refused n q
 

@@ -1,49 +1,45 @@
--- a claim and a proof by bytes, with the claim's table judged between them: all that comes before the rules
-use mathlib.Core.List.{List, []}
+-- the files as document 01 orders them: the claim by bytes, its table, then the file beside it
+use mathlib.Core.List.{List}
 use Prim.Native.Nat.{ℕ}
 use Rattle.verdict.specs.Verdict as verdicts
 use Rattle.verdict.specs.Verdict.{Verdict, accepted}
 use Rattle.encoding.specs.File.{Reading, refused, good}
-use Rattle.formula.specs.Table.{Table}
-use Rattle.formula.specs.Nodes.{Proof}
+use Rattle.formula.specs.Claim.{Claim, Derivation}
 use Rattle.conditions.specs.Judge.{judgeTable}
 use Rattle.claims.specs.ReadClaim.{readClaim}
 use Rattle.proofs.specs.ReadProof.{readProof}
 
--- refused before the rules, or the claim's table, its members and the proof
-pub data Files : Type 0 where
-  unread : ℕ → ℕ → Files
-  readable : Table → List ℕ → Proof → Files
-
--- the proof by bytes
-abbrev pub afterProof : Table → List ℕ → Reading Proof → Files
-afterProof t ms (refused n q) = unread n q
-afterProof t ms (good p) = readable t ms p
-
--- 20 over all entries, then 21, 22, 23 entry by entry; or whatever else stands first
-abbrev pub firstly : Verdict → Files → Files
+-- whatever stands first, and then a reading
+abbrev pub firstly : {A : Type 0} → Verdict → Reading A → Reading A
 firstly accepted next = next
-firstly (verdicts.refused n q) next = unread n q
+firstly (verdicts.refused n q) next = refused n q
 
-abbrev pub withProof : Table → List ℕ → List ℕ → Files
-withProof t ms proof = afterProof t ms (readProof t proof)
+-- a reading in sight of what was read before
+abbrev pub andThen : {A B : Type 0} → Reading A → (A → Reading B) → Reading B
+andThen (refused n q) next = refused n q
+andThen (good x) next = next x
 
-abbrev pub withTable : Table → List ℕ → List ℕ → Files
-withTable t ms proof = firstly (judgeTable t) (withProof t ms proof)
+-- 20 over all entries, then 21, 22, 23 entry by entry
+abbrev pub formed : Claim → Reading Claim
+formed c = firstly (judgeTable (c .entries)) (good c)
 
-abbrev pub afterClaim : Reading (Table × List ℕ) → List ℕ → Files
-afterClaim (refused n q) proof = unread n q
-afterClaim (good c) proof = withTable (c .0) (c .1) proof
+-- 10 to 14, then 20 to 23: a well-formed claim
+unfoldable pub readFormed : List ℕ → Reading Claim
+unfolding readClaim judgeTable
+readFormed claim = andThen (readClaim claim) formed
 
-unfoldable pub files : List ℕ → List ℕ → Files
-unfolding readClaim judgeTable readProof
-files claim proof = afterClaim (readClaim claim) proof
+-- a claim and a proof over it, both well formed by bytes
+pub record Files : Type 0 where
+  pub claim : Claim
+  pub proof : Derivation
 
--- the table of a claim file, and none of a file that is no claim
-abbrev pub tableRead : Reading (Table × List ℕ) → Table
-tableRead (refused n q) = []
-tableRead (good c) = c .0
+abbrev pub withProof : Claim → Derivation → Reading Files
+withProof c d = good (record { claim = c; proof = d })
 
-unfoldable pub tableIn : List ℕ → Table
-unfolding readClaim
-tableIn claim = tableRead (readClaim claim)
+-- then 30 to 34: all that comes before the rules
+abbrev pub beside : List ℕ → Claim → Reading Files
+beside proof c = andThen (readProof c proof) (withProof c)
+
+unfoldable pub files : List ℕ → List ℕ → Reading Files
+unfolding readFormed readProof
+files claim proof = andThen (readFormed claim) (beside proof)

@@ -1,44 +1,22 @@
--- what was found of a claim and a proof, in plain numbers
+-- what was found of a claim and a proof
 use mathlib.Core.Path.{_≡_}
 use mathlib.Core.List.{List}
 use Prim.Native.Nat.{ℕ}
-use lib.ListN.{length, take, replicate}
-use Rattle.verdict.specs.Verdict as verdicts
-use Rattle.verdict.specs.Verdict.{Verdict, accepted}
-use Rattle.verdict.specs.Shown.{shown}
-use Rattle.formula.specs.Table.{Table}
-use Rattle.formula.specs.Nodes.{Proof}
-use Rattle.encoding.specs.Encode.{Bytes}
-use Rattle.reader.specs.Files.{Files, unread, readable, files, firstly}
-use Rattle.reader.specs.declared.Found.{Found}
+use lib.ListN.{length}
+use Rattle.encoding.specs.File.{Reading, good}
+use Rattle.encoding.specs.Outcome.{RefusedWith}
+use Rattle.formula.specs.Held.{ClaimHeld}
+use Rattle.reader.specs.Files.{Files}
+use Rattle.reader.specs.declared.FilesRead.{FilesRead}
+use Rattle.reader.specs.declared.FilesRead.the-variants.{Read, Refused}
 
--- a refusal: no entry, no member and no node
-pub record Unread (n q : ℕ) (f : Found) : Type 0 where
-  pub verdict : shown (f .verdict) ≡ verdicts.refused n q
-  pub entries : f .entries ≡ 0
-  pub listed : f .listed ≡ 0
-  pub nodes : f .nodes ≡ 0
-  pub members : f .members ≡ replicate 24 0
+-- both are well formed by bytes: n entries and k members, which are held, and m nodes
+pub record FilesGot (r : Reading Files) (ks xs ys ms : List ℕ) (n k m : ℕ) : Type 0 where
+  pub files : Files
+  pub was : r ≡ good files
+  pub held : ClaimHeld (files .claim) ks xs ys n ms k
+  pub nodes : m ≡ length (files .proof .nodes)
 
-pub record Readable (t : Table) (ms : List ℕ) (p : Proof) (f : Found) : Type 0 where
-  pub verdict : shown (f .verdict) ≡ accepted
-  pub entries : f .entries ≡ length t
-  pub nodes : f .nodes ≡ length p
-  pub listed : f .listed ≡ length ms
-  pub members : take (f .listed) (f .members) ≡ ms
-  pub room : length (f .members) ≡ 24
-
-abbrev pub Tells : Files → Found → Type 0
-Tells (unread n q) f = Unread n q f
-Tells (readable t ms p) f = Readable t ms p f
-
--- what is told of two lent files behind what stands before them, and that a lent slice of bytes holds bytes
-pub record FilesTold (before : Verdict) (claim proof : List ℕ) (f : Found) : Type 0 where
-  pub told : Tells (firstly before (files claim proof)) f
-  pub claim-bytes : Bytes claim
-  pub proof-bytes : Bytes proof
-
--- a refusal that stands, or what the rules say
-abbrev pub ruled : Verdict → Verdict → Verdict
-ruled accepted next = next
-ruled (verdicts.refused n q) next = verdicts.refused n q
+abbrev pub FilesTell : Reading Files → List ℕ → List ℕ → List ℕ → List ℕ → FilesRead → Type 0
+FilesTell r ks xs ys ms (Read n k m) = FilesGot r ks xs ys ms n k m
+FilesTell r ks xs ys ms (Refused n q) = RefusedWith r n q

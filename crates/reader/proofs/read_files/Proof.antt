@@ -1,44 +1,68 @@
--- a refusal before the files stands, and no file is read
-use mathlib.Core.Path.{ap}
+-- The claim's refusal stands, then the proof's; a proof that is read has as many nodes as its count says.
+use mathlib.Core.Path.{_≡_, sym, ap, _∙_}
+use native.Mathlib.Omega.{arith}
 use borrow.Author.Needs.{needs}
 use Rattle.verdict.specs.Shown.{shown}
-use Rattle.encoding.specs.Encode.{Bytes}
-use Rattle.encoding.specs.ByteLaws.{lent-bytes}
-use Rattle.reader.specs.FilesLaws.{first-unread, first-passed}
+use Rattle.claims.specs.ClaimWalk.{claim-as-read, claim-as-refused}
+use Rattle.reader.specs.FilesLaws.{unread-formed, unread-proof, proof-decodes, both-read}
 use Rattle.reader.proofs.read_files.Statement.{statement}
 use Rattle.reader.proofs.read_files.Tie as tie
 
-enum-known-before : tie.Need-enum-known-before
-enum-known-before c = search needs
+read-formed-requires : tie.Need-read-formed-requires
+read-formed-requires c κs = search needs
 
-unread-requires : tie.Need-unread-requires
-unread-requires c κs = search needs
+enum-known-number : tie.Need-enum-known-number
+enum-known-number c = search needs
+
+enum-known-entries : tie.Need-enum-known-entries
+enum-known-entries c = search needs
+
+judge-proof-requires : tie.Need-judge-proof-requires
+judge-proof-requires c κs = claim-as-read _ _ _ _ (c .before .before .before .before .read-formed .ensures) (c .before .before .entries .given .1) .held .entries
+
+enum-known-number-2 : tie.Need-enum-known-number-2
+enum-known-number-2 c = search needs
+
+cast-t22 : tie.Need-cast-t22
+cast-t22 c = search needs
+
+cast-t23 : tie.Need-cast-t23
+cast-t23 c = search needs
 
 enum-told : tie.Need-enum-told
 enum-told c = search needs
 
-read-both-requires : tie.Need-read-both-requires
-read-both-requires c κs = search needs
-
--- a lent slice of bytes holds bytes
-module _ (c : tie.After-shared-slice-known2) where
-  claim-bytes : Bytes (c .before .before .args .claim .now)
-  claim-bytes = lent-bytes _ (c .before .shared-slice-known .given)
-
-  proof-bytes : Bytes (c .before .before .args .proof .now)
-  proof-bytes = lent-bytes _ (c .shared-slice-known2 .given)
+node-count-requires : tie.Need-node-count-requires
+node-count-requires c κs =
+    proof-decodes _ _ (claim-as-read _ _ _ _ (c .before .before .before .before .before .before .before .read-formed .ensures) (c .before .before .before .before .before .entries .given .1))
+    (ap shown (sym (c .enum-told .given .1)) ∙ c .before .before .judge-proof .ensures)
 
 returns : tie.Need-returns
-returns c =
-    let entry = c .before .before .before .before in
-    record { told = first-unread _ _ (ap shown (c .before .before .before2 .given .1)) (c .unread .ensures); claim-bytes = claim-bytes entry; proof-bytes = proof-bytes entry }
+returns c = unread-formed _ _ (claim-as-refused _ _ _ _ (c .before .before .before .read-formed .ensures) (c .before .number .given .1))
 
 returns-2 : tie.Need-returns-2
 returns-2 c =
-    let entry = c .before .before .before in
-    record { told = first-passed _ _ (ap shown (c .before .enum-told .given .1)) (c .read-both .ensures); claim-bytes = claim-bytes entry; proof-bytes = proof-bytes entry }
+    unread-proof _ _ (claim-as-read _ _ _ _ (c .before .before .before .before .before .before .before .before .read-formed .ensures) (c .before .before .before .before .before .before .entries .given .1))
+    (ap shown (sym (c .before .number2 .given .1)) ∙ c .before .before .before .judge-proof .ensures) (omega arith, omega arith)
+
+returns-3 : tie.Need-returns-3
+returns-3 c =
+    both-read _ _ (claim-as-read _ _ _ _ (c .before .before .before .before .before .before .before .before .read-formed .ensures) (c .before .before .before .before .before .before .entries .given .1))
+    (ap shown (sym (c .before .enum-told .given .1)) ∙ c .before .before .before .judge-proof .ensures) (c .node-count .ensures)
 
 pub read-files-spec : {M : Type 1} → statement M
 read-files-spec =
     tie.close
-    (tie.spec enum-known-before unread-requires enum-told read-both-requires returns returns-2)
+    (tie.spec
+    read-formed-requires
+    enum-known-number
+    enum-known-entries
+    judge-proof-requires
+    enum-known-number-2
+    cast-t22
+    cast-t23
+    enum-told
+    node-count-requires
+    returns
+    returns-2
+    returns-3)
