@@ -28,18 +28,19 @@ unfoldable pub readFormed : List ℕ → Reading Claim
 unfolding readClaim judgeTable
 readFormed claim = andThen (readClaim claim) formed
 
--- a claim and a proof over it, both well formed by bytes
-pub record Files : Type 0 where
+-- a well-formed claim, and what the file beside it holds
+pub record Files (A : Type 0) : Type 0 where
   pub claim : Claim
-  pub proof : Derivation
+  pub beside : A
 
-abbrev pub withProof : Claim → Derivation → Reading Files
-withProof c d = good (record { claim = c; proof = d })
+-- the file beside the claim is read in sight of it
+abbrev pub besideClaim : {A : Type 0} → (Claim → Reading A) → Claim → Reading (Files A)
+besideClaim read c = andThen (read c) (λ x. good (record { claim = c; beside = x }))
+
+abbrev pub reading : {A : Type 0} → List ℕ → (Claim → Reading A) → Reading (Files A)
+reading claim read = andThen (readFormed claim) (besideClaim read)
 
 -- then 30 to 34: all that comes before the rules
-abbrev pub beside : List ℕ → Claim → Reading Files
-beside proof c = andThen (readProof c proof) (withProof c)
-
-unfoldable pub files : List ℕ → List ℕ → Reading Files
+unfoldable pub files : List ℕ → List ℕ → Reading (Files Derivation)
 unfolding readFormed readProof
-files claim proof = andThen (readFormed claim) (beside proof)
+files claim proof = reading claim (λ c. readProof c proof)

@@ -19,7 +19,7 @@ use Rattle.proofs.specs.ProofParts.{kindClaim}
 use Rattle.proofs.specs.ProofKinds.{by-kinds}
 use Rattle.nodes.specs.ProofDecode.{proofIn, Decodes}
 use Rattle.nodes.specs.ProofGood.{good-decoded}
-use Rattle.reader.specs.Files.{firstly, andThen, formed, readFormed, Files, withProof, beside, files}
+use Rattle.reader.specs.Files.{firstly, andThen, formed, readFormed, besideClaim, files}
 use Rattle.reader.specs.Found.{FilesGot}
 
 -- what a reading was whose verdict is known
@@ -72,12 +72,12 @@ module _ (claim proof : List ℕ) where
     by-kinds-held : readProof (g .claim) proof ≡ readProof (kindClaim ks n) proof
     by-kinds-held = ap (λ (c : Claim). readProof c proof) (sym (g .held .same)) ∙ held-kinds ks xs ys n ms k proof
 
-    past-formed : files claim proof ≡ beside proof (g .claim)
+    past-formed : files claim proof ≡ besideClaim (λ c. readProof c proof) (g .claim)
     unfolding files
     past-formed = rw (g .was) refl
 
-    read-as : {r : Reading Derivation} → readProof (kindClaim ks n) proof ≡ r → beside proof (g .claim) ≡ andThen r (withProof (g .claim))
-    read-as e = ap (λ (r : Reading Derivation). andThen r (withProof (g .claim))) (by-kinds-held ∙ e)
+    read-as : {r : Reading Derivation} → readProof (kindClaim ks n) proof ≡ r → besideClaim (λ c. readProof c proof) (g .claim) ≡ andThen r (λ d. good (record { claim = g .claim; beside = d }))
+    read-as e = ap (λ (r : Reading Derivation). andThen r (λ d. good (record { claim = g .claim; beside = d }))) (by-kinds-held ∙ e)
 
     pub unread-proof : {m q : ℕ} → verdicts.refused m q ≡ verdictOf (readProof (kindClaim ks n) proof) → (m < 65536) × (q < 65536) → RefusedWith (files claim proof) m q
     unread-proof h s = record { was = past-formed ∙ read-as (refused-reading (readProof (kindClaim ks n) proof) (sym h)); small = s }
@@ -91,7 +91,7 @@ module _ (claim proof : List ℕ) where
 
       pub both-read : {m : ℕ} → m ≡ length (proofIn proof) → FilesGot (files claim proof) ks xs ys ms n k m
       both-read e = record {
-        files = record { claim = g .claim; proof = read .value };
+        files = record { claim = g .claim; beside = read .value };
         was = past-formed ∙ read-as (read .was);
         held = g .held;
         nodes = e ∙ sym (ap length (good-decoded (kindClaim ks n) proof (read .was) .same));

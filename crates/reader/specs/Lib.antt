@@ -1,3 +1,6 @@
 pub mod Files
 pub mod Found
 pub mod FilesLaws
+pub mod WellFormed
+pub mod Exactly
+pub mod FilesExact
