@@ -1,87 +1,77 @@
 -- the verdict is exact: it accepts exactly the correct proofs, and refuses with exactly the refusal that is earned
-use mathlib.Core.Path.{_≡_, refl, sym, _∙_}
+use mathlib.Core.Path.{_≡_, refl, sym, ap, _∙_}
 use mathlib.Core.Logic.{_↔_}
 use mathlib.Core.List.{List}
 use Prim.Native.Nat.{ℕ}
 use Rattle.verdict.specs.Verdict as verdicts
-use Rattle.verdict.specs.Verdict.{Verdict, accepted}
+use Rattle.verdict.specs.Verdict.{accepted}
 use Rattle.verdict.specs.VerdictLaws.{accepted-not-refused}
 use Rattle.encoding.specs.Encode.{Bytes}
-use Rattle.formula.specs.Table.{Table}
-use Rattle.formula.specs.Nodes.{Proof}
-use Rattle.conditions.specs.JudgeExact.{judge-accepts, judge-refuses}
-use Rattle.claims.specs.ClaimExact.{claim-good}
-use Rattle.claims.specs.ClaimFaults.{claim-refused}
+use Rattle.encoding.specs.File.{Reading, refused, good}
+use Rattle.formula.specs.Claim.{Claim, Derivation}
 use Rattle.proofs.specs.ProofFile.{ProofFile}
-use Rattle.proofs.specs.ProofExact.{proof-good}
-use Rattle.proofs.specs.ProofFaults.{proof-refused}
 use Rattle.proofs.specs.ProofRecords.{codes-rise, code-formula}
 use Rattle.calculus.specs.Given.{Given}
 use Rattle.calculus.specs.JudgeExact.{accepted-correct, correct-accepted}
 use Rattle.calculus.specs.FaultLaws.{refused-earned, earned-refused}
+use Rattle.reader.specs.Files.{Files, files}
+use Rattle.reader.specs.WellFormed.{WellFormed}
+use Rattle.reader.specs.FilesExact.{files-exactly}
 use Rattle.demands.specs.Correct.{Correct}
-use Rattle.demands.specs.Check.{verdict}
-use Rattle.demands.specs.CheckLaws.{check-claim, check-table, check-proof, check-rules, verdict-unread, verdict-decoded}
-use Rattle.demands.specs.Earned.{Earned, by-claim, by-table, by-proof, by-rules}
-use Rattle.demands.specs.CheckFound.{CheckFound, ill-formed, well-read, found}
+use Rattle.demands.specs.Check.{answer, verdict}
+use Rattle.demands.specs.Earned.{Earned, by-files, by-rules}
 
 -- what the rules are given by a proof file
-pub given : {es : Table} {proof : List ℕ} {p : Proof} → ProofFile es proof p → Given es p
-given f = record { rising = λ v l. codes-rise f v; members = λ v c l m. code-formula f v c m }
+pub given : {c : Claim} {proof : List ℕ} {d : Derivation} → ProofFile c proof d → Given c d
+given f = record { rising = λ v l. codes-rise f v; members = λ v x l m. code-formula f v x m }
 
-module _ (claim proof : List ℕ) where
-  pub correct-verdict : Correct claim proof → verdict claim proof ≡ accepted
+module _ (claim proof : List ℕ) (bc : Bytes claim) (bp : Bytes proof) where
+  -- the verdict, by what was read
+  by-reading : {r : Reading (Files Derivation)} → files claim proof ≡ r → verdict claim proof ≡ answer r
+  unfolding verdict
+  by-reading h = ap answer h
+
+  rules-given : {f : Files Derivation} → WellFormed claim proof f → Given (f .claim) (f .beside)
+  rules-given w = given (w .beside-formed)
+
+  correct-verdict : Correct claim proof → verdict claim proof ≡ accepted
   correct-verdict k =
-      verdict-decoded claim proof
-      (check-rules claim proof (k .entries) (k .members) (claim-good (k .claim-file)) (judge-accepts (k .entries) .1 (k .formed)) (proof-good (k .proof-file)))
-      ∙ correct-accepted (k .entries) (k .members) (k .nodes) (given (k .proof-file))
-      (record { members = given (k .proof-file) .members; tree = k .tree; keeps = k .keeps; loops = k .loops }) (k .root)
+      by-reading (files-exactly claim proof bc bp .gives (k .read) (k .formed))
+      ∙ correct-accepted (k .read .claim) (k .read .beside) (rules-given (k .formed))
+      (record { members = rules-given (k .formed) .members; tree = k .tree; keeps = k .keeps; loops = k .loops }) (k .root)
 
-  pub earned-verdict : {n q : ℕ} → Earned claim proof n q → verdict claim proof ≡ verdicts.refused n q
-  earned-verdict (by-claim e) = verdict-unread claim proof (check-claim claim proof (claim-refused e))
-  earned-verdict {n} {q} (by-table es ms f e) =
-      verdict-unread claim proof (check-table claim proof es ms (claim-good f) (judge-refuses es n q .1 e))
-  earned-verdict (by-proof es ms f w e) =
-      verdict-unread claim proof (check-proof claim proof es ms (claim-good f) (judge-accepts es .1 w) (proof-refused es e))
-  earned-verdict (by-rules es ms p f w g e) =
-      verdict-decoded claim proof (check-rules claim proof es ms (claim-good f) (judge-accepts es .1 w) (proof-good g))
-      ∙ earned-refused es ms p (given g) e
+  earned-verdict : {n q : ℕ} → Earned claim proof n q → verdict claim proof ≡ verdicts.refused n q
+  earned-verdict {n} {q} (by-files e) = by-reading (files-exactly claim proof bc bp .refuses n q e)
+  earned-verdict (by-rules f w e) =
+      by-reading (files-exactly claim proof bc bp .gives f w) ∙ earned-refused (f .claim) (f .beside) (rules-given w) e
 
-  module _ (bc : Bytes claim) (bp : Bytes proof) where
-    pub verdict-correct : verdict claim proof ≡ accepted → Correct claim proof
-    verdict-correct h = go (found claim proof bc bp)
-      where
-        go : CheckFound claim proof → Correct claim proof
-        go (ill-formed n q u e) = absurd (accepted-not-refused (sym (verdict-unread claim proof u) ∙ h))
-        go (well-read es ms p u f w g) =
-            let (c, r) = accepted-correct es ms p (given g) (sym (verdict-decoded claim proof u) ∙ h) in
-            record {
-              entries = es;
-              members = ms;
-              nodes = p;
-              claim-file = f;
-              formed = w;
-              proof-file = g;
-              tree = c .tree;
-              root = r;
-              keeps = c .keeps;
-              loops = c .loops;
-            }
+  pub verdict-correct : verdict claim proof ≡ accepted → Correct claim proof
+  verdict-correct h = go (files claim proof) refl
+    where
+      go : (r : Reading (Files Derivation)) → files claim proof ≡ r → Correct claim proof
+      go (refused n q) e = absurd (accepted-not-refused (sym (by-reading e) ∙ h))
+      go (good f) e =
+          let w = files-exactly claim proof bc bp .given f e in
+          let (k, r) = accepted-correct (f .claim) (f .beside) (rules-given w) (sym (by-reading e) ∙ h) in
+          record { read = f; formed = w; tree = k .tree; root = r; keeps = k .keeps; loops = k .loops }
 
-    pub verdict-earned : {n q : ℕ} → verdict claim proof ≡ verdicts.refused n q → Earned claim proof n q
-    verdict-earned {n} {q} h = go (found claim proof bc bp)
-      where
-        same : {k r : ℕ} → verdicts.refused k r ≡ verdicts.refused n q → Earned claim proof k r → Earned claim proof n q
-        same {k} {r} e x = let i : k ≡ n = cc in let j : r ≡ q = cc in rw (← i, ← j) x
+  pub verdict-earned : {n q : ℕ} → verdict claim proof ≡ verdicts.refused n q → Earned claim proof n q
+  verdict-earned {n} {q} h = go (files claim proof) refl
+    where
+      go : (r : Reading (Files Derivation)) → files claim proof ≡ r → Earned claim proof n q
+      go (refused m o) e =
+          let same : verdicts.refused m o ≡ verdicts.refused n q = sym (by-reading e) ∙ h in
+          let i : m ≡ n = cc same in
+          let j : o ≡ q = cc same in
+          rw (← i, ← j) (by-files (files-exactly claim proof bc bp .earned m o e))
+      go (good f) e =
+          let w = files-exactly claim proof bc bp .given f e in
+          by-rules f w (refused-earned (f .claim) (f .beside) (rules-given w) (sym (by-reading e) ∙ h))
 
-        go : CheckFound claim proof → Earned claim proof n q
-        go (ill-formed k r u e) = same (sym (verdict-unread claim proof u) ∙ h) e
-        go (well-read es ms p u f w g) = by-rules es ms p f w g (refused-earned es ms p (given g) (sym (verdict-decoded claim proof u) ∙ h))
+  -- demand 3, second half
+  pub exact : (verdict claim proof ≡ accepted) ↔ Correct claim proof
+  exact = (verdict-correct, correct-verdict)
 
-    -- demand 3, second half
-    pub exact : (verdict claim proof ≡ accepted) ↔ Correct claim proof
-    exact = (verdict-correct, correct-verdict)
-
-    -- no number lies, and it is the first
-    pub refusal : {n q : ℕ} → (verdict claim proof ≡ verdicts.refused n q) ↔ Earned claim proof n q
-    refusal = (verdict-earned, earned-verdict)
+  -- no number lies, and it is the first
+  pub refusal : {n q : ℕ} → (verdict claim proof ≡ verdicts.refused n q) ↔ Earned claim proof n q
+  refusal = (verdict-earned, earned-verdict)

@@ -13,7 +13,7 @@ use Rattle.encoding.specs.Encode.{Bytes}
 use Rattle.encoding.specs.File.{good}
 use Rattle.formula.specs.Kind
 use Rattle.formula.specs.Table.{Table, entry, kind}
-use Rattle.formula.specs.Nodes.{Proof}
+use Rattle.formula.specs.Claim.{Claim, Derivation}
 use Rattle.formula.specs.Shape.{mu, nu}
 use Rattle.formula.specs.ShapeLaws.{mu-shape, nu-shape}
 use Rattle.formula.specs.Codes.{entryOf}
@@ -54,9 +54,9 @@ module _ (claim proof : List ℕ) (bc : Bytes claim) (bp : Bytes proof) where
   accepted-sound h = soundness.sound (check.verdict-correct claim proof bc bp h)
 
   -- the same of the table and the members that the file encodes: in every finite model every state has a true member
-  pub accepted-true : verdict claim proof ≡ accepted → (es : Table) (ms : List ℕ) → ClaimFile claim es ms
-      → (M : Model) (s : ℕ) → s < M .size → (e : ℕ) × elements ms e × (own M es e s ≡ true)
-  accepted-true h es ms f = soundness.irrefutable-true (accepted-sound h) es ms f
+  pub accepted-true : verdict claim proof ≡ accepted → (c : Claim) → ClaimFile claim c
+      → (M : Model) (s : ℕ) → s < M .size → (e : ℕ) × elements (c .members) e × (own M (c .entries) e s ≡ true)
+  accepted-true h c f = soundness.irrefutable-true (accepted-sound h) c f
 
   -- 3, second half: accepted exactly when claim and proof are well formed and keep every rule
   pub accepted-exact : (verdict claim proof ≡ accepted) ↔ Correct claim proof
@@ -87,7 +87,8 @@ module _ (claim proof : List ℕ) (bc : Bytes claim) (bp : Bytes proof) where
 
 -- every node of a correct proof: in every finite model every state has a true member of its sequent
 pub every-node : {claim proof : List ℕ} (k : Correct claim proof) (M : Model) (s : ℕ) → s < M .size
-    → (v : ℕ) → v < length (k .nodes) → (c : ℕ) × sequent (k .nodes) v c × (own M (k .entries) (entryOf c) s ≡ true)
+    → (v : ℕ) → v < length (k .read .beside .nodes)
+    → (x : ℕ) × sequent (k .read .beside .nodes) v x × (own M (k .read .claim .entries) (entryOf x) s ≡ true)
 every-node k M s h = soundness.node-true k M s h
 
 -- not every claim is irrefutable: mu of box is false at one state with itself as successor, and false alone is false there
@@ -108,9 +109,9 @@ module _ (claim model : List ℕ) (l : LentWords) (bc : Bytes claim) (bm : Bytes
   evaluation-exact = evaluation.exact claim model l bc bm
 
   -- then bit s of an entry's word says whether the entry by itself is true at state s
-  pub evaluated-word : (k : Evaluable claim model l) (e s : ℕ) → e < length (k .entries) → s < length (k .states)
-      → bit (getD (evaluating claim model l .lent .words) e 0) s ≡ own (modelOf (k .states)) (k .entries) e s
-  evaluated-word k e s h = evaluation.word-bit claim model l k e h s
+  pub evaluated-word : (k : Evaluable claim model l) (e s : ℕ) → e < length (k .read .claim .entries) → s < length (k .read .beside)
+      → bit (getD (evaluating claim model l .lent .words) e 0) s ≡ own (modelOf (k .read .beside)) (k .read .claim .entries) e s
+  evaluated-word k e s h = evaluation.word-bit claim model l bc bm k e h s
 
 -- 2: meaning. In a model M over a well-formed table, with names set as ρ says:
 module _ (M : Model) (t : Table) (wf : WellFormed t) where
@@ -180,19 +181,19 @@ module _ (M : Model) (t : Table) (wf : WellFormed t) where
   pub by-itself : (e : ℕ) (ρ : Env) → ((x : ℕ) → Free t e x → SameStates (M .size) (ρ x) (own M t x)) → SameStates (M .size) (own M t e) (meaning M t e ρ)
   by-itself = by-kind.own-meaning M t wf
 
--- a file encodes one table and one list of members
-pub one-table : {bytes : List ℕ} {es fs : Table} {ms ns : List ℕ} → ClaimFile bytes es ms → ClaimFile bytes fs ns → (es ≡ fs) × (ms ≡ ns)
+-- a file encodes one claim
+pub one-table : {bytes : List ℕ} {c d : Claim} → ClaimFile bytes c → ClaimFile bytes d → c ≡ d
 one-table = one-claim
 
 -- the round trips: decoding an encoding gives the records back, encoding what was decoded gives the bytes back
-pub claim-round-trip : (es : Table) (ms : List ℕ) → FitClaim (es, ms) → readClaim (encodeClaim es ms) ≡ good (es, ms)
+pub claim-round-trip : (c : Claim) → FitClaim c → readClaim (encodeClaim c) ≡ good c
 claim-round-trip = claim-decodes
 
-pub claim-bytes-back : {bytes : List ℕ} {es : Table} {ms : List ℕ} → Bytes bytes → readClaim bytes ≡ good (es, ms) → encodeClaim es ms ≡ bytes
+pub claim-bytes-back : {bytes : List ℕ} {c : Claim} → Bytes bytes → readClaim bytes ≡ good c → encodeClaim c ≡ bytes
 claim-bytes-back = claim-encodes
 
-pub proof-round-trip : {t : Table} {p : Proof} → FitProof t p → readProof t (encodeProof p) ≡ good p
+pub proof-round-trip : {c : Claim} {d : Derivation} → FitProof c d → readProof c (encodeProof d) ≡ good d
 proof-round-trip = proof-decodes
 
-pub proof-bytes-back : (t : Table) {bytes : List ℕ} {p : Proof} → Bytes bytes → readProof t bytes ≡ good p → encodeProof p ≡ bytes
+pub proof-bytes-back : (c : Claim) {bytes : List ℕ} {d : Derivation} → Bytes bytes → readProof c bytes ≡ good d → encodeProof d ≡ bytes
 proof-bytes-back = proof-encodes

@@ -8,8 +8,6 @@ pub mod Correct
 pub mod Earned
 pub mod EvaluationEarned
 -- the two agree, and what is accepted is sound
-pub mod CheckLaws
-pub mod CheckFound
 pub mod CheckExact
 pub mod EvaluateExact
 pub mod Sound

@@ -10,7 +10,7 @@ use Rattle.encoding.specs.Stages.{Stages, Unfit, unfit}
 use Rattle.encoding.specs.File as file
 use Rattle.formula.specs.Table.{Table}
 use Rattle.conditions.specs.Formed as table
-use Rattle.formula.specs.Nodes.{Proof}
+use Rattle.formula.specs.Claim.{Claim, Derivation}
 use Rattle.claims.specs.ClaimDocument as claims
 use Rattle.claims.specs.ClaimDocument.{ClaimStage, at-entry-count, at-entry, at-fields, at-member-count, at-member}
 use Rattle.proofs.specs.ProofDocument as proofs
@@ -18,7 +18,8 @@ use Rattle.proofs.specs.ProofDocument.{ProofStage, at-node-count, at-node, at-c
 use Rattle.calculus.specs.Faults as rules
 use Rattle.model.specs.ModelDocument as models
 use Rattle.model.specs.ModelDocument.{StateStage, StateWrong, unfit-map, zero-mask, zero-count, unfit-successor, ModelStage, at-state-count, at-state}
-use Rattle.demands.specs.Earned.{Earned, by-claim, by-table, by-proof, by-rules}
+use Rattle.reader.specs.WellFormed.{ClaimUnformed, by-bytes, by-table, by-claim, by-beside}
+use Rattle.demands.specs.Earned.{Earned, by-files, by-rules}
 use Rattle.demands.specs.EvaluationEarned as evaluation
 use Rattle.demands.specs.EvaluationEarned.{EvaluationEarned}
 use Rattle.demands.specs.Slices.{LentWords}
@@ -66,7 +67,7 @@ table-number (table.above h k l) = omega arith
 table-number (table.alternation h k l m) = omega arith
 table-number (table.unguarded h k l m o) = omega arith
 
-rules-number : {t : Table} {ms : List ℕ} {p : Proof} {n q : ℕ} → rules.Earns t ms p n q → 10 ≤ n
+rules-number : {c : Claim} {d : Derivation} {n q : ℕ} → rules.Earns c d n q → 10 ≤ n
 rules-number (rules.bad-child a b c) = omega arith
 rules-number (rules.orphan a b c d e) = omega arith
 rules-number (rules.other-root a b) = omega arith
@@ -74,17 +75,19 @@ rules-number (rules.rule-broken a b c d e f) = omega arith
 rules-number (rules.bad-link a b c d e f) = omega arith
 rules-number (rules.bad-loop a b c d e f g h) = omega arith
 
+claim-number : {claim : List ℕ} {n q : ℕ} → ClaimUnformed claim n q → 10 ≤ n
+claim-number (by-bytes e) = file-number (omega arith) (omega arith) claim-wrong e
+claim-number (by-table c f e) = table-number e
+
 pub earned-number : {claim proof : List ℕ} {n q : ℕ} → Earned claim proof n q → 10 ≤ n
-earned-number (by-claim e) = file-number (omega arith) (omega arith) claim-wrong e
-earned-number (by-table es ms f e) = table-number e
-earned-number (by-proof es ms f w e) = file-number (omega arith) (omega arith) (proof-wrong es) e
-earned-number (by-rules es ms p f w g e) = rules-number e
+earned-number (by-files (by-claim e)) = claim-number e
+earned-number (by-files (by-beside c k e)) = file-number (omega arith) (omega arith) (proof-wrong (c .entries)) e
+earned-number (by-rules f w e) = rules-number e
 
 pub evaluation-number : {claim model : List ℕ} {l : LentWords} {n q : ℕ} → EvaluationEarned claim model l n q → 1 ≤ n
 evaluation-number (evaluation.by-lengths h) = omega arith
-evaluation-number (evaluation.by-claim w e) = omega (arith, file-number (omega arith) (omega arith) claim-wrong e)
-evaluation-number (evaluation.by-table es ms w f e) = omega (arith, table-number e)
-evaluation-number (evaluation.by-model es ms w f k e) = omega (arith, file-number (omega arith) (omega arith) model-wrong e)
+evaluation-number (evaluation.by-files w (by-claim e)) = omega (arith, claim-number e)
+evaluation-number (evaluation.by-files w (by-beside c k e)) = omega (arith, file-number (omega arith) (omega arith) model-wrong e)
 
 -- 0 for accepted, and for nothing else
 pub packed-zero : (claim proof : List ℕ) → Bytes claim → Bytes proof → packed (verdict claim proof) ≡ 0 → verdict claim proof ≡ accepted

@@ -1,5 +1,5 @@
 -- presenting accepts as the verdict does, and then the gate holds the tag it was given
-use mathlib.Core.Path.{_≡_, refl}
+use mathlib.Core.Path.{_≡_, refl, ap}
 use mathlib.Core.Logic.{_⊎_, inl, inr}
 use mathlib.Core.Bool.{Bool, true, false}
 use mathlib.Core.List.{List}
@@ -7,13 +7,17 @@ use Prim.Native.Nat.{ℕ, _<_, _≤_}
 use native.Mathlib.Omega.{arith}
 use native.Mathlib.Decide.{decLt}
 use lib.ListN.{length}
-use Rattle.verdict.specs.Verdict.{accepted, refused}
+use Rattle.verdict.specs.Verdict.{Verdict, accepted, refused}
 use Rattle.verdict.specs.Tells.{Tells, or-tells, ltb-tells, fails, fails-holds}
 use Rattle.verdict.specs.VerdictLaws.{accepted-not-refused}
+use Rattle.encoding.specs.File as file
+use Rattle.encoding.specs.File.{Reading, good}
+use Rattle.formula.specs.Claim.{Derivation}
+use Rattle.reader.specs.Files.{Files, files}
 use Rattle.permit.specs.GateState.{Gate, closed, opened, holding}
 use Rattle.demands.specs.Slices.{Lent, short, LongEnough}
-use Rattle.demands.specs.Check.{Checked, unread, decoded, check, answer, verdict}
-use Rattle.demands.specs.Present.{presentedBy, ifLong, presenting}
+use Rattle.demands.specs.Check.{answer, verdict}
+use Rattle.demands.specs.Present.{held, presentedBy, ifLong, presenting}
 
 -- refusal 1's test says what it should, both ways
 module _ (l : Lent) where
@@ -46,20 +50,20 @@ module _ (l : Lent) where
 
 module _ (tag : ℕ) (claim proof : List ℕ) (l : Lent) where
   -- a check's answer is presenting's, where nothing stands before it
-  by-check : (x : Checked) → presentedBy x tag l .answer ≡ answer x
-  by-check (unread n q) = refl
-  by-check (decoded t p v) = refl
+  by-check : (r : Reading (Files Derivation)) → presentedBy r tag l .answer ≡ answer r
+  by-check (file.refused n q) = refl
+  by-check (good f) = refl
 
   pub presented-verdict : short l ≡ false → presenting opened tag claim proof l .answer ≡ verdict claim proof
   unfolding presenting verdict
-  presented-verdict h = rw h (by-check (check claim proof))
+  presented-verdict h = rw h (by-check (files claim proof))
 
   -- 1 comes before the files
   pub presented-short : (LongEnough l → ⊥) → presenting opened tag claim proof l .answer ≡ refused 1 0
   unfolding presenting
   presented-short h = go (short l) refl
     where
-      go : (b : Bool) → short l ≡ b → ifLong b l (presentedBy (check claim proof) tag l) .answer ≡ refused 1 0
+      go : (b : Bool) → short l ≡ b → ifLong b l (presentedBy (files claim proof) tag l) .answer ≡ refused 1 0
       go true e = refl
       go false e = absurd (h (not-short-long l e))
 
@@ -70,15 +74,14 @@ module _ (tag : ℕ) (claim proof : List ℕ) (l : Lent) where
     pub accepts : verdict claim proof ≡ accepted
     pub holds : presenting g tag claim proof l .gate ≡ holding tag
 
-  held-tag : (x : Checked) → presentedBy x tag l .answer ≡ accepted → (answer x ≡ accepted) × (presentedBy x tag l .gate ≡ holding tag)
-  held-tag (unread n q) h = absurd (accepted-not-refused h)
-  held-tag (decoded t p accepted) h = (refl, refl)
-  held-tag (decoded t p (refused n q)) h = absurd (accepted-not-refused h)
+  held-tag : (r : Reading (Files Derivation)) → presentedBy r tag l .answer ≡ accepted → (answer r ≡ accepted) × (presentedBy r tag l .gate ≡ holding tag)
+  held-tag (file.refused n q) h = absurd (accepted-not-refused h)
+  held-tag (good f) h = (h, ap (λ (v : Verdict). held v tag) h)
 
-  if-long : (b : Bool) → ifLong b l (presentedBy (check claim proof) tag l) .answer ≡ accepted
-      → (b ≡ false) × (answer (check claim proof) ≡ accepted) × (ifLong b l (presentedBy (check claim proof) tag l) .gate ≡ holding tag)
+  if-long : (b : Bool) → ifLong b l (presentedBy (files claim proof) tag l) .answer ≡ accepted
+      → (b ≡ false) × (answer (files claim proof) ≡ accepted) × (ifLong b l (presentedBy (files claim proof) tag l) .gate ≡ holding tag)
   if-long true h = absurd (accepted-not-refused h)
-  if-long false h = let (a, g) = held-tag (check claim proof) h in (refl, a, g)
+  if-long false h = let (a, g) = held-tag (files claim proof) h in (refl, a, g)
 
   pub presented-granted : (g : Gate) → presenting g tag claim proof l .answer ≡ accepted → Granted g
   unfolding presenting verdict

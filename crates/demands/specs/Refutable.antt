@@ -6,8 +6,10 @@ use mathlib.Core.Bool.{true, false, true≢false}
 use Prim.Native.Nat.{ℕ}
 use native.Mathlib.Omega.{arith}
 use Rattle.encoding.specs.File.{good}
+use Rattle.encoding.specs.FileLaws.{good-same}
 use Rattle.formula.specs.Kind
 use Rattle.formula.specs.Table.{Table}
+use Rattle.formula.specs.Claim.{Claim}
 use Rattle.formula.specs.Shape.{shape}
 use Rattle.meaning.specs.Truth.{every}
 use Rattle.meaning.specs.Chain.{iter}
@@ -37,16 +39,12 @@ abbrev falseTable : Table
 falseTable = record { kind = Kind.FALSE; a = 0; b = 0 } ∷ []
 
 -- the one member of a claim is false on the circle: either half of `Irrefutable` then fails
-module _ {claim : List ℕ} {t : Table} {e : ℕ} (read : readClaim claim ≡ good (t, e ∷ [])) (fails : own circle t e 0 ≡ false)
+module _ {claim : List ℕ} (t : Table) (e : ℕ) (read : readClaim claim ≡ good (record { entries = t; members = e ∷ [] })) (fails : own circle t e 0 ≡ false)
     (k : Irrefutable claim) where
-  refutes : Refutes circle (k .entries) 0 (k .members)
+  refutes : Refutes circle (k .read .entries) 0 (k .read .members)
   refutes =
-      let same : _≡_ {A = Table × List ℕ} (t, e ∷ []) (k .entries, k .members) = inside (sym read ∙ claim-good (k .claim-file)) in
-      subst (λ (c : Table × List ℕ). Refutes circle (c .0) 0 (c .1)) same
+      subst (λ (c : Claim). Refutes circle (c .entries) 0 (c .members)) (good-same (sym read ∙ claim-good (k .formed .claim-file)))
       (λ c m. ⊎-elim (λ (q : c ≡ e). rw q fails) (λ (n : List·Memᴰ c []). absurd (List·Memᴰ·not-nil n)) (List·Memᴰ·cases-cons m))
-    where
-      inside : {c d : Table × List ℕ} → good c ≡ good d → c ≡ d
-      inside h = cc
 
   no-member-true : ⊥
   no-member-true = let (c, m, q) = k .some-true circle 0 (omega arith) in true≢false (sym q ∙ refutes c m)
@@ -56,8 +54,8 @@ module _ {claim : List ℕ} {t : Table} {e : ℕ} (read : readClaim claim ≡ go
 
 pub mu-of-box-refuted : Irrefutable muOfBox → ⊥
 unfolding readClaim own owns meaning put recur iter start stepSet every shape
-mu-of-box-refuted = no-member-true {t = muTable} {e = 2} refl refl
+mu-of-box-refuted = no-member-true muTable 2 refl refl
 
 pub false-refuted : Irrefutable falseAlone → ⊥
 unfolding readClaim own owns meaning put recur start leafSet shape
-false-refuted = no-state-refutes {t = falseTable} {e = 0} refl refl
+false-refuted = no-state-refutes falseTable 0 refl refl

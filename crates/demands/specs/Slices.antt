@@ -5,9 +5,10 @@ use Prim.Native.Nat.{ℕ, _≤_}
 use lib.Dec.{ltb}
 use lib.ListN.{length}
 use Rattle.verdict.specs.Lists.{written}
-use Rattle.formula.specs.Table.{Table, Entry}
-use Rattle.formula.specs.Nodes.{Proof}
+use Rattle.formula.specs.Table.{Entry}
+use Rattle.formula.specs.Claim.{Derivation}
 use Rattle.formula.specs.Records.{NodeRecord, nodeRecords, allCodes}
+use Rattle.reader.specs.Files.{Files}
 
 -- the record slices that presenting is lent
 pub record Lent : Type 0 where
@@ -25,11 +26,11 @@ pub record LongEnough (l : Lent) : Type 0 where
   pub nodes : 1024 ≤ length (l .nodes)
   pub codes : 24576 ≤ length (l .codes)
 
-abbrev pub decodedInto : Table → Proof → Lent → Lent
-decodedInto t p l = record {
-  entries = written t (l .entries);
-  nodes = written (nodeRecords p) (l .nodes);
-  codes = written (allCodes p) (l .codes);
+abbrev pub decodedInto : Files Derivation → Lent → Lent
+decodedInto f l = record {
+  entries = written (f .claim .entries) (l .entries);
+  nodes = written (nodeRecords (f .beside .nodes)) (l .nodes);
+  codes = written (allCodes (f .beside .nodes)) (l .codes);
 }
 
 -- the slices that an evaluation is lent

@@ -8,7 +8,7 @@ use native.Mathlib.Omega.{arith}
 use lib.ListN.{length}
 use Rattle.verdict.specs.Sets.{elements, _⊆_}
 use Rattle.formula.specs.Codes.{entryOf}
-use Rattle.formula.specs.Table.{Table}
+use Rattle.formula.specs.Claim.{Claim, Derivation}
 use Rattle.formula.specs.Nodes.{node}
 use Rattle.meaning.specs.States.{Model}
 use Rattle.meaning.specs.Meaning.{own}
@@ -16,7 +16,7 @@ use Rattle.claims.specs.ClaimFile.{ClaimFile}
 use Rattle.claims.specs.ClaimExact.{one-claim}
 use Rattle.proofs.specs.ProofRecords.{node-count}
 use Rattle.calculus.specs.Sequents.{sequent}
-use Rattle.calculus.specs.CorrectNodes as rules
+use Rattle.calculus.specs.CorrectNodes.{CorrectNodes}
 use Rattle.calculus.specs.Falsity.{Falsity}
 use Rattle.calculus.specs.Kripke.{kripke}
 use Rattle.calculus.specs.Sound.{claim-not-refuted, no-node-refuted}
@@ -38,40 +38,43 @@ some-true : (A : ℕ → Bool) (l : List ℕ) → (elements l ⊆ (λ e. A e ≡
 some-true A l not-all = ⊎-elim (λ f. absurd (not-all f)) (λ x. x) (all-or-some A l)
 
 module _ {claim proof : List ℕ} (k : Correct claim proof) where
-  tables : rules.CorrectNodes (k .entries) (k .nodes)
-  tables = record { members = given (k .proof-file) .members; tree = k .tree; keeps = k .keeps; loops = k .loops }
+  abbrev c : Claim
+  c = k .read .claim
+
+  abbrev d : Derivation
+  d = k .read .beside
+
+  tables : CorrectNodes c d
+  tables = record { members = given (k .formed .beside-formed) .members; tree = k .tree; keeps = k .keeps; loops = k .loops }
 
   module _ (M : Model) (s : ℕ) (state : s < M .size) where
-    abbrev F : Falsity (k .entries) M
-    F = kripke (k .entries) (k .formed .well) M
+    abbrev F : Falsity (c .entries) M
+    F = kripke (c .entries) (k .formed .claim-formed .formed .well) M
 
-    pub none-refutes : Refutes M (k .entries) s (k .members) → ⊥
+    pub none-refutes : Refutes M (c .entries) s (c .members) → ⊥
     unfolding kripke
-    none-refutes f =
-        claim-not-refuted F (k .nodes) tables (omega (arith, node-count (k .proof-file))) (k .members) (k .root) s state (λ e m. f e m)
+    none-refutes f = claim-not-refuted c F d tables (omega (arith, node-count (k .formed .beside-formed))) (k .root) s state (λ e m. f e m)
 
     -- every node, not only the root
-    pub node-true : (v : ℕ) → v < length (k .nodes) → (c : ℕ) × sequent (k .nodes) v c × (own M (k .entries) (entryOf c) s ≡ true)
+    pub node-true : (v : ℕ) → v < length (d .nodes) → (x : ℕ) × sequent (d .nodes) v x × (own M (c .entries) (entryOf x) s ≡ true)
     unfolding kripke
     node-true v real =
-        some-true (λ c. own M (k .entries) (entryOf c) s) (node (k .nodes) v .codes)
-        (λ f. no-node-refuted F (k .nodes) tables v real s (record { inside = state; all = λ c m. f c m }))
+        some-true (λ x. own M (c .entries) (entryOf x) s) (node (d .nodes) v .codes)
+        (λ f. no-node-refuted c F d tables v real s (record { inside = state; all = λ x m. f x m }))
 
-    pub member-true : (e : ℕ) × elements (k .members) e × (own M (k .entries) e s ≡ true)
-    member-true = some-true (λ e. own M (k .entries) e s) (k .members) none-refutes
+    pub member-true : (e : ℕ) × elements (c .members) e × (own M (c .entries) e s ≡ true)
+    member-true = some-true (λ e. own M (c .entries) e s) (c .members) none-refutes
 
   -- demand 3, first half
   pub sound : Irrefutable claim
   sound = record {
-    entries = k .entries;
-    members = k .members;
-    claim-file = k .claim-file;
-    formed = k .formed;
+    read = c;
+    formed = k .formed .claim-formed;
     some-true = λ M s h. member-true M s h;
     none-refutes = λ M s h f. none-refutes M s h f;
   }
 
--- of whatever table the file encodes: there is one only
-pub irrefutable-true : {claim : List ℕ} → Irrefutable claim → (es : Table) (ms : List ℕ) → ClaimFile claim es ms
-    → (M : Model) (s : ℕ) → s < M .size → (e : ℕ) × elements ms e × (own M es e s ≡ true)
-irrefutable-true k es ms f = let (p, q) = one-claim (k .claim-file) f in rw (← p, ← q) (k .some-true)
+-- of whatever claim the file encodes: there is one only
+pub irrefutable-true : {claim : List ℕ} → Irrefutable claim → (c : Claim) → ClaimFile claim c
+    → (M : Model) (s : ℕ) → s < M .size → (e : ℕ) × elements (c .members) e × (own M (c .entries) e s ≡ true)
+irrefutable-true k c f = rw (← one-claim (k .formed .claim-file) f) (k .some-true)
