@@ -3,13 +3,13 @@ use mathlib.Core.Path.{_≡_, refl, ap, _∙_, sym, subst}
 use mathlib.Core.Logic.{inr}
 use mathlib.Core.List.{List}
 use mathlib.Core.Bool.{Bool, true, false, not, _||_, _&&_}
-use Prim.Native.Nat.{ℕ, suc, _+_, _-_, _<_, _≤_}
+use Prim.Native.Nat.{ℕ, suc, _+_, _*_, _-_, _<_, _≤_}
 use native.Mathlib.Numerals.{add-one}
 use native.Mathlib.Omega.{arith}
 use native.Mathlib.Decide.{decLt, ℕ-discrete}
 use lib.Dec.{eqb, ltb}
 use borrow.Author.Tests.{leb-false}
-use lib.ListN.{length, getD, set, length-set}
+use lib.ListN.{length, getD}
 use Rattle.verdict.specs.Tests.{choose}
 use Rattle.verdict.specs.Tells.{fails}
 use Rattle.verdict.specs.Verdict.{Verdict, accepted, refused, pick, scan}
@@ -29,7 +29,8 @@ use Rattle.formula.specs.Fields.{isFixpoint}
 use Rattle.conditions.specs.KindShapes.{plainShape}
 use Rattle.conditions.specs.OperandBounds.{outOf, operandsOut, FirstOut, plain-shape, out-one, out-none, out-other}
 use Rattle.conditions.specs.NameSets.{holds, Marks}
-use Rattle.conditions.specs.RowMarks.{Made, noNames, RowsBelow, row-made, rows-more}
+use Rattle.conditions.specs.RowWords.{rowOf, withRow}
+use Rattle.conditions.specs.RowMarks.{Made, RowsBelow, row-made, rows-more}
 use Rattle.conditions.specs.MarksBelow.{MarksBelow, below-none, below-with}
 use Rattle.conditions.specs.Faults.{mixedAt, faultAt, Seen, mu-marks, nu-marks}
 use Rattle.conditions.specs.declared.names.Names.{Names}
@@ -109,32 +110,28 @@ module _ (t : Table) where
 
 -- where the pass over a table of at most 256 entries, none of which earns 20, stands before entry e: the rows of all entries passed, the
 -- set of these entries, and that what is left of the pass decides
-pub record Reached (ks xs ys : List ℕ) (n : ℕ) (fs os : List Names) (passed : Names) (e : ℕ) : Type 0 where
+pub record Reached (ks xs ys : List ℕ) (n : ℕ) (fs os : List ℕ) (passed : Names) (e : ℕ) : Type 0 where
   pub small : n ≤ 256
   pub placed : (w : ℕ) → w < n → outOf (tableOf ks xs ys n) w ≡ false
   pub within : e ≤ n
-  pub free-length : length fs ≡ 256
-  pub open-length : length os ≡ 256
   pub free-rows : RowsBelow fs (freeSet (tableOf ks xs ys n)) e
   pub open-rows : RowsBelow os (openSet (tableOf ks xs ys n)) e
   pub up-to : MarksBelow passed e (λ n. true)
   pub left : namesFrom (tableOf ks xs ys n) n 0 ≡ namesFrom (tableOf ks xs ys n) (n - e) e
 
 pub starts : (ks xs ys : List ℕ) (n : ℕ) → n ≤ 256 → ((w : ℕ) → w < n → outOf (tableOf ks xs ys n) w ≡ false)
-    → (fs os : List Names) (passed : Names) → length fs ≡ 256 → length os ≡ 256 → Marks passed (λ n. false) → Reached ks xs ys n fs os passed 0
-starts ks xs ys n s p fs os passed l m q = record {
+    → (fs os : List ℕ) (passed : Names) → Marks passed (λ n. false) → Reached ks xs ys n fs os passed 0
+starts ks xs ys n s p fs os passed q = record {
   small = s;
   placed = p;
   within = omega arith;
-  free-length = l;
-  open-length = m;
   free-rows = λ d h. absurd (omega arith);
   open-rows = λ d h. absurd (omega arith);
   up-to = below-none passed (λ n. true) q;
   left = ap (λ (m : ℕ). namesFrom (tableOf ks xs ys n) m 0) (omega arith);
 }
 
-module _ {ks xs ys : List ℕ} {n : ℕ} {fs os : List Names} {passed : Names} {e : ℕ} (now : Reached ks xs ys n fs os passed e) where
+module _ {ks xs ys : List ℕ} {n : ℕ} {fs os : List ℕ} {passed : Names} {e : ℕ} (now : Reached ks xs ys n fs os passed e) where
   abbrev t : Table
   t = tableOf ks xs ys n
 
@@ -173,14 +170,14 @@ module _ {ks xs ys : List ℕ} {n : ℕ} {fs os : List Names} {passed : Names} {
         ∙ sym (now .left ∙ ap (λ (m : ℕ). namesFrom t m e) one-more ∙ names-fault t (n - (e + 1)) e (λ z. f (q ∙ z)))
 
     module _ {at : Places} (is : PlacesOf xs ys e at) where
-      -- the row that a clause makes of entry e
-      abbrev MadeHere : ((ℕ → Row) → ℕ → Shape → Row) → List Names → Names → Type 0
-      MadeHere row l r = Made row k (at .first) e (getD l (at .left) noNames) (getD l (at .right) noNames) r
+      -- r is what a clause makes for entry e of the rows of its operands
+      abbrev MadeHere : ((ℕ → Row) → ℕ → Shape → Row) → List ℕ → Names → Type 0
+      MadeHere row l r = (x y : Names) × (x ≡ rowOf l (at .left)) × (y ≡ rowOf l (at .right)) × Made row k (at .first) e x y r
 
-      row-here : (row : (ℕ → Row) → ℕ → Shape → Row) (f : ℕ → Row) (l : List Names) → RowsBelow l f e → f e ≡ row f e (plainShape k a b)
+      row-here : (row : (ℕ → Row) → ℕ → Shape → Row) (f : ℕ → Row) (l : List ℕ) → RowsBelow l f e → f e ≡ row f e (plainShape k a b)
           → (r : Names) → MadeHere row l r → Marks r (has (f e))
-      row-here row f l rows clause r m =
-          row-made f l e rows row k a b clause operands (at .left) (at .right) (is .left-is) (is .right-is) r (rw (is .first-is) at m)
+      row-here row f l rows clause r (x, y, p, q, m) =
+          row-made f l e rows row k a b clause operands (at .left) (at .right) (is .left-is) (is .right-is) r (rw (p, q, is .first-is) at m)
 
       free-made : (r : Names) → MadeHere freeRow fs r → Marks r (has (freeSet t e))
       free-made = row-here freeRow (freeSet t) fs (now .free-rows) (free-at t all-placed e (plainShape k a b) shaped)
@@ -188,7 +185,7 @@ module _ {ks xs ys : List ℕ} {n : ℕ} {fs os : List Names} {passed : Names} {
       open-made : (r : Names) → MadeHere openRow os r → Marks r (has (openSet t e))
       open-made = row-here openRow (openSet t) os (now .open-rows) (open-at t all-placed e (plainShape k a b) shaped)
 
-      body-made : isFixpoint k ≡ true → Marks (getD os (at .left) noNames) (has (openSet t a))
+      body-made : isFixpoint k ≡ true → Marks (rowOf os (at .left)) (has (openSet t a))
       body-made h =
           let (l, m) = within-tells Kind.MU Kind.NU k .says h in
           let below : a < e = leb-false e a (sym (out-one k a b e (omega arith) m) ∙ operands) in
@@ -200,29 +197,28 @@ module _ {ks xs ys : List ℕ} {n : ℕ} {fs os : List Names} {passed : Names} {
         up-to-e = below-with passed (λ n. true) e (now .up-to) refl upto more
 
         pub seen : (mus nus : Names) → Marks mus (λ x. ltb x n && eqb (getD ks x 0) Kind.MU) → Marks nus (λ x. ltb x n && eqb (getD ks x 0) Kind.NU)
-            → Seen t e k a b free (getD os (at .left) noNames) upto mus nus
-        seen mus nus u v =
+            → (body : Names) → body ≡ rowOf os (at .left) → Seen t e k a b free body upto mus nus
+        seen mus nus u v body q =
             let l : length t ≡ n = tableOf-length ks xs ys n in
             record {
               small = omega (arith, now .small);
               inside = omega arith;
               shaped = shaped;
               free-row = free-made free made;
-              body-row = body-made;
+              body-row = rw q body-made;
               up-to = up-to-e;
               mu-row = mu-marks ks xs ys n mus u;
               nu-row = nu-marks ks xs ys n nus v;
             }
 
-        pub goes-on : (reach : Names) → MadeHere openRow os reach → faultAt t e ≡ 0 → Reached ks xs ys n (set fs e free) (set os e reach) upto (e + 1)
-        goes-on reach y f = record {
+        pub goes-on : (reach : Names) → MadeHere openRow os reach → faultAt t e ≡ 0 → 4 * n ≤ length fs → 4 * n ≤ length os
+            → Reached ks xs ys n (withRow fs e free) (withRow os e reach) upto (e + 1)
+        goes-on reach y f free-long open-long = record {
           small = now .small;
           placed = now .placed;
           within = omega arith;
-          free-length = length-set fs e free ∙ now .free-length;
-          open-length = length-set os e reach ∙ now .open-length;
-          free-rows = rows-more (freeSet t) fs e (now .free-rows) free (omega (arith, now .small, now .free-length)) (free-made free made);
-          open-rows = rows-more (openSet t) os e (now .open-rows) reach (omega (arith, now .small, now .open-length)) (open-made reach y);
+          free-rows = rows-more (freeSet t) fs e (now .free-rows) free (omega arith) (free-made free made);
+          open-rows = rows-more (openSet t) os e (now .open-rows) reach (omega arith) (open-made reach y);
           up-to = up-to-e;
           left = now .left ∙ ap (λ (m : ℕ). namesFrom t m e) one-more ∙ names-pass t (n - (e + 1)) e f ∙ ap (namesFrom t (n - (e + 1))) (sym (add-one e));
         }

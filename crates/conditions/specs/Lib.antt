@@ -15,6 +15,7 @@ pub mod JudgeExact
 pub mod KindShapes
 pub mod NameSets
 pub mod OperandBounds
+pub mod RowWords
 pub mod RowMarks
 pub mod MarksBelow
 pub mod Faults

@@ -3,11 +3,10 @@ use mathlib.Core.Path.{_≡_, refl, _∙_}
 use mathlib.Core.List.{List, []}
 use mathlib.Core.Logic.{_⊎_}
 use mathlib.Core.Bool.{Bool, true, false, not, _||_, _&&_, true≢false}
-use Prim.Native.Nat.{ℕ, _+_, _<_, _≤_}
+use Prim.Native.Nat.{ℕ, _+_, _*_, _<_, _≤_}
 use native.Mathlib.Omega.{arith}
 use lib.Dec.{eqb, leb}
-use lib.ListN.{length, getD, set}
-use lib.Seq.{getD-set-same, getD-set-other}
+use lib.ListN.{length}
 use borrow.Author.Count.{below-more}
 use borrow.Author.Tests.{leb-false}
 use Rattle.verdict.specs.Tells.{same-test, and-tells, or-tells, not-tells, eqb-tells}
@@ -19,6 +18,7 @@ use Rattle.conditions.specs.Judge.{freeRow, openRow}
 use Rattle.conditions.specs.KindShapes.{plainShape, two-kind, step-kind, fix-kind, name-kind, leaf-kind}
 use Rattle.conditions.specs.OperandBounds.{operandsOut}
 use Rattle.conditions.specs.NameSets.{holds, Marks}
+use Rattle.conditions.specs.RowWords.{rowOf, withRow, row-other, row-same}
 use Rattle.conditions.specs.declared.names.Names.{Names}
 
 union-has : (r s : Row) (n : ℕ) → has (union r s) n ≡ (has r n || has s n)
@@ -96,22 +96,19 @@ module _ (k a e : ℕ) (x y : Names) where
   unfolding openRow operandsOut
   open-fix l m f b o g h n i = let (w, z) = fix-kind k a b l m in rw z (g (leb-false e a (rw z at o)) n i)
 
--- the rows of the entries below e, in a list of sets
+-- the rows of the entries below e, in a list of words
 
-abbrev pub noNames : Names
-noNames = record { 0 = 0; 1 = 0; 2 = 0; 3 = 0 }
+abbrev pub RowsBelow : List ℕ → (ℕ → Row) → ℕ → Type 0
+RowsBelow l f e = (d : ℕ) → d < e → Marks (rowOf l d) (has (f d))
 
-abbrev pub RowsBelow : List Names → (ℕ → Row) → ℕ → Type 0
-RowsBelow l f e = (d : ℕ) → d < e → Marks (getD l d noNames) (has (f d))
-
-module _ (f : ℕ → Row) (l : List Names) (e : ℕ) (rows : RowsBelow l f e) where
+module _ (f : ℕ → Row) (l : List ℕ) (e : ℕ) (rows : RowsBelow l f e) where
   -- i and j are the operands where these lie below
   pub row-made : (row : (ℕ → Row) → ℕ → Shape → Row) (k a b : ℕ) → f e ≡ row f e (plainShape k a b) → operandsOut e (plainShape k a b) ≡ false
-      → (i j : ℕ) → (a < e → i ≡ a) → (b < e → j ≡ b) → (r : Names) → Made row k a e (getD l i noNames) (getD l j noNames) r → Marks r (has (f e))
+      → (i j : ℕ) → (a < e → i ≡ a) → (b < e → j ≡ b) → (r : Names) → Made row k a e (rowOf l i) (rowOf l j) r → Marks r (has (f e))
   row-made row k a b clause placed i j p q r m = rw clause (m f b placed (λ h. rw (p h) (rows a h)) (λ h. rw (q h) (rows b h)))
 
-  pub rows-more : (r : Names) → e < length l → Marks r (has (f e)) → RowsBelow (set l e r) f (e + 1)
+  pub rows-more : (r : Names) → 4 * e + 3 < length l → Marks r (has (f e)) → RowsBelow (withRow l e r) f (e + 1)
   rows-more r h m =
-      below-more (λ d. Marks (getD (set l e r) d noNames) (has (f d))) e
-      (λ d less. rw (getD-set-other l e d r noNames (λ q. omega arith)) (rows d less))
-      (rw (getD-set-same l e r noNames h) m)
+      below-more (λ d. Marks (rowOf (withRow l e r) d) (has (f d))) e
+      (λ d less. rw (row-other l e r d (λ q. omega arith)) (rows d less))
+      (rw (row-same l e r h) m)

@@ -1,10 +1,13 @@
 // Sets of names: an entry's free names, or those reached from it through no box or diamond. A bit for each entry number below 256; word i
-// has the bits of the numbers from 64 × i on.
+// has the bits of the numbers from 64 × i on. A slice of words holds a set in each row of four.
 ghost use mathlib.Core.Path.{_≡_};
 ghost use mathlib.Core.Bool.{false, not, _||_, _&&_};
+ghost use Prim.Native.Nat.{_+_, _*_, _<_};
 ghost use lib.Dec.{eqb};
+ghost use lib.ListN.{length};
 ghost use Rattle.verdict.specs.Tells.{Tells};
 ghost use Rattle.conditions.specs.NameSets.{holds, Marks, Shared, kept};
+ghost use Rattle.conditions.specs.RowWords.{rowOf, withRow};
 
 pub struct Names(pub u64, pub u64, pub u64, pub u64);
 
@@ -64,4 +67,24 @@ pub fn meet(x: Names, y: Names) -> bool
     ensures { λ r. ⌜ Tells r (Shared x y) ⌝ }
 {
     (x.0 & y.0) | (x.1 & y.1) | (x.2 & y.2) | (x.3 & y.3) != 0
+}
+
+// The names in row e.
+pub fn row(rows: &[u64], e: usize) -> Names
+    requires { ⌜ 4 * e + 3 < length (now rows) ⌝ }
+    ensures { λ r. ⌜ r ≡ rowOf (now (rows .entry)) e ⌝ }
+{
+    let at = 4 * e;
+    Names(rows[at], rows[at + 1], rows[at + 2], rows[at + 3])
+}
+
+pub fn put_row(rows: &mut [u64], e: usize, names: Names)
+    requires { ⌜ 4 * e + 3 < length (now rows) ⌝ }
+    ensures { λ _. ⌜ now (rows .exit) ≡ withRow (now (rows .entry)) e names ⌝ }
+{
+    let at = 4 * e;
+    rows[at] = names.0;
+    rows[at + 1] = names.1;
+    rows[at + 2] = names.2;
+    rows[at + 3] = names.3;
 }

@@ -2,7 +2,7 @@
 // through no box or diamond, are made once from those of its operands.
 ghost use mathlib.Core.Path.{_≡_};
 ghost use mathlib.Core.Bool.{false, _&&_};
-ghost use Prim.Native.Nat.{ℕ, _<_, _≤_};
+ghost use Prim.Native.Nat.{ℕ, _*_, _<_, _≤_};
 ghost use lib.Dec.{eqb, ltb};
 ghost use lib.ListN.{length, getD};
 ghost use Rattle.verdict.specs.Shown.{shown};
@@ -16,6 +16,8 @@ ghost use Rattle.conditions.specs.Faults.{Seen, faultAt, oppositeOf};
 ghost use Rattle.conditions.specs.JudgeSteps.{PlacesOf, namesFrom};
 use crate::names;
 use crate::names::Names;
+use crate::names::put_row;
+use crate::names::row;
 use bits::wide;
 use formula::Kind;
 use verdict::Verdict;
@@ -115,23 +117,22 @@ fn fault(kind: u8, e: usize, free: Names, body: Names, passed: Names, mus: Names
     0
 }
 
-// In a function of its own, so that a caller's goals do not spell 256 sets out.
-fn no_rows() -> [Names; 256]
-    ensures { λ r. ⌜ length r ≡ 256 ⌝ }
-{
-    [Names(0, 0, 0, 0); 256]
-}
-
-// The first entry that earns 21, 22 or 23, where none earns 20.
-pub fn judge_names(kinds: &[u8; 256], a: &[u16; 256], b: &[u16; 256], count: usize) -> Verdict
-    requires { ⌜ count ≤ 256 ⌝ }
+// The first entry that earns 21, 22 or 23, where none earns 20. The caller lends rows for the free names, and for the names reached through
+// no box or diamond; what stands in them does not matter.
+fn judge_rows(
+    kinds: &[u8; 256],
+    a: &[u16; 256],
+    b: &[u16; 256],
+    count: usize,
+    free_rows: &mut [u64],
+    open_rows: &mut [u64],
+) -> Verdict
+    requires { ⌜ (count ≤ 256) × (4 * count ≤ length (now «free_rows»)) × (4 * count ≤ length (now «open_rows»)) ⌝ }
     requires { ⌜ ((w : ℕ) → w < count → outOf (tableOf (now kinds) (now a) (now b) count) w ≡ false) ⌝ }
     ensures { λ r. ⌜ shown r ≡ namesFrom (tableOf (now (kinds .entry)) (now (a .entry)) (now (b .entry)) count) count 0 ⌝ }
 {
     let mus = of_kind(kinds, count, Kind::MU);
     let nus = of_kind(kinds, count, Kind::NU);
-    let mut free_rows = no_rows();
-    let mut open_rows = no_rows();
     let mut passed = names::none();
     let mut e: usize = 0;
     while e < count {
@@ -140,8 +141,8 @@ pub fn judge_names(kinds: &[u8; 256], a: &[u16; 256], b: &[u16; 256], count: usi
         let first = at.first;
         let left = at.left;
         let right = at.right;
-        let free = free_names(kind, first, e, free_rows[left], free_rows[right]);
-        let body = open_rows[left];
+        let free = free_names(kind, first, e, row(free_rows, left), row(free_rows, right));
+        let body = row(open_rows, left);
         passed = names::with(passed, e);
         let number = fault(kind, e, free, body, passed, mus, nus);
         if number != 0 {
@@ -150,9 +151,26 @@ pub fn judge_names(kinds: &[u8; 256], a: &[u16; 256], b: &[u16; 256], count: usi
                 place: e as u16,
             };
         }
-        free_rows[e] = free;
-        open_rows[e] = open_names(kind, first, e, body, open_rows[right]);
+        let open = open_names(kind, first, e, body, row(open_rows, right));
+        put_row(free_rows, e, free);
+        put_row(open_rows, e, open);
         e += 1;
     }
     Verdict::Accepted
+}
+
+// The same in rows of its own, which are cleared first: few for a table of few entries.
+pub fn judge_names(kinds: &[u8; 256], a: &[u16; 256], b: &[u16; 256], count: usize) -> Verdict
+    requires { ⌜ count ≤ 256 ⌝ }
+    requires { ⌜ ((w : ℕ) → w < count → outOf (tableOf (now kinds) (now a) (now b) count) w ≡ false) ⌝ }
+    ensures { λ r. ⌜ shown r ≡ namesFrom (tableOf (now (kinds .entry)) (now (a .entry)) (now (b .entry)) count) count 0 ⌝ }
+{
+    if count <= 32 {
+        let mut free_rows = [0u64; 128];
+        let mut open_rows = [0u64; 128];
+        return judge_rows(kinds, a, b, count, &mut free_rows, &mut open_rows);
+    }
+    let mut free_rows = [0u64; 1024];
+    let mut open_rows = [0u64; 1024];
+    judge_rows(kinds, a, b, count, &mut free_rows, &mut open_rows)
 }
