@@ -1,10 +1,10 @@
 -- codes, sequents, nodes and the node count at a place of a file that is indexed
 use mathlib.Core.Path.{_≡_, refl, ap, _∙_}
-use mathlib.Core.List.{List, []}
+use mathlib.Core.List.{List, [], _∷_}
 use mathlib.Core.Bool.{Bool, true, false, not}
-use Prim.Native.Nat.{ℕ, _+_, _<_, _≤_}
+use Prim.Native.Nat.{ℕ, suc, _+_, _*_, _-_, _<_, _≤_}
 use native.Mathlib.Omega.{arith}
-use borrow.Author.Tests.{eqb-true, eqb-false}
+use borrow.Author.Tests.{eqb-true, eqb-false, le-leb}
 use lib.Dec.{eqb}
 use lib.ListN.{length, getD, drop}
 use Rattle.verdict.specs.Tells.{fails-holds}
@@ -108,6 +108,37 @@ module _ (t : Table) (s : List ℕ) (at : ℕ) where
     pub code-fits : fits-from (isCode t) c (wordAt s at) ≡ true → oneCode t c (drop at s) at ≡ got (wordAt s at) (drop (at + 2) s) (at + 2)
     code-fits k = guard-passes (fits-from (isCode t) c) 34 (two early) (drop at s) at (two-at early s at inside) k
 
+-- of n codes those from the i-th on are read, in sight of any number up to the least
+pub record CodesFrom (t : Table) (s : List ℕ) (at n i least : ℕ) : Type 0 where
+  pub codes : List ℕ
+  pub read : (c : ℕ) → c ≤ least → times (oneCode t) afterCode (n - i) c (drop (at + 2 * i) s) (at + 2 * i) ≡ got codes (drop (at + 2 * n) s) (at + 2 * n)
+
+module _ (t : Table) (s : List ℕ) (at n : ℕ) where
+  pub codes-none : (least : ℕ) → CodesFrom t s at n n least
+  unfolding times
+  codes-none least = record { codes = []; read = λ c h. let e : n - n ≡ 0 = omega arith in rw e refl }
+
+  -- a code that fits, in front of those that are above it
+  pub codes-more : {i least : ℕ} → CodesFrom t s at n i least → 0 < i → i ≤ n → at + 2 * n ≤ length s
+      → (x : ℕ) → x ≡ wordAt s (at + 2 * (i - 1)) → x < least → isCode t x ≡ true → CodesFrom t s at n (i - 1) x
+  unfolding times
+  codes-more {i} {least} from some few long x is less code = record {
+    codes = x ∷ from .codes;
+    read = λ c h.
+        let e : n - (i - 1) ≡ suc (n - i) = omega arith in
+        let o : at + 2 * (i - 1) + 2 ≡ at + 2 * i = omega arith in
+        let fits = rw (o, ← is) at (code-fits t s (at + 2 * (i - 1)) c (omega arith) (rw (← is, le-leb c x h, code) refl)) in
+        rw (e, fits, from .read (suc x) (omega arith)) refl;
+  }
+
+  pub codes-all : {least : ℕ} → CodesFrom t s at n 0 least → (l : List ℕ) × (codesOf t n s at ≡ got l (drop (at + 2 * n) s) (at + 2 * n))
+  unfolding codesOf times
+  codes-all from =
+      let e : n - 0 ≡ n = omega arith in
+      let o : at + 2 * 0 ≡ at = omega arith in
+      (from .codes, rw (e, o) at (from .read 0 (omega arith)))
+
+module _ (t : Table) (s : List ℕ) (at : ℕ) where
   pub sequent-cut : at ≡ length s → sequent t (drop at s) at ≡ fault early (length s)
   unfolding sequent
   sequent-cut h = counted-cut (oneCode t) afterCode (guard (in-range 24) 32 (byte early)) (drop at s) at (guard-cut (in-range 24) 32 (byte early) (drop at s) at (byte-end early s at h))

@@ -1,6 +1,7 @@
 // Proof files: the first fault in the order of the bytes, and the nodes of a file that has none.
 // Places fit two bytes: a node takes at most 57 bytes, so none begins after 6 + 57 × 1,024 = 58,374.
 ghost use mathlib.Core.Path.{_≡_};
+ghost use mathlib.Core.Bool.{true};
 ghost use Prim.Native.Nat.{_+_, _*_, _≤_, _<_};
 ghost use lib.ListN.{length, drop};
 ghost use Rattle.verdict.specs.Shown.{shown};
@@ -107,6 +108,31 @@ fn head_step(bytes: &[u8], at: usize) -> Step
     Step::Next(next)
 }
 
+// Whether so many codes are there and fit, from the last down: each is below the one after it, so that only the last is compared with the
+// table's end. Where one does not fit, codes_walk finds the refusal.
+fn codes_fit(bytes: &[u8], start: usize, n: usize, kinds: &[u8; 256], count: usize) -> bool
+    requires { ⌜ (start ≤ 58383) × (n ≤ 24) × (count ≤ 256) ⌝ }
+    ensures { λ r. ⌜ (r ≡ true → Finds (now (bytes .entry)) (start + 48) (codesOf (kindTable (now (kinds .entry)) count) n (now (bytes .entry)) start) (Step.Next (start + 2 * n))) ⌝ }
+{
+    if bytes.len() < start + 2 * n {
+        return false;
+    }
+    let mut above = 2 * count;
+    let mut i = n;
+    while 0 < i {
+        i -= 1;
+        let code = word_at(bytes, start + 2 * i) as usize;
+        if above <= code {
+            return false;
+        }
+        if kinds[code / 2] == Kind::NAME {
+            return false;
+        }
+        above = code;
+    }
+    true
+}
+
 // So many codes, each above the one before, its entry in range and no name.
 fn codes_walk(bytes: &[u8], start: usize, n: usize, kinds: &[u8; 256], count: usize) -> Step
     requires { ⌜ (start ≤ length (now bytes)) × (start ≤ 58383) × (n ≤ 24) × (count ≤ 256) ⌝ }
@@ -166,7 +192,12 @@ fn sequent_step(bytes: &[u8], at: usize, kinds: &[u8; 256], count: usize) -> Ste
             place: at as u16,
         };
     }
-    codes_walk(bytes, at + 1, n as usize, kinds, count)
+    let start = at + 1;
+    let many = n as usize;
+    if codes_fit(bytes, start, many, kinds, count) {
+        return Step::Next(start + 2 * many);
+    }
+    codes_walk(bytes, start, many, kinds, count)
 }
 
 // A node: without bit 4 the sequent is empty.

@@ -2,7 +2,7 @@
 use native.Mathlib.Omega.{arith}
 use mathlib.Core.Path.{_≡_}
 use mathlib.Core.List.{List}
-use Prim.Native.Nat.{ℕ, _<_}
+use Prim.Native.Nat.{ℕ, _+_, _<_}
 use lib.ListN.{length, getD, drop}
 use Rattle.verdict.specs.Tells.{fails-holds}
 use Rattle.formula.specs.Table.{Table}
@@ -10,9 +10,11 @@ use Rattle.encoding.specs.Encode.{Counts}
 use Rattle.encoding.specs.Parse.{fault}
 use Rattle.encoding.specs.ListLaws.{range-tells}
 use Rattle.proofs.specs.ReadProof.{sequent}
-use Rattle.proofs.specs.ProofParts.{kindTable}
-use Rattle.proofs.specs.ProofSteps.{finds-as}
+use Rattle.proofs.specs.ProofParts.{kindTable, codesOf}
+use Rattle.proofs.specs.ProofSteps.{Finds, finds-as}
 use Rattle.proofs.specs.ProofLaws.{sequent-cut, sequent-unfit, sequent-codes}
+use Rattle.proofs.specs.declared.Step.{Step}
+use Rattle.proofs.specs.declared.Step.the-variants.{Next}
 use borrow.Author.Needs.{needs}
 use Rattle.proofs.proofs.sequent_step.Statement.{statement}
 use Rattle.proofs.proofs.sequent_step.Tie as tie
@@ -31,8 +33,13 @@ module _ (c : tie.Start) where
   unfit : here < length file → (Counts 24 (getD file here 0) → ⊥) → sequent table (drop here file) here ≡ fault 32 here
   unfit h n = sequent-unfit table file here h (fails-holds (range-tells 24 (getD file here 0)) n)
 
-cast-t9 : tie.Need-cast-t9
-cast-t9 c = search needs
+  -- a count in range: the codes decide
+  fit : here < length file → Counts 24 (getD file here 0) → (r : Step) → Finds file (here + 1 + 48) (codesOf table (getD file here 0) file (here + 1)) r
+      → Finds file (here + 49) (sequent table (drop here file) here) r
+  fit h n r = finds-as file r (sequent-codes table file here h (range-tells 24 (getD file here 0) .holds n)) (omega arith)
+
+cast-t11 : tie.Need-cast-t11
+cast-t11 c = search needs
 
 returns : tie.Need-returns
 returns c = sequent-cut _ (file (c .before .before)) (here (c .before .before)) (omega arith)
@@ -40,46 +47,58 @@ returns c = sequent-cut _ (file (c .before .before)) (here (c .before .before)) 
 shared-slice-read-n : tie.Need-shared-slice-read-n
 shared-slice-read-n c = search needs
 
-cast-t12 : tie.Need-cast-t12
-cast-t12 c = search needs
+cast-t14 : tie.Need-cast-t14
+cast-t14 c = search needs
 
 returns-2 : tie.Need-returns-2
 returns-2 c = unfit (c .before .before .before .before) (omega arith) (λ k. omega (arith, k))
 
-cast-t13 : tie.Need-cast-t13
-cast-t13 c = search needs
+cast-t15 : tie.Need-cast-t15
+cast-t15 c = search needs
 
 returns-3 : tie.Need-returns-3
 returns-3 c = unfit (c .before .before .before .before .before) (omega arith) (λ k. omega (arith, k))
 
-add-codes-walk : tie.Need-add-codes-walk
-add-codes-walk c = search needs
+add-start : tie.Need-add-start
+add-start c = search needs
 
-cast-codes-walk : tie.Need-cast-codes-walk
-cast-codes-walk c = search needs
+cast-many : tie.Need-cast-many
+cast-many c = search needs
+
+codes-fit-requires : tie.Need-codes-fit-requires
+codes-fit-requires c κs = search needs
+
+mul-t17 : tie.Need-mul-t17
+mul-t17 c = search needs
+
+add-t18 : tie.Need-add-t18
+add-t18 c = search needs
+
+returns-4 : tie.Need-returns-4
+returns-4 c = fit (c .before .before .before .before .before .before .before) (omega arith) (omega arith) (Next _) (c .before .codes-fit .ensures (c .if4 .taken))
 
 codes-walk-requires : tie.Need-codes-walk-requires
 codes-walk-requires c κs = search needs
 
-returns-4 : tie.Need-returns-4
-returns-4 c =
-    let entry = c .before .before .before .before .before .before in
-    finds-as (file entry) (c .codes-walk .result)
-    (sequent-codes (table entry) (file entry) (here entry) (omega arith) (range-tells 24 (getD (file entry) (here entry) 0) .holds (omega arith)))
-    (omega arith) (c .codes-walk .ensures)
+returns-5 : tie.Need-returns-5
+returns-5 c = fit (c .before .before .before .before .before .before .before .before) (omega arith) (omega arith) (c .codes-walk .result) (c .codes-walk .ensures)
 
 pub sequent-step-spec : {M : Type 1} → statement M
 sequent-step-spec =
     tie.close
     (tie.spec
-    cast-t9
+    cast-t11
     returns
     shared-slice-read-n
-    cast-t12
+    cast-t14
     returns-2
-    cast-t13
+    cast-t15
     returns-3
-    add-codes-walk
-    cast-codes-walk
+    add-start
+    cast-many
+    codes-fit-requires
+    mul-t17
+    add-t18
+    returns-4
     codes-walk-requires
-    returns-4)
+    returns-5)
