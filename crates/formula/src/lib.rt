@@ -1,7 +1,8 @@
 // The entry kinds and the rules, each with one named constant for each number and the fields that it has; and the target of an operand.
 ghost use mathlib.Core.Path.{_≡_};
 ghost use mathlib.Core.List.{List};
-ghost use Prim.Native.Nat.{ℕ, _<_, _≤_};
+ghost use Prim.Native.Nat.{ℕ, _+_, _<_, _≤_};
+ghost use Rattle.bits.specs.IfSet.{ifSet};
 ghost use Rattle.formula.specs.Fields.{hasA, hasB, isFixpoint, hasPrincipal, hasFirst, hasSecond, hasBack, mapOf, lowMap, linkWidth};
 ghost use Rattle.formula.specs.Plain.{tableOf};
 ghost use Rattle.formula.specs.Target as targets;
@@ -122,26 +123,30 @@ impl Rule {
         rule == Rule::BACK
     }
 
+    // The sum of the numbers given for those fields that it has.
+    fn field_sum(rule: u8, principal: u8, first: u8, second: u8, back: u8) -> u8
+        requires { ⌜ principal + first + second + back ≤ 255 ⌝ }
+        ensures { λ r. ⌜ r ≡ ifSet (hasPrincipal rule) principal + ifSet (hasFirst rule) first + ifSet (hasSecond rule) second + ifSet (hasBack rule) back ⌝ }
+        ensures { λ r. ⌜ r ≤ principal + first + second + back ⌝ }
+    {
+        if_set(Rule::has_principal(rule), principal)
+            + if_set(Rule::has_first(rule), first)
+            + if_set(Rule::has_second(rule), second)
+            + if_set(Rule::has_back(rule), back)
+    }
+
     // The low four bits of its map.
     pub fn low_map(rule: u8) -> u8
         ensures { λ r. ⌜ (r ≡ lowMap rule) × (r ≤ 15) ⌝ }
     {
-        let principal = if_set(Rule::has_principal(rule), 1);
-        let first = if_set(Rule::has_first(rule), 2);
-        let second = if_set(Rule::has_second(rule), 4);
-        let back = if_set(Rule::has_back(rule), 8);
-        principal + first + second + back
+        Rule::field_sum(rule, 1, 2, 4, 8)
     }
 
     // The bytes of its fields.
     pub fn link_width(rule: u8) -> u8
         ensures { λ r. ⌜ (r ≡ linkWidth rule) × (r ≤ 6) ⌝ }
     {
-        let principal = if_set(Rule::has_principal(rule), 2);
-        let first = if_set(Rule::has_first(rule), 2);
-        let second = if_set(Rule::has_second(rule), 2);
-        let back = if_set(Rule::has_back(rule), 2);
-        principal + first + second + back
+        Rule::field_sum(rule, 2, 2, 2, 2)
     }
 }
 

@@ -1,64 +1,14 @@
--- A sum over the four fields, two bytes each.
-use mathlib.Core.Path.{_≡_}
-use Prim.Native.Nat.{_+_}
 use native.Mathlib.Omega.{arith}
-use Rattle.formula.specs.Fields.{linkWidth, linkWidth-le}
+use Rattle.formula.specs.Fields.{linkWidth-le}
 use borrow.Author.Needs.{needs}
 use Rattle.formula.proofs.Rule.link_width.Statement.{statement}
 use Rattle.formula.proofs.Rule.link_width.Tie as tie
 
-has-principal-requires : tie.Need-has-principal-requires
-has-principal-requires c κs = search needs
-
-if-set-requires : tie.Need-if-set-requires
-if-set-requires c κs = search needs
-
-has-first-requires : tie.Need-has-first-requires
-has-first-requires c κs = search needs
-
-if-set-requires-2 : tie.Need-if-set-requires-2
-if-set-requires-2 c κs = search needs
-
-has-second-requires : tie.Need-has-second-requires
-has-second-requires c κs = search needs
-
-if-set-requires-3 : tie.Need-if-set-requires-3
-if-set-requires-3 c κs = search needs
-
-has-back-requires : tie.Need-has-back-requires
-has-back-requires c κs = search needs
-
-if-set-requires-4 : tie.Need-if-set-requires-4
-if-set-requires-4 c κs = search needs
-
-add-result : tie.Need-add-result
-add-result c = search needs
-
-add-result-2 : tie.Need-add-result-2
-add-result-2 c = search needs
-
-add-result-3 : tie.Need-add-result-3
-add-result-3 c = search needs
+field-sum-requires : tie.Need-field-sum-requires
+field-sum-requires c κs = search needs
 
 returns : tie.Need-returns
-returns c =
-    let rule = c .before .before .before .before .before .before .before .before .args .rule in
-    let sum : c .before .before .before .before .before .before .if-set .result + c .before .before .before .before .if-set2 .result + c .before .before .if-set3 .result + c .if-set4 .result ≡ linkWidth rule = cc in
-    (sum, omega (arith, linkWidth-le rule))
+returns c = (c .field-sum .ensures .0, omega (arith, c .field-sum .ensures .0, linkWidth-le (c .before .args .rule)))
 
 pub link-width-spec : {M : Type 1} → statement M
-link-width-spec =
-    tie.close
-    (tie.spec
-    has-principal-requires
-    if-set-requires
-    has-first-requires
-    if-set-requires-2
-    has-second-requires
-    if-set-requires-3
-    has-back-requires
-    if-set-requires-4
-    add-result
-    add-result-2
-    add-result-3
-    returns)
+link-width-spec = tie.close (tie.spec field-sum-requires returns)

@@ -1,8 +1,8 @@
--- A sum over the four fields, each by its bit.
+-- Four fields, each by whether the rule has it.
 use native.Mathlib.Omega.{arith}
 use borrow.Author.Needs.{needs}
-use Rattle.formula.proofs.Rule.low_map.Statement.{statement}
-use Rattle.formula.proofs.Rule.low_map.Tie as tie
+use Rattle.formula.proofs.Rule.field_sum.Statement.{statement}
+use Rattle.formula.proofs.Rule.field_sum.Tie as tie
 
 has-principal-requires : tie.Need-has-principal-requires
 has-principal-requires c κs = search needs
@@ -16,11 +16,17 @@ has-first-requires c κs = search needs
 if-set-requires-2 : tie.Need-if-set-requires-2
 if-set-requires-2 c κs = search needs
 
+add-result : tie.Need-add-result
+add-result c = search needs
+
 has-second-requires : tie.Need-has-second-requires
 has-second-requires c κs = search needs
 
 if-set-requires-3 : tie.Need-if-set-requires-3
 if-set-requires-3 c κs = search needs
+
+add-result-2 : tie.Need-add-result-2
+add-result-2 c = search needs
 
 has-back-requires : tie.Need-has-back-requires
 has-back-requires c κs = search needs
@@ -28,31 +34,25 @@ has-back-requires c κs = search needs
 if-set-requires-4 : tie.Need-if-set-requires-4
 if-set-requires-4 c κs = search needs
 
-add-result : tie.Need-add-result
-add-result c = search needs
-
-add-result-2 : tie.Need-add-result-2
-add-result-2 c = search needs
-
 add-result-3 : tie.Need-add-result-3
 add-result-3 c = search needs
 
 returns : tie.Need-returns
 returns c = (cc, omega arith)
 
-pub low-map-spec : {M : Type 1} → statement M
-low-map-spec =
+pub field-sum-spec : {M : Type 1} → statement M
+field-sum-spec =
     tie.close
     (tie.spec
     has-principal-requires
     if-set-requires
     has-first-requires
     if-set-requires-2
+    add-result
     has-second-requires
     if-set-requires-3
+    add-result-2
     has-back-requires
     if-set-requires-4
-    add-result
-    add-result-2
     add-result-3
     returns)
