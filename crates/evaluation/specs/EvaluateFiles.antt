@@ -2,36 +2,47 @@
 use mathlib.Core.Path.{_≡_, refl}
 use mathlib.Core.List.{List}
 use Prim.Native.Nat.{ℕ, _≤_}
-use lib.ListN.{length, take}
+use lib.ListN.{length}
 use Rattle.verdict.specs.Verdict as verdicts
-use Rattle.verdict.specs.Verdict.{Verdict, packed}
+use Rattle.verdict.specs.Verdict.{accepted, packed}
 use Rattle.verdict.specs.Lists.{written}
 use Rattle.encoding.specs.Encode.{Bytes}
+use Rattle.encoding.specs.File.{Reading, refused, good}
 use Rattle.formula.specs.Table.{Table}
-use Rattle.reader.specs.Files.{tableIn}
+use Rattle.formula.specs.Plain.{tableOf}
+use Rattle.model.specs.ModelFile.{State}
+use Rattle.model.specs.Described.{modelOf}
+use Rattle.states.specs.Words.{words}
 use Rattle.demands.specs.Slices.{LentWords}
-use Rattle.demands.specs.Evaluate.{Evaluated, evaluating}
+use Rattle.demands.specs.Evaluate.{Evaluated, unevaluated, evaluating}
 use Rattle.evaluation.specs.declared.Evaluation.{Evaluation}
 
--- the answer, the words as they are left, and of the table t so many entries as are to be stored over es: what x says
-pub record Right (t : Table) (x : Evaluated) (es : Table) (r : Evaluation) (ws : List ℕ) : Type 0 where
+-- the answer, the words as they are left, and of the columns so many entries as are to be stored over es: what x says
+pub record Right (ks xs ys : List ℕ) (x : Evaluated) (es : Table) (r : Evaluation) (ws : List ℕ) : Type 0 where
   pub answer : r .answer ≡ packed (x .answer)
   pub words : ws ≡ x .lent .words
-  pub entries : x .lent .entries ≡ written (take (r .entries) t) es
+  pub entries : x .lent .entries ≡ written (tableOf ks xs ys (r .entries)) es
 
 -- n: the length of the lent slice of records, whatever stands in them; a lent slice of bytes holds bytes
-pub record EvaluatedFiles (n : ℕ) (claim model ws₀ : List ℕ) (r : Evaluation) (ws : List ℕ) : Type 0 where
-  pub stored : (r .entries ≤ 256) × (r .entries ≤ n) × (r .entries ≤ length (tableIn claim))
+pub record EvaluatedFiles (n : ℕ) (claim model ws₀ : List ℕ) (r : Evaluation) (ks xs ys ws : List ℕ) : Type 0 where
+  pub stored : (r .entries ≤ 256) × (r .entries ≤ n)
   pub claim-bytes : Bytes claim
   pub model-bytes : Bytes model
-  pub right : (es : Table) → length es ≡ n → Right (tableIn claim) (evaluating claim model (record { entries = es; words = ws₀ })) es r ws
+  pub right : (es : Table) → length es ≡ n → Right ks xs ys (evaluating claim model (record { entries = es; words = ws₀ })) es r ws
 
--- a stage of it behind refusal 1, over the table t
-pub record Staged (t : Table) (x : LentWords → Evaluated) (ws₀ : List ℕ) (r : Evaluation) (ws : List ℕ) : Type 0 where
+-- a stage of it behind refusal 1
+pub record Staged (x : LentWords → Evaluated) (ws₀ : List ℕ) (r : Evaluation) (ks xs ys ws : List ℕ) : Type 0 where
   pub few : r .entries ≤ 256
-  pub inside : r .entries ≤ length t
-  pub right : (es : Table) → Right t (x (record { entries = es; words = ws₀ })) es r ws
+  pub right : (es : Table) → Right ks xs ys (x (record { entries = es; words = ws₀ })) es r ws
 
 -- nothing is stored with a refusal
 abbrev pub refusal : ℕ → ℕ → Evaluation
 refusal n q = record { answer = packed (verdicts.refused n q); entries = 0 }
+
+-- the model by bytes, over the table of a well-formed claim; then each entry's word, and the claim's records
+abbrev pub afterModel : Table → Reading (List State) → LentWords → Evaluated
+afterModel t (refused n q) l = unevaluated n q l
+afterModel t (good m) l = record {
+  answer = accepted;
+  lent = record { entries = written t (l .entries); words = written (words (modelOf m) t) (l .words) };
+}

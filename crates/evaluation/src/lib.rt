@@ -1,20 +1,20 @@
-// An evaluation in plain numbers: the claim's refusals, then the model's, then each entry's word, over columns of its own.
+// An evaluation in plain numbers: the claim's refusals, then the model's, then each entry's word. The claim's columns are lent, since its
+// entries' records are stored from them.
 ghost use Prim.Native.Nat.{_≤_};
 ghost use mathlib.Core.Path.{_≡_};
 ghost use lib.ListN.{length};
 ghost use Rattle.formula.specs.Plain.{tableOf};
-ghost use Rattle.claims.specs.ReadClaim.{readClaim};
+ghost use Rattle.claims.specs.ClaimEntries.{EntryArrays};
+ghost use Rattle.model.specs.ReadModel.{readModel};
 ghost use Rattle.blocks.specs.Claim.{Given};
-ghost use Rattle.demands.specs.Evaluate.{withModel, withTable, afterClaim};
-ghost use Rattle.reader.specs.Files.{tableIn};
-ghost use Rattle.evaluation.specs.EvaluateFiles.{EvaluatedFiles, Staged, refusal};
-ghost use Rattle.evaluation.specs.EvaluateStages.{TableHeld};
-use claims::read_claim;
-use conditions::judge;
+ghost use Rattle.demands.specs.Evaluate.{inModel, evaluated};
+ghost use Rattle.evaluation.specs.EvaluateFiles.{EvaluatedFiles, Staged, refusal, afterModel};
+use claims::ClaimRead;
 use evaluator::evaluate;
 use model::judge::judge_model;
 use model::tables::decode_model;
 use model::tables::state_count;
+use reader::read_formed;
 use verdict::Verdict;
 
 // How many entries' records are to be stored, and what is answered: 0, or refusal × 65,536 + place.
@@ -42,9 +42,8 @@ fn after_model(
     words: &mut [u64],
 ) -> Evaluation
     requires { ⌜ Given (now kinds) (now a) (now b) count (now words) ⌝ }
-    ensures { λ r. ⌜ Staged (tableOf (now (kinds .entry)) (now (a .entry)) (now (b .entry)) count)
-        (withModel (tableOf (now (kinds .entry)) (now (a .entry)) (now (b .entry)) count) (now (model .entry))) (now (words .entry)) r
-        (now (words .exit)) ⌝ }
+    ensures { λ r. ⌜ Staged (afterModel (tableOf (now (kinds .entry)) (now (a .entry)) (now (b .entry)) count) (readModel (now (model .entry))))
+        (now (words .entry)) r (now (kinds .entry)) (now (a .entry)) (now (b .entry)) (now (words .exit)) ⌝ }
 {
     match judge_model(model) {
         Verdict::Refused { number, place } => refuse(number, place),
@@ -61,54 +60,48 @@ fn after_model(
     }
 }
 
-// 20 to 23 over the claim's table, and then the model.
-fn after_table(
+// 10 to 23: the claim's bytes and its table, and then the model.
+fn after_lengths(
+    claim: &[u8],
     model: &[u8],
-    kinds: &[u8; 256],
-    a: &[u16; 256],
-    b: &[u16; 256],
-    count: usize,
+    kinds: &mut [u8; 256],
+    a: &mut [u16; 256],
+    b: &mut [u16; 256],
     words: &mut [u64],
 ) -> Evaluation
-    requires { ⌜ TableHeld (now kinds) (now a) (now b) count (now words) ⌝ }
-    ensures { λ r. ⌜ Staged (tableOf (now (kinds .entry)) (now (a .entry)) (now (b .entry)) count)
-        (withTable (tableOf (now (kinds .entry)) (now (a .entry)) (now (b .entry)) count) (now (model .entry))) (now (words .entry)) r
-        (now (words .exit)) ⌝ }
+    requires { ⌜ EntryArrays (now kinds) (now a) (now b) × (256 ≤ length (now words)) ⌝ }
+    ensures { λ r. ⌜ Staged (evaluated (inModel (now (claim .entry)) (now (model .entry)))) (now (words .entry)) r (now (kinds .exit)) (now (a .exit))
+        (now (b .exit)) (now (words .exit)) ⌝ }
 {
-    match judge(kinds, a, b, count) {
-        Verdict::Refused { number, place } => refuse(number, place),
-        Verdict::Accepted => after_model(model, kinds, a, b, count, words),
-    }
-}
-
-// 10 to 14: the claim's bytes, and then its table.
-fn after_lengths(claim: &[u8], model: &[u8], words: &mut [u64]) -> Evaluation
-    requires { ⌜ 256 ≤ length (now words) ⌝ }
-    ensures { λ r. ⌜ Staged (tableIn (now (claim .entry))) (afterClaim (readClaim (now (claim .entry))) (now (model .entry))) (now (words .entry)) r
-        (now (words .exit)) ⌝ }
-{
-    let mut kinds = [0u8; 256];
-    let mut a = [0u16; 256];
-    let mut b = [0u16; 256];
     let mut members = [0u16; 24];
-    let read = read_claim(claim, &mut kinds, &mut a, &mut b, &mut members);
-    let verdict = read.verdict;
-    let count = read.entries;
-    match verdict {
-        Verdict::Refused { number, place } => refuse(number, place),
-        Verdict::Accepted => after_table(model, &kinds, &a, &b, count, words),
+    match read_formed(claim, kinds, a, b, &mut members) {
+        ClaimRead::Refused { number, place } => refuse(number as u16, place as u16),
+        ClaimRead::Read {
+            entries,
+            members: _,
+        } => after_model(model, kinds, a, b, entries, words),
     }
 }
 
 // An evaluation of a claim in a model, for so many lent entry records. 1 comes before the files.
-pub fn evaluate_files(entries: usize, claim: &[u8], model: &[u8], words: &mut [u64]) -> Evaluation
-    ensures { λ r. ⌜ EvaluatedFiles entries (now (claim .entry)) (now (model .entry)) (now (words .entry)) r (now (words .exit)) ⌝ }
+pub fn evaluate_files(
+    lent: usize,
+    claim: &[u8],
+    model: &[u8],
+    kinds: &mut [u8; 256],
+    a: &mut [u16; 256],
+    b: &mut [u16; 256],
+    words: &mut [u64],
+) -> Evaluation
+    requires { ⌜ EntryArrays (now kinds) (now a) (now b) ⌝ }
+    ensures { λ r. ⌜ EvaluatedFiles lent (now (claim .entry)) (now (model .entry)) (now (words .entry)) r (now (kinds .exit)) (now (a .exit))
+        (now (b .exit)) (now (words .exit)) ⌝ }
 {
-    if entries < 256 {
+    if lent < 256 {
         return refuse(1, 0);
     }
     if words.len() < 256 {
         return refuse(1, 0);
     }
-    after_lengths(claim, model, words)
+    after_lengths(claim, model, kinds, a, b, words)
 }

@@ -1,65 +1,58 @@
--- the claim's refusal stands; a claim that was read is held in plain numbers
-use mathlib.Core.Path.{ap}
+-- the claim's refusal stands; a claim that is well formed is held in the columns
+use native.Mathlib.Omega.{arith}
 use borrow.Author.Needs.{needs}
-use Rattle.verdict.specs.Shown.{shown}
-use Rattle.encoding.specs.Encode.{Bytes}
 use Rattle.encoding.specs.ByteLaws.{lent-bytes}
-use Rattle.evaluation.specs.EvaluateStages.{staged-same, staged-refused, claim-refused, claim-table, claim-goes-on, claim-held}
+use Rattle.claims.specs.ClaimWalk.{claim-as-read, claim-as-refused}
+use Rattle.evaluation.specs.EvaluateStages.{staged-same, staged-refused, claim-refused, claim-goes-on, claim-given}
 use Rattle.evaluation.proofs.after_lengths.Statement.{statement}
 use Rattle.evaluation.proofs.after_lengths.Tie as tie
 
--- at the entry
-abbrev entry : tie.After-read-claim → tie.After-shared-slice-known
-entry c = c .before .before .before .before .before .before .before
+read-formed-requires : tie.Need-read-formed-requires
+read-formed-requires c κs = search needs
 
-bytes : (c : tie.After-read-claim) → Bytes (entry c .before .args .claim .now)
-bytes c = lent-bytes _ (entry c .shared-slice-known .given)
+enum-known-number : tie.Need-enum-known-number
+enum-known-number c = search needs
 
-read-claim-requires : tie.Need-read-claim-requires
-read-claim-requires c κs = search needs
+cast-refuse : tie.Need-cast-refuse
+cast-refuse c = omega (arith, claim-as-refused _ _ _ _ (c .before .before .before .read-formed .ensures) (c .before .number .given .1) .small)
 
-enum-known-verdict : tie.Need-enum-known-verdict
-enum-known-verdict c = search needs
+cast-refuse-2 : tie.Need-cast-refuse-2
+cast-refuse-2 c = omega (arith, claim-as-refused _ _ _ _ (c .before .before .before .read-formed .ensures) (c .before .number .given .1) .small)
 
 refuse-requires : tie.Need-refuse-requires
 refuse-requires c κs = search needs
 
-enum-told : tie.Need-enum-told
-enum-told c = search needs
+enum-known-entries : tie.Need-enum-known-entries
+enum-known-entries c = search needs
 
-after-table-requires : tie.Need-after-table-requires
-after-table-requires c κs =
-    let told = c .before .before .before .before in
-    let read = told .before .before in
-    let s = entry read .before in
-    claim-held (s .args .claim .now) (s .args .model .now) (read .read-claim .ensures) (ap shown (told .enum-told .given .1)) (bytes read) (s .pre)
+after-model-requires : tie.Need-after-model-requires
+after-model-requires c κs =
+    let s = c .before .before .before .before .before .before .before .before .before .before .before .before .before .before in
+    claim-given _ (s .before .args .model .now) (claim-as-read _ _ _ _ (c .before .before .before .before .before .before .before .read-formed .ensures) (c .before .before .before .before .before .entries .given .1))
+    (lent-bytes _ (s .shared-slice-known .given)) (search needs)
 
 returns : tie.Need-returns
 returns c =
-    let known = c .before .before in
-    let read = known .before .before in
-    let s = entry read .before in
-    staged-refused _ _ (s .args .words .now) (claim-refused (s .args .claim .now) (s .args .model .now) (read .read-claim .ensures) (ap shown (known .verdict .given .1))) (c .refuse .ensures)
+    staged-refused _ _ (claim-refused _ _ (claim-as-refused _ _ _ _ (c .before .before .before .before .read-formed .ensures) (c .before .before .number .given .1))) (c .refuse .ensures)
 
 same-length : tie.Need-same-length
 same-length c = search needs
 
 returns-2 : tie.Need-returns-2
 returns-2 c =
-    let told = c .before .before .before .before .before .before .before in
-    let read = told .before .before in
-    let s = entry read .before in
-    staged-same (claim-table (s .args .claim .now) (s .args .model .now) (read .read-claim .ensures)) (claim-goes-on (s .args .claim .now) (s .args .model .now) (read .read-claim .ensures) (ap shown (told .enum-told .given .1))) (c .before .before .after-table .ensures)
+    staged-same (claim-goes-on _ _ (claim-as-read _ _ _ _ (c .before .before .before .before .before .before .before .before .before .before .read-formed .ensures) (c .before .before .before .before .before .before .before .before .entries .given .1))) (c .before .before .after-model .ensures)
 
 pub after-lengths-spec : {M : Type 1} → statement M
 after-lengths-spec =
     tie.close
     (tie.spec
-    read-claim-requires
-    enum-known-verdict
+    read-formed-requires
+    enum-known-number
+    cast-refuse
+    cast-refuse-2
     refuse-requires
-    enum-told
-    after-table-requires
+    enum-known-entries
+    after-model-requires
     returns
     same-length
     returns-2)

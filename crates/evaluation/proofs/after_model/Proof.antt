@@ -8,8 +8,6 @@ use Rattle.verdict.specs.declared.Verdict.{Verdict}
 use Rattle.verdict.specs.declared.Verdict.the-variants.{Accepted, Refused}
 use Rattle.encoding.specs.Encode.{Bytes}
 use Rattle.encoding.specs.Outcome.{verdictOf}
-use Rattle.formula.specs.Table.{Table}
-use Rattle.formula.specs.Plain.{tableOf, tableOf-length}
 use Rattle.model.specs.ReadModel.{readModel}
 use Rattle.model.specs.Decoded.{GoodModel}
 use Rattle.encoding.specs.ByteLaws.{lent-bytes}
@@ -17,16 +15,13 @@ use Rattle.evaluation.specs.EvaluateStages.{staged-refused, model-refuse
 use Rattle.evaluation.proofs.after_model.Statement.{statement}
 use Rattle.evaluation.proofs.after_model.Tie as tie
 
--- what the verdict says of the model, over the table that stands in the columns
+-- what the verdict says of the model
 module _ (c : tie.After-judge-model) where
   abbrev start : tie.Start
   start = c .before .before .before
 
   abbrev file : List ℕ
   file = start .args .model .now
-
-  abbrev table : Table
-  table = tableOf (start .args .kinds .now) (start .args .a .now) (start .args .b .now) (start .args .count)
 
   bytes : Bytes file
   bytes = lent-bytes _ (c .before .before .shared-slice-known .given)
@@ -63,7 +58,7 @@ returns c =
     let number = c .before .before .number in
     let p = c .before .before .before .before in
     let e = judged p (Refused (number .given .0 .0) (number .given .0 .1 .0)) (number .given .1) in
-    staged-refused (table p) _ (start p .args .words .now) (model-refused (table p) (file p) e) (c .refuse .ensures)
+    staged-refused _ (start p .args .words .now) (model-refused (start p .args .kinds .now) (start p .args .a .now) (start p .args .b .now) (start p .args .count) (file p) e) (c .refuse .ensures)
 
 same-length : tie.Need-same-length
 same-length c = search needs
@@ -77,8 +72,8 @@ returns-2 c =
     let p = told .before .before in
     let s = start p in
     let tables = decoded .decode-model .ensures in
-    model-evaluated (table p) (file p) (bytes p) (good told) (tables .1) (tables .0) (counted .state-count .ensures .0)
-    (tableOf-length (s .args .kinds .now) (s .args .a .now) (s .args .b .now) (s .args .count)) (s .pre .few) (evaluated .evaluate .ensures)
+    model-evaluated (s .args .kinds .now) (s .args .a .now) (s .args .b .now) (s .args .count) (file p) (bytes p) (good told) (tables .1) (tables .0) (counted .state-count .ensures .0)
+    (s .pre .few) (evaluated .evaluate .ensures)
 
 pub after-model-spec : {M : Type 1} → statement M
 after-model-spec =

@@ -21,7 +21,7 @@ returns : tie.Need-returns
 returns c =
     let entry = c .before .before .before in
     let s = entry .before .before in
-    entries-short (s .args .entries) (s .args .claim .now) (s .args .model .now) (s .args .words .now) (claim-bytes entry) (model-bytes entry) (c .before .if1 .taken) (c .refuse .ensures)
+    entries-short (s .args .lent) (s .args .claim .now) (s .args .model .now) (s .args .words .now) (claim-bytes entry) (model-bytes entry) _ _ _ (c .before .if1 .taken) (c .refuse .ensures)
 
 refuse-requires-2 : tie.Need-refuse-requires-2
 refuse-requires-2 c κs = search needs
@@ -30,7 +30,7 @@ returns-2 : tie.Need-returns-2
 returns-2 c =
     let entry = c .before .before .before .before in
     let s = entry .before .before in
-    words-short (s .args .entries) (s .args .claim .now) (s .args .model .now) (s .args .words .now) (claim-bytes entry) (model-bytes entry) (c .before .if2 .taken) (c .refuse2 .ensures)
+    words-short (s .args .lent) (s .args .claim .now) (s .args .model .now) (s .args .words .now) (claim-bytes entry) (model-bytes entry) _ _ _ (c .before .if2 .taken) (c .refuse2 .ensures)
 
 after-lengths-requires : tie.Need-after-lengths-requires
 after-lengths-requires c κs = search needs
@@ -40,10 +40,10 @@ same-length c = search needs
 
 returns-3 : tie.Need-returns-3
 returns-3 c =
-    let long = c .before .before .before .before in
+    let long = c .before .before .before .before .before .before .before in
     let entry = long .before .before .before in
     let s = entry .before .before in
-    files-evaluated (s .args .entries) (s .args .claim .now) (s .args .model .now) (s .args .words .now) (claim-bytes entry) (model-bytes entry) (long .before .if1 .left) (long .if2 .left) (c .before .before .after-lengths .ensures)
+    files-evaluated (s .args .lent) (s .args .claim .now) (s .args .model .now) (s .args .words .now) (claim-bytes entry) (model-bytes entry) _ _ _ (long .before .if1 .left) (long .if2 .left) (c .before .before .after-lengths .ensures)
 
 pub evaluate-files-spec : {M : Type 1} → statement M
 evaluate-files-spec =
