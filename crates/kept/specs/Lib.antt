@@ -1,1 +1,2 @@
+pub mod Fixpoint
 pub mod Judged

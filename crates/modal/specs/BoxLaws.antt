@@ -3,7 +3,7 @@ use mathlib.Core.Path.{_≡_, refl, ap, _∙_, sym}
 use mathlib.Core.Logic.{_⊎_, inl, inr}
 use mathlib.Core.List.{List}
 use mathlib.Core.Bool.{Bool, true, false, _||_}
-use Prim.Native.Nat.{ℕ, _+_, _*_, _<_, _≤_}
+use Prim.Native.Nat.{ℕ, _+_, _<_, _≤_}
 use native.Mathlib.Decide.{ℕ-discrete}
 use lib.Dec.{eqb}
 use lib.ListN.{length, getD}
@@ -16,11 +16,10 @@ use Rattle.formula.specs.Table.{entry, kind}
 use Rattle.formula.specs.Plain.{tableOf, tableOf-kind}
 use Rattle.formula.specs.ShapeLaws.{diamond-shape, box-shape}
 use Rattle.formula.specs.Codes.{entryOf}
-use Rattle.formula.specs.PlainNodes.{codesAt}
 use Rattle.calculus.specs.Judge.{sides}
 use Rattle.sequents.specs.Part.{part, part-more, part-none}
-use Rattle.sequents.specs.Placed.{local, NodeReady}
-use Rattle.sequents.specs.KeptLaws.{Operand-in, Chosen, a-operand}
+use Rattle.sequents.specs.Placed.{family, Entries, Coded}
+use Rattle.sequents.specs.KeptLaws.{Operand-in, a-operand}
 
 -- a member of a box step: the principal, or a diamond
 abbrev pub boxed : List ℕ → ℕ → ℕ → Bool
@@ -47,35 +46,36 @@ Modal ks xs ys n c = Operand-in ks xs xs n (entryOf c) (entry (tableOf ks xs ys 
 boxed-tells : (ks : List ℕ) (p c : ℕ) → Tells (boxed ks p c) ((c ≡ p) ⊎ (getD ks (entryOf c) 0 ≡ Kind.DIAMOND))
 boxed-tells ks p c = or-tells (eqb-tells c p) (eqb-tells (getD ks (entryOf c) 0) Kind.DIAMOND)
 
-module _ (ks xs ys : List ℕ) (n : ℕ) (ls ss cs : List ℕ) (v : ℕ) (R : NodeReady ks xs ys n ls ss cs v) where
-  pub others-boxed : all (boxed ks (getD ls (4 * v) 0)) (codesAt ss cs v) ≡ all (λ c. eqb (kind (tableOf ks xs ys n) (entryOf c)) Kind.DIAMOND) (sides (local ls ss cs) v)
+-- a principal p, and the codes l of its node, all of entries
+module _ {ks xs ys : List ℕ} {n p : ℕ} (C : Coded ks xs ys n p) (l : List ℕ) (entries : Entries n l) where
+  pub others-boxed : (m k : List ℕ) → all (boxed ks p) l ≡ all (λ c. eqb (kind (tableOf ks xs ys n) (entryOf c)) Kind.DIAMOND) (sides (family p l m k) 0)
   unfolding sides
-  others-boxed = same-test
-      (all-tells (boxed-tells ks (getD ls (4 * v) 0)) (codesAt ss cs v))
-      (tells-as into from (all-tells (λ c. eqb-tells (kind (tableOf ks xs ys n) (entryOf c)) Kind.DIAMOND) (sides (local ls ss cs) v)))
+  others-boxed m k = same-test
+      (all-tells (boxed-tells ks p) l)
+      (tells-as into from (all-tells (λ c. eqb-tells (kind (tableOf ks xs ys n) (entryOf c)) Kind.DIAMOND) (remove p l)))
     where
-      into : elements (remove (getD ls (4 * v) 0) (codesAt ss cs v)) ⊆ (λ c. kind (tableOf ks xs ys n) (entryOf c) ≡ Kind.DIAMOND)
-          → elements (codesAt ss cs v) ⊆ (λ c. (c ≡ getD ls (4 * v) 0) ⊎ (getD ks (entryOf c) 0 ≡ Kind.DIAMOND))
-      into f c m = go (ℕ-discrete c (getD ls (4 * v) 0))
+      into : elements (remove p l) ⊆ (λ c. kind (tableOf ks xs ys n) (entryOf c) ≡ Kind.DIAMOND) → elements l ⊆ (λ c. (c ≡ p) ⊎ (getD ks (entryOf c) 0 ≡ Kind.DIAMOND))
+      into f c o = go (ℕ-discrete c p)
         where
-          go : Dec (c ≡ getD ls (4 * v) 0) → (c ≡ getD ls (4 * v) 0) ⊎ (getD ks (entryOf c) 0 ≡ Kind.DIAMOND)
+          go : Dec (c ≡ p) → (c ≡ p) ⊎ (getD ks (entryOf c) 0 ≡ Kind.DIAMOND)
           go (yes e) = inl e
-          go (no d) = inr (sym (tableOf-kind ks xs ys n (entryOf c) (R .entries c m)) ∙ f c (lists-remove _ _ .from c (m, d)))
+          go (no d) = inr (sym (tableOf-kind ks xs ys n (entryOf c) (entries c o)) ∙ f c (lists-remove _ _ .from c (o, d)))
 
-      from : elements (codesAt ss cs v) ⊆ (λ c. (c ≡ getD ls (4 * v) 0) ⊎ (getD ks (entryOf c) 0 ≡ Kind.DIAMOND))
-          → elements (remove (getD ls (4 * v) 0) (codesAt ss cs v)) ⊆ (λ c. kind (tableOf ks xs ys n) (entryOf c) ≡ Kind.DIAMOND)
-      from f c m = let (o, d) = lists-remove _ _ .into c m in go o d (f c o)
+      from : elements l ⊆ (λ c. (c ≡ p) ⊎ (getD ks (entryOf c) 0 ≡ Kind.DIAMOND)) → elements (remove p l) ⊆ (λ c. kind (tableOf ks xs ys n) (entryOf c) ≡ Kind.DIAMOND)
+      from f c r = let (o, d) = lists-remove _ _ .into c r in go o d (f c o)
         where
-          go : elements (codesAt ss cs v) c → (c ≡ getD ls (4 * v) 0 → ⊥) → (c ≡ getD ls (4 * v) 0) ⊎ (getD ks (entryOf c) 0 ≡ Kind.DIAMOND) → kind (tableOf ks xs ys n) (entryOf c) ≡ Kind.DIAMOND
+          go : elements l c → (c ≡ p → ⊥) → (c ≡ p) ⊎ (getD ks (entryOf c) 0 ≡ Kind.DIAMOND) → kind (tableOf ks xs ys n) (entryOf c) ≡ Kind.DIAMOND
           go o d (inl e) = absurd (d e)
-          go o d (inr e) = tableOf-kind ks xs ys n (entryOf c) (R .entries c o) ∙ e
+          go o d (inr e) = tableOf-kind ks xs ys n (entryOf c) (entries c o) ∙ e
 
-  pub modal : Chosen ks xs ys n ls ss cs v Kind.BOX → all (boxed ks (getD ls (4 * v) 0)) (codesAt ss cs v) ≡ true
-      → (c : ℕ) → elements (codesAt ss cs v) c → Modal ks xs ys n c
-  modal C h c m = go (all-tells (boxed-tells ks (getD ls (4 * v) 0)) (codesAt ss cs v) .says h c m)
+  pub modal : getD ks (entryOf p) 0 ≡ Kind.BOX → all (boxed ks p) l ≡ true → (c : ℕ) → elements l c → Modal ks xs ys n c
+  modal q h c o = go (all-tells (boxed-tells ks p) l .says h c o)
     where
-      go : (c ≡ getD ls (4 * v) 0) ⊎ (getD ks (entryOf c) 0 ≡ Kind.DIAMOND) → Modal ks xs ys n c
-      go (inl e) = a-operand ks xs ys n (R .small) (R .well) (entryOf c) (R .entries c m)
-          (box-shape (tableOf ks xs ys n) (entryOf c) (ap (λ (d : ℕ). kind (tableOf ks xs ys n) (entryOf d)) e ∙ C .kind-is)) refl
-      go (inr e) = a-operand ks xs ys n (R .small) (R .well) (entryOf c) (R .entries c m)
-          (diamond-shape (tableOf ks xs ys n) (entryOf c) (tableOf-kind ks xs ys n (entryOf c) (R .entries c m) ∙ e)) refl
+      here : kind (tableOf ks xs ys n) (entryOf c) ≡ getD ks (entryOf c) 0
+      here = tableOf-kind ks xs ys n (entryOf c) (entries c o)
+
+      go : (c ≡ p) ⊎ (getD ks (entryOf c) 0 ≡ Kind.DIAMOND) → Modal ks xs ys n c
+      go (inl e) = a-operand ks xs ys n (C .small) (C .well) (entryOf c) (entries c o)
+          (box-shape (tableOf ks xs ys n) (entryOf c) (here ∙ ap (λ (d : ℕ). getD ks (entryOf d) 0) e ∙ q)) refl
+      go (inr e) = a-operand ks xs ys n (C .small) (C .well) (entryOf c) (entries c o)
+          (diamond-shape (tableOf ks xs ys n) (entryOf c) (here ∙ e)) refl

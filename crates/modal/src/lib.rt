@@ -1,25 +1,24 @@
 // Rule 4, the box step.
 ghost use mathlib.Core.Path.{_≡_};
-ghost use mathlib.Core.List.{List};
+ghost use mathlib.Core.List.{List, []};
+ghost use mathlib.Core.Bool.{true};
 ghost use Prim.Native.Nat.{ℕ, _<_};
 ghost use lib.ListN.{getD};
 ghost use Rattle.verdict.specs.Sets.{elements};
-ghost use Rattle.verdict.specs.Tests.{all, each};
+ghost use Rattle.verdict.specs.Tests.{member, all, each};
 ghost use Rattle.formula.specs.Plain.{tableOf};
 ghost use Rattle.formula.specs.Codes.{entryOf};
 ghost use Rattle.sequents.specs.CodeSet.{Holds};
-ghost use Rattle.sequents.specs.Placed.{local, Within, NodeReady};
+ghost use Rattle.sequents.specs.Placed.{family, Entries, Within, Coded};
 ghost use Rattle.sequents.specs.Part.{part, Span};
 ghost use Rattle.modal.specs.BoxLaws.{boxed as Boxed, Modal};
 ghost use Rattle.calculus.specs.Rules.{stepped as Stepped};
 ghost use Rattle.calculus.specs.Judge.{box-kept as BoxKept};
-use bits::wide;
 use formula::Kind;
-use sequents::principal::child_is;
-use sequents::principal::of_kind;
 use sequents::principal::operand_code;
 use sequents::sets::entry_of;
-use sequents::sets::with;
+use sequents::sets::put;
+use sequents::sets::same;
 
 // Whether a member of a box step is the principal or a diamond.
 fn boxed(kinds: &[u8; 256], principal: u16, code: u16) -> bool
@@ -59,8 +58,7 @@ fn stepped(kinds: &[u8; 256], a: &[u16; 256], codes: &[u16], from: usize, to: us
     while from < i {
         i -= 1;
         let code = codes[i];
-        let more = with(set, operand_code(kinds, a, a, code, code % 2));
-        set = more;
+        put(&mut set, operand_code(kinds, a, a, code, code % 2));
     }
     set
 }
@@ -70,29 +68,23 @@ pub fn box_kept(
     kinds: &[u8; 256],
     a: &[u16; 256],
     b: &[u16; 256],
-    count: usize,
-    links: &[u16; 4096],
-    starts: &[u16; 1025],
+    size: usize,
+    principal: u16,
     codes: &[u16],
-    v: usize,
+    from: usize,
+    to: usize,
+    child: &[u64; 8],
 ) -> bool
-    requires { ⌜ NodeReady (now kinds) (now a) (now b) count (now links) (now starts) (now codes) v ⌝ }
-    ensures { λ r. ⌜ r ≡ BoxKept (tableOf (now (kinds .entry)) (now (a .entry)) (now (b .entry)) count)
-        (local (now (links .entry)) (now (starts .entry)) (now (codes .entry))) v ⌝ }
+    requires { ⌜ Coded (now kinds) (now a) (now b) size principal × Span (now codes) from to × Entries size (part (now codes) from to) ⌝ }
+    ensures { λ r. ⌜ ((m : List ℕ) → member (part (now (codes .entry)) from to) principal ≡ true → Holds (now (child .entry)) m → r ≡ BoxKept
+        (tableOf (now (kinds .entry)) (now (a .entry)) (now (b .entry)) size) (family principal (part (now (codes .entry)) from to) m []) 0) ⌝ }
 {
-    if !of_kind(kinds, links, starts, codes, v, Kind::BOX) {
+    if kinds[entry_of(principal)] != Kind::BOX {
         return false;
     }
-    let from = wide(starts[v]);
-    let to = wide(starts[v + 1]);
-    if !all_boxed(kinds, links[4 * v], codes, from, to) {
+    if !all_boxed(kinds, principal, codes, from, to) {
         return false;
     }
-    child_is(
-        links,
-        starts,
-        codes,
-        4 * v + 1,
-        stepped(kinds, a, codes, from, to),
-    )
+    let asked = stepped(kinds, a, codes, from, to);
+    same(child, &asked)
 }

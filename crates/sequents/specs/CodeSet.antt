@@ -8,8 +8,8 @@ use native.Mathlib.Nat.{le-refl}
 use native.Mathlib.Decide.{decLt, ℕ-discrete}
 use native.Mathlib.Omega.{arith}
 use lib.Dec.{eqb}
-use lib.Bits.{bitAnd}
-use lib.ListN.{length, getD, set, replicate, getD-replicate, List·getD-eq-default}
+use lib.Bits.{bitAnd, or-lt, and-lt, xor-lt}
+use lib.ListN.{length, getD, set, length-set, replicate, length-replicate, getD-replicate, List·getD-eq-default}
 use lib.Seq.{getD-set-same, getD-set-other}
 use borrow.Author.Tests.{eq-eqb, ne-eqb}
 use Rattle.verdict.specs.Tests.{any, member, same, remove, each}
@@ -22,14 +22,16 @@ use Rattle.bits.specs.WordLaws.{test-bit, withBit, withoutBit, with-bit, withou
 unfoldable pub inSet : List ℕ → ℕ → Bool
 inSet w c = bit (getD w (c / 64) 0) (c % 64)
 
--- the words w hold what the list l holds
+-- the eight words w, of 64 bits each, hold what the list l holds
 pub record Holds (w l : List ℕ) : Type 0 where
+  pub eight : length w ≡ 8
+  pub word : (i : ℕ) → getD w i 0 < 2 ^ 64
   pub tells : (c : ℕ) → inSet w c ≡ member l c
 
 -- no code of 512 or more is in eight words
-pub past-words : (w : List ℕ) → length w ≡ 8 → (c : ℕ) → 512 ≤ c → inSet w c ≡ false
+pub past-words : (w l : List ℕ) → Holds w l → (c : ℕ) → 512 ≤ c → inSet w c ≡ false
 unfolding inSet
-past-words w s c h = ap (λ (x : ℕ). bit x (c % 64)) (List·getD-eq-default w 0 (omega arith)) ∙ no-bit (c % 64)
+past-words w l H c h = ap (λ (x : ℕ). bit x (c % 64)) (List·getD-eq-default w 0 (omega (arith, H .eight))) ∙ no-bit (c % 64)
 
 -- the test that the code makes
 pub in-word : (w : List ℕ) (c : ℕ) → eqb (bitAnd (getD w (c / 64) 0 / 2 ^ (c % 64)) 1) 1 ≡ inSet w c
@@ -39,7 +41,11 @@ in-word w c = test-bit (getD w (c / 64) 0) (c % 64)
 -- no code is in eight words of no bit
 pub holds-none : Holds (replicate 8 0) []
 unfolding inSet member any
-holds-none = record { tells = λ c. ap (λ (x : ℕ). bit x (c % 64)) (zero-word (c / 64) (decLt (c / 64) 8)) ∙ no-bit (c % 64) }
+holds-none = record {
+  eight = length-replicate {A = ℕ} 8 0;
+  word = λ i. omega (arith, zero-word i (decLt i 8));
+  tells = λ c. ap (λ (x : ℕ). bit x (c % 64)) (zero-word (c / 64) (decLt (c / 64) 8)) ∙ no-bit (c % 64);
+}
   where
     zero-word : (i : ℕ) → Dec (i < 8) → getD {A = ℕ} (replicate 8 0) i 0 ≡ 0
     zero-word i (yes h) = getD-replicate 8 i 0 0 h
@@ -78,13 +84,34 @@ member-remove x c l =
     let s = lists-remove x l in
     same-test (tells-as (s .into c) (s .from c) (member-tells (remove x l) c)) (and-tells (member-tells l c) (not-tells (eqb-tells c x)))
 
-module _ (w l : List ℕ) (c : ℕ) (h : c / 64 < length w) (H : Holds w l) where
+one-bit : (s : ℕ) → 1 * 2 ^ s % 2 ^ 64 < 2 ^ 64
+one-bit s = omega arith
+
+module _ (w l : List ℕ) (c : ℕ) (small : c < 512) (H : Holds w l) where
+  within : c / 64 < length w
+  within = omega (arith, H .eight)
+
+  words : (x : ℕ) → x < 2 ^ 64 → (i : ℕ) → getD (set w (c / 64) x) i 0 < 2 ^ 64
+  words x h i = go (ℕ-discrete i (c / 64))
+    where
+      go : Dec (i ≡ c / 64) → getD (set w (c / 64) x) i 0 < 2 ^ 64
+      go (yes e) = rw (e, getD-set-same w (c / 64) x 0 within) h
+      go (no d) = rw (getD-set-other w (c / 64) i x 0 d) (H .word i)
+
   pub holds-with : Holds (set w (c / 64) (withBit (getD w (c / 64) 0) (c % 64))) (c ∷ l)
   unfolding member any
-  holds-with = record { tells = λ d. changed (λ a b. a || b) or-false w c _ h (λ k. with-bit _ (c % 64) k (omega arith)) d ∙ ap (λ (b : Bool). b || eqb d c) (H .tells d) ∙ or-comm (member l d) (eqb d c) }
+  holds-with = record {
+    eight = simp length-set (H .eight);
+    word = words _ (or-lt 64 _ _ (H .word (c / 64)) (one-bit (c % 64)));
+    tells = λ d. changed (λ a b. a || b) or-false w c _ within (λ k. with-bit _ (c % 64) k (omega arith)) d ∙ ap (λ (b : Bool). b || eqb d c) (H .tells d) ∙ or-comm (member l d) (eqb d c);
+  }
 
   pub holds-without : Holds (set w (c / 64) (withoutBit (getD w (c / 64) 0) (c % 64))) (remove c l)
-  holds-without = record { tells = λ d. changed (λ a b. a && not b) and-true w c _ h (λ k. without-bit _ (c % 64) k (omega arith)) d ∙ ap (λ (b : Bool). b && not (eqb d c)) (H .tells d) ∙ sym (member-remove c d l) }
+  holds-without = record {
+    eight = simp length-set (H .eight);
+    word = words _ (xor-lt 64 _ _ (H .word (c / 64)) (and-lt 64 _ _ (H .word (c / 64)) (one-bit (c % 64))));
+    tells = λ d. changed (λ a b. a && not b) and-true w c _ within (λ k. without-bit _ (c % 64) k (omega arith)) d ∙ ap (λ (b : Bool). b && not (eqb d c)) (H .tells d) ∙ sym (member-remove c d l);
+  }
 
 -- equal as sets: the same members
 same-members : (l m : List ℕ) → Tells (same l m) ((c : ℕ) → member l c ≡ member m c)
@@ -103,17 +130,17 @@ place w i k h =
 
 module _ (x y l m : List ℕ) (X : Holds x l) (Y : Holds y m) where
   -- the same words hold the same set
-  pub same-words : length x ≡ 8 → length y ≡ 8 → ((i : ℕ) → i < 8 → getD x i 0 ≡ getD y i 0) → true ≡ same l m
+  pub same-words : ((i : ℕ) → i < 8 → getD x i 0 ≡ getD y i 0) → true ≡ same l m
   unfolding inSet
-  same-words s r e = sym (same-members l m .holds (λ c. sym (X .tells c) ∙ go c (decLt c 512) ∙ Y .tells c))
+  same-words e = sym (same-members l m .holds (λ c. sym (X .tells c) ∙ go c (decLt c 512) ∙ Y .tells c))
     where
       go : (c : ℕ) → Dec (c < 512) → inSet x c ≡ inSet y c
       go c (yes h) = ap (λ (n : ℕ). bit n (c % 64)) (e (c / 64) (omega arith))
-      go c (no h) = past-words x s c (omega arith) ∙ sym (past-words y r c (omega arith))
+      go c (no h) = past-words x l X c (omega arith) ∙ sym (past-words y m Y c (omega arith))
 
   -- sets of which one word differs are not the same
-  pub other-words : (i : ℕ) → getD x i 0 < 2 ^ 64 → getD y i 0 < 2 ^ 64 → getD x i 0 ≢ getD y i 0 → false ≡ same l m
-  other-words i h j n = sym (fails-holds (same-members l m) (λ e. n (equal-bits 64 (getD x i 0) (getD y i 0) h j
+  pub other-words : (i : ℕ) → getD x i 0 ≢ getD y i 0 → false ≡ same l m
+  other-words i n = sym (fails-holds (same-members l m) (λ e. n (equal-bits 64 (getD x i 0) (getD y i 0) (X .word i) (Y .word i)
       (λ k b. sym (place x i k b) ∙ X .tells (64 * i + k) ∙ e (64 * i + k) ∙ sym (Y .tells (64 * i + k)) ∙ place y i k b))))
 
 -- a set of values over a part, with the value at one place before

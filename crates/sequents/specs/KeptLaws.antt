@@ -1,59 +1,43 @@
 -- what the code of the rules' tests goes by: the principal, its kind and its operands' targets in plain numbers
 use mathlib.Core.Path.{_≡_, refl, _∙_, sym}
-use mathlib.Core.Logic.{inl, inr}
+use mathlib.Core.Logic.{_≢_, _⊎_, inl, inr}
 use mathlib.Core.List.{List}
-use mathlib.Core.Bool.{Bool, true, false, not, _&&_}
-use Prim.Native.Nat.{ℕ, _*_, _<_, _≤_}
+use mathlib.Core.Bool.{Bool, true, false, not}
+use Prim.Native.Nat.{ℕ, _<_, _≤_}
 use native.Mathlib.Omega.{arith}
 use native.Mathlib.Decide.{ℕ-discrete}
 use lib.Dec.{eqb}
 use lib.ListN.{getD}
-use borrow.Author.Tests.{not-true, not-false, eqb-true}
-use Rattle.verdict.specs.Tells.{Tells, and-tells}
-use Rattle.verdict.specs.SetTells.{member-tells}
+use borrow.Author.Tests.{not-true, not-false, eq-eqb, ne-eqb}
+use Rattle.verdict.specs.Tests.{member}
 use Rattle.formula.specs.Kind
-use Rattle.formula.specs.Table.{Table, entry, kind}
-use Rattle.formula.specs.Shape.{Shape, shape, Operand}
+use Rattle.formula.specs.Table.{entry, kind}
+use Rattle.formula.specs.Shape.{Shape, Two, two, shape, Operand}
 use Rattle.conditions.specs.WellFormed.{WellFormed}
 use Rattle.conditions.specs.WellFormedLaws.{operand-below}
 use Rattle.formula.specs.Plain.{tableOf, tableOf-length, tableOf-kind, tableOf-a, tableOf-b}
 use Rattle.formula.specs.Target.{target}
 use Rattle.formula.specs.ShapeLaws.{or-shape, and-shape, mu-shape, nu-shape, name-shape, target-name, target-other}
 use Rattle.formula.specs.Codes.{entryOf}
-use Rattle.formula.specs.PlainNodes.{codesAt}
 use Rattle.calculus.specs.Judge.{belongs, of-kind}
-use Rattle.sequents.specs.Placed.{local, Placed, Entries, Within, NodeReady}
+use Rattle.sequents.specs.Placed.{family, Within, Coded}
 
 -- a call's answer that was tested by `!`
 pub was-false : {r b : Bool} → r ≡ b → not r ≡ true → b ≡ false
 was-false {r} e h = sym e ∙ not-true r h
 
-both : {a b : Bool} → (a && b) ≡ true → (a ≡ true) × (b ≡ true)
-both {a} {b} h = and-tells {a = a} {b = b} self self .says h
-  where
-    self : {c : Bool} → Tells c (c ≡ true)
-    self = record { says = λ e. e; holds = λ e. e }
-
 pub was-true : {r b : Bool} → r ≡ b → not r ≡ false → b ≡ true
 was-true {r} e h = sym e ∙ not-false r h
 
-module _ (ls ss cs : List ℕ) (v : ℕ) where
-  pub belongs-small : Placed ss cs v → belongs (local ls ss cs) v ≡ true → getD ls (4 * v) 0 < 512
-  unfolding belongs
-  belongs-small P h = P .span .small _ (member-tells (codesAt ss cs v) (getD ls (4 * v) 0) .says h)
+-- a principal that belongs, and the kind that stands at its entry e
+module _ {ks xs ys : List ℕ} {n p : ℕ} (C : Coded ks xs ys n p) (l m j : List ℕ) (b : member l p ≡ true) {e k : ℕ} (i : e ≡ entryOf p) where
+  pub this-kind : getD ks e 0 ≡ k → of-kind (tableOf ks xs ys n) (family p l m j) k 0 ≡ true
+  unfolding of-kind belongs
+  this-kind q = rw (b, tableOf-kind ks xs ys n (entryOf p) (C .inside), ← i, eq-eqb _ _ q) refl
 
-  belongs-entry : (n : ℕ) → Entries n ss cs v → belongs (local ls ss cs) v ≡ true → entryOf (getD ls (4 * v) 0) < n
-  unfolding belongs
-  belongs-entry n E h = E _ (member-tells (codesAt ss cs v) (getD ls (4 * v) 0) .says h)
-
-  pub kind-no : (t : Table) (k : ℕ) → belongs (local ls ss cs) v ≡ false → false ≡ of-kind t (local ls ss cs) k v
-  unfolding of-kind
-  kind-no t k h = rw h refl
-
-  pub kind-yes : (ks xs ys : List ℕ) (n k : ℕ) → Entries n ss cs v → belongs (local ls ss cs) v ≡ true
-      → eqb (getD ks (entryOf (getD ls (4 * v) 0)) 0) k ≡ of-kind (tableOf ks xs ys n) (local ls ss cs) k v
-  unfolding of-kind
-  kind-yes ks xs ys n k E h = rw (h, tableOf-kind ks xs ys n (entryOf (getD ls (4 * v) 0)) (belongs-entry n E h)) refl
+  pub other-kind : getD ks e 0 ≢ k → of-kind (tableOf ks xs ys n) (family p l m j) k 0 ≡ false
+  unfolding of-kind belongs
+  other-kind d = rw (b, tableOf-kind ks xs ys n (entryOf p) (C .inside), ← i, ne-eqb _ _ d) refl
 
 -- targets of operands within are codes of a set
 pub target-small : {ks xs : List ℕ} {o : ℕ} (ys : List ℕ) (n : ℕ) → Within ks xs o → o < n → target (tableOf ks xs ys n) o < 256
@@ -91,58 +75,30 @@ module _ (ks xs ys : List ℕ) (n : ℕ) (small : n ≤ 256) (wf : WellFormed (t
         let below : getD ys e 0 < n = omega (arith, operand-below (tableOf ks xs ys n) wf e _ q o, tableOf-b ks xs ys n e h) in
         record { is = tableOf-b ks xs ys n e h; inside = below; within = target-within _ below }
 
--- a principal that belongs and is of the kind that the rule names, with its operands
-module _ (ks xs ys : List ℕ) (n : ℕ) (ls ss cs : List ℕ) (v k : ℕ) where
-  pub record Chosen : Type 0 where
-    pub of-kind : of-kind (tableOf ks xs ys n) (local ls ss cs) k v ≡ true
-    pub small : getD ls (4 * v) 0 < 512
-    pub inside : entryOf (getD ls (4 * v) 0) < n
-    pub kind-is : kind (tableOf ks xs ys n) (entryOf (getD ls (4 * v) 0)) ≡ k
+-- both operands of entry e
+pub record Operands (ks xs ys : List ℕ) (n e : ℕ) : Type 0 where
+  pub a : Operand-in ks xs xs n e (entry (tableOf ks xs ys n) e .a)
+  pub b : Operand-in ks xs ys n e (entry (tableOf ks xs ys n) e .b)
 
-  pub record ChosenA : Type 0 where
-    pub chosen : Chosen
-    pub a : Operand-in ks xs xs n (entryOf (getD ls (4 * v) 0)) (entry (tableOf ks xs ys n) (entryOf (getD ls (4 * v) 0)) .a)
+-- the operands of a principal at whose entry e the kind that the rule names stands
+module _ {ks xs ys : List ℕ} {n p : ℕ} (C : Coded ks xs ys n p) {e : ℕ} (i : e ≡ entryOf p) where
+  kind-is : {k : ℕ} → getD ks e 0 ≡ k → kind (tableOf ks xs ys n) (entryOf p) ≡ k
+  kind-is q = tableOf-kind ks xs ys n (entryOf p) (C .inside) ∙ rw i at q
 
-  pub record ChosenAB : Type 0 where
-    pub chosen : Chosen
-    pub a : Operand-in ks xs xs n (entryOf (getD ls (4 * v) 0)) (entry (tableOf ks xs ys n) (entryOf (getD ls (4 * v) 0)) .a)
-    pub b : Operand-in ks xs ys n (entryOf (getD ls (4 * v) 0)) (entry (tableOf ks xs ys n) (entryOf (getD ls (4 * v) 0)) .b)
-
-module _ {ks xs ys : List ℕ} {n : ℕ} {ls ss cs : List ℕ} {v : ℕ} (R : NodeReady ks xs ys n ls ss cs v) where
-  pub chosen : {r : Bool} (k : ℕ) → r ≡ of-kind (tableOf ks xs ys n) (local ls ss cs) k v → not r ≡ false → Chosen ks xs ys n ls ss cs v k
-  unfolding of-kind
-  chosen k q h = go (both (was-true q h))
-    where
-      go : (belongs (local ls ss cs) v ≡ true) × (eqb (kind (tableOf ks xs ys n) (entryOf (getD ls (4 * v) 0))) k ≡ true) → Chosen ks xs ys n ls ss cs v k
-      go (b, e) = record {
-        of-kind = was-true q h;
-        small = belongs-small ls ss cs v (R .here) b;
-        inside = belongs-entry ls ss cs v n (R .entries) b;
-        kind-is = eqb-true _ _ e;
-      }
-
-  -- with the shape of the kind
-  with-a : {k : ℕ} {s : Shape} (C : Chosen ks xs ys n ls ss cs v k) → shape (tableOf ks xs ys n) (entryOf (getD ls (4 * v) 0)) ≡ s
-      → Operand s (entry (tableOf ks xs ys n) (entryOf (getD ls (4 * v) 0)) .a) → ChosenA ks xs ys n ls ss cs v k
-  with-a C q o = record { chosen = C; a = a-operand ks xs ys n (R .small) (R .well) _ (C .inside) q o }
-
-  with-ab : {k : ℕ} {s : Shape} (C : Chosen ks xs ys n ls ss cs v k) → shape (tableOf ks xs ys n) (entryOf (getD ls (4 * v) 0)) ≡ s
-      → Operand s (entry (tableOf ks xs ys n) (entryOf (getD ls (4 * v) 0)) .a) → Operand s (entry (tableOf ks xs ys n) (entryOf (getD ls (4 * v) 0)) .b)
-      → ChosenAB ks xs ys n ls ss cs v k
-  with-ab C q o p = record {
-    chosen = C;
-    a = a-operand ks xs ys n (R .small) (R .well) _ (C .inside) q o;
-    b = b-operand ks xs ys n (R .small) (R .well) _ (C .inside) q p;
+  both : {o : Two} → shape (tableOf ks xs ys n) (entryOf p) ≡ two o (entry (tableOf ks xs ys n) (entryOf p) .a) (entry (tableOf ks xs ys n) (entryOf p) .b) → Operands ks xs ys n (entryOf p)
+  both q = record {
+    a = a-operand ks xs ys n (C .small) (C .well) _ (C .inside) q (inl refl);
+    b = b-operand ks xs ys n (C .small) (C .well) _ (C .inside) q (inr refl);
   }
 
-  pub or-chosen : Chosen ks xs ys n ls ss cs v Kind.OR → ChosenAB ks xs ys n ls ss cs v Kind.OR
-  or-chosen C = with-ab C (or-shape _ _ (C .kind-is)) (inl refl) (inr refl)
+  pub or-operands : getD ks e 0 ≡ Kind.OR → Operands ks xs ys n (entryOf p)
+  or-operands q = both (or-shape _ _ (kind-is q))
 
-  pub and-chosen : Chosen ks xs ys n ls ss cs v Kind.AND → ChosenAB ks xs ys n ls ss cs v Kind.AND
-  and-chosen C = with-ab C (and-shape _ _ (C .kind-is)) (inl refl) (inr refl)
+  pub and-operands : getD ks e 0 ≡ Kind.AND → Operands ks xs ys n (entryOf p)
+  and-operands q = both (and-shape _ _ (kind-is q))
 
-  pub mu-chosen : Chosen ks xs ys n ls ss cs v Kind.MU → ChosenA ks xs ys n ls ss cs v Kind.MU
-  mu-chosen C = with-a C (mu-shape _ _ (C .kind-is)) refl
-
-  pub nu-chosen : Chosen ks xs ys n ls ss cs v Kind.NU → ChosenA ks xs ys n ls ss cs v Kind.NU
-  nu-chosen C = with-a C (nu-shape _ _ (C .kind-is)) refl
+  -- a fixpoint's body
+  pub body : {k : ℕ} → (k ≡ Kind.MU) ⊎ (k ≡ Kind.NU) → getD ks e 0 ≡ k
+      → Operand-in ks xs xs n (entryOf p) (entry (tableOf ks xs ys n) (entryOf p) .a)
+  body (inl k) q = a-operand ks xs ys n (C .small) (C .well) _ (C .inside) (mu-shape _ _ (kind-is (q ∙ k))) refl
+  body (inr k) q = a-operand ks xs ys n (C .small) (C .well) _ (C .inside) (nu-shape _ _ (kind-is (q ∙ k))) refl

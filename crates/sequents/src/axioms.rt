@@ -2,12 +2,12 @@
 ghost use mathlib.Core.Path.{_≡_};
 ghost use mathlib.Core.List.{List};
 ghost use Prim.Native.Nat.{ℕ, _<_};
-ghost use Rattle.verdict.specs.Sets.{elements};
 ghost use Rattle.formula.specs.Plain.{tableOf};
 ghost use Rattle.formula.specs.Codes.{entryOf};
-ghost use Rattle.sequents.specs.Placed.{local, Placed, Entries};
+ghost use Rattle.formula.specs.PlainNodes.{codesAt};
+ghost use Rattle.sequents.specs.Placed.{Placed, Entries};
 ghost use Rattle.sequents.specs.Part.{part, Span};
-ghost use Rattle.calculus.specs.Judge.{opposite as Opposite, clash as Clash, truth as Truth, ax1-kept as Ax1Kept, ax2-kept as Ax2Kept};
+ghost use Rattle.calculus.specs.Judge.{opposite as Opposite, clash as Clash, truth as Truth};
 use super::sets::entry_of;
 use bits::wide;
 use formula::Kind;
@@ -32,7 +32,7 @@ fn opposite(kinds: &[u8; 256], a: &[u16; 256], plain: u16, negated: u16) -> bool
 // Whether codes are exactly a letter and its negation, either focus.
 fn clash(kinds: &[u8; 256], a: &[u16; 256], codes: &[u16], from: usize, to: usize) -> bool
     requires { ⌜ Span (now codes) from to ⌝ }
-    ensures { λ r. ⌜ ((ys : List ℕ) (n : ℕ) → ((c : ℕ) → elements (part (now (codes .entry)) from to) c → entryOf c < n) → r ≡ Clash
+    ensures { λ r. ⌜ ((ys : List ℕ) (n : ℕ) → Entries n (part (now (codes .entry)) from to) → r ≡ Clash
         (tableOf (now (kinds .entry)) (now (a .entry)) ys n) (part (now (codes .entry)) from to)) ⌝ }
 {
     if to != from + 2 {
@@ -49,7 +49,7 @@ fn clash(kinds: &[u8; 256], a: &[u16; 256], codes: &[u16], from: usize, to: usiz
 // Whether they are exactly one member, true.
 fn truth(kinds: &[u8; 256], codes: &[u16], from: usize, to: usize) -> bool
     requires { ⌜ Span (now codes) from to ⌝ }
-    ensures { λ r. ⌜ ((xs ys : List ℕ) (n : ℕ) → ((c : ℕ) → elements (part (now (codes .entry)) from to) c → entryOf c < n) → r ≡ Truth
+    ensures { λ r. ⌜ ((xs ys : List ℕ) (n : ℕ) → Entries n (part (now (codes .entry)) from to) → r ≡ Truth
         (tableOf (now (kinds .entry)) xs ys n) (part (now (codes .entry)) from to)) ⌝ }
 {
     if to != from + 1 {
@@ -67,8 +67,8 @@ pub fn ax1_kept(
     v: usize,
 ) -> bool
     requires { ⌜ Placed (now starts) (now codes) v ⌝ }
-    ensures { λ r. ⌜ ((ys ls : List ℕ) (n : ℕ) → Entries n (now (starts .entry)) (now (codes .entry)) v → r ≡ Ax1Kept
-        (tableOf (now (kinds .entry)) (now (a .entry)) ys n) (local ls (now (starts .entry)) (now (codes .entry))) v) ⌝ }
+    ensures { λ r. ⌜ ((ys : List ℕ) (n : ℕ) → Entries n (codesAt (now (starts .entry)) (now (codes .entry)) v) → r ≡ Clash
+        (tableOf (now (kinds .entry)) (now (a .entry)) ys n) (codesAt (now (starts .entry)) (now (codes .entry)) v)) ⌝ }
 {
     clash(kinds, a, codes, wide(starts[v]), wide(starts[v + 1]))
 }
@@ -76,8 +76,8 @@ pub fn ax1_kept(
 // 1 Ax2: exactly one member, true.
 pub fn ax2_kept(kinds: &[u8; 256], starts: &[u16; 1025], codes: &[u16], v: usize) -> bool
     requires { ⌜ Placed (now starts) (now codes) v ⌝ }
-    ensures { λ r. ⌜ ((xs ys ls : List ℕ) (n : ℕ) → Entries n (now (starts .entry)) (now (codes .entry)) v → r ≡ Ax2Kept
-        (tableOf (now (kinds .entry)) xs ys n) (local ls (now (starts .entry)) (now (codes .entry))) v) ⌝ }
+    ensures { λ r. ⌜ ((xs ys : List ℕ) (n : ℕ) → Entries n (codesAt (now (starts .entry)) (now (codes .entry)) v) → r ≡ Truth
+        (tableOf (now (kinds .entry)) xs ys n) (codesAt (now (starts .entry)) (now (codes .entry)) v)) ⌝ }
 {
     truth(kinds, codes, wide(starts[v]), wide(starts[v + 1]))
 }

@@ -2,7 +2,7 @@
 ghost use mathlib.Core.Path.{_≡_};
 ghost use mathlib.Core.List.{List, _∷_};
 ghost use Prim.Native.Nat.{ℕ, _<_};
-ghost use lib.ListN.{length, take};
+ghost use lib.ListN.{take};
 ghost use Rattle.verdict.specs.Tests.{member, same as sameSet, remove, each};
 ghost use Rattle.formula.specs.Codes.{code as codeOf, entryOf};
 ghost use Rattle.formula.specs.PlainNodes.{codesAt, proofOf};
@@ -13,45 +13,30 @@ ghost use Rattle.calculus.specs.View.{plain};
 ghost use Rattle.calculus.specs.Judge.{root};
 use bits::wide;
 
-// The set with a code more.
-pub fn with(set: [u64; 8], code: u16) -> [u64; 8]
-    requires { ⌜ code < 512 ⌝ }
-    ensures { λ r. ⌜ ((l : List ℕ) → Holds set l → Holds r (code ∷ l)) ⌝ }
-{
-    let place = code as usize;
-    let word = place / 64;
-    let mut changed = set;
-    changed[word] = changed[word] | (1u64 << (place % 64));
-    changed
-}
-
 // A code more, in place.
-fn put(set: &mut [u64; 8], code: u16)
-    requires { ⌜ (code < 512) × (length (now set) ≡ 8) ⌝ }
-    ensures { λ _. ⌜ (length (now (set .exit)) ≡ 8) × ((l : List ℕ) → Holds (now (set .entry)) l → Holds (now (set .exit)) (code ∷ l)) ⌝ }
+pub fn put(set: &mut [u64; 8], code: u16)
+    requires { ⌜ code < 512 ⌝ }
+    ensures { λ _. ⌜ ((l : List ℕ) → Holds (now (set .entry)) l → Holds (now (set .exit)) (code ∷ l)) ⌝ }
 {
     let place = code as usize;
     let word = place / 64;
     set[word] = set[word] | (1u64 << (place % 64));
 }
 
-// The set without a code.
-pub fn without(set: [u64; 8], code: u16) -> [u64; 8]
+// A code less, in place.
+pub fn take(set: &mut [u64; 8], code: u16)
     requires { ⌜ code < 512 ⌝ }
-    ensures { λ r. ⌜ ((l : List ℕ) → Holds set l → Holds r (remove code l)) ⌝ }
+    ensures { λ _. ⌜ ((l : List ℕ) → Holds (now (set .entry)) l → Holds (now (set .exit)) (remove code l)) ⌝ }
 {
     let place = code as usize;
     let word = place / 64;
-    let bit = 1u64 << (place % 64);
-    let mut changed = set;
-    let old = changed[word];
-    changed[word] = old ^ (old & bit);
-    changed
+    let old = set[word];
+    set[word] = old ^ (old & (1u64 << (place % 64)));
 }
 
 // Whether a code is in the set; one of 512 or more is in none.
-pub fn has(set: [u64; 8], code: u16) -> bool
-    ensures { λ r. ⌜ ((l : List ℕ) → Holds set l → r ≡ member l code) ⌝ }
+pub fn has(set: &[u64; 8], code: u16) -> bool
+    ensures { λ r. ⌜ ((l : List ℕ) → Holds (now (set .entry)) l → r ≡ member l code) ⌝ }
 {
     let place = code as usize;
     if 512 <= place {
@@ -62,8 +47,8 @@ pub fn has(set: [u64; 8], code: u16) -> bool
 }
 
 // Whether two sets are the same.
-pub fn same(x: [u64; 8], y: [u64; 8]) -> bool
-    ensures { λ r. ⌜ ((l m : List ℕ) → Holds x l → Holds y m → r ≡ sameSet l m) ⌝ }
+pub fn same(x: &[u64; 8], y: &[u64; 8]) -> bool
+    ensures { λ r. ⌜ ((l m : List ℕ) → Holds (now (x .entry)) l → Holds (now (y .entry)) m → r ≡ sameSet l m) ⌝ }
 {
     let mut i: usize = 0;
     while i < 8 {
@@ -76,7 +61,7 @@ pub fn same(x: [u64; 8], y: [u64; 8]) -> bool
 }
 
 // The codes from one place up to another.
-fn set_of(codes: &[u16], from: usize, to: usize) -> [u64; 8]
+pub fn set_of(codes: &[u16], from: usize, to: usize) -> [u64; 8]
     requires { ⌜ Span (now codes) from to ⌝ }
     ensures { λ r. ⌜ Holds r (part (now (codes .entry)) from to) ⌝ }
 {
@@ -117,7 +102,9 @@ pub fn same_sequent(starts: &[u16; 1025], codes: &[u16], v: usize, w: usize) -> 
     requires { ⌜ Placed (now starts) (now codes) v × Placed (now starts) (now codes) w ⌝ }
     ensures { λ r. ⌜ r ≡ sameSet (codesAt (now (starts .entry)) (now (codes .entry)) v) (codesAt (now (starts .entry)) (now (codes .entry)) w) ⌝ }
 {
-    same(sequent(starts, codes, v), sequent(starts, codes, w))
+    let here = sequent(starts, codes, v);
+    let there = sequent(starts, codes, w);
+    same(&here, &there)
 }
 
 // The claim's members, all in focus.
@@ -129,8 +116,7 @@ fn claim_set(members: &[u16; 24], count: usize) -> [u64; 8]
     let mut i = count;
     while 0 < i {
         i -= 1;
-        let more = with(set, code_of(members[i], 1));
-        set = more;
+        put(&mut set, code_of(members[i], 1));
     }
     set
 }
@@ -141,5 +127,7 @@ pub fn root_is_claim(members: &[u16; 24], count: usize, starts: &[u16; 1025], co
     ensures { λ r. ⌜ ((rs ls : List ℕ) (n : ℕ) → 0 < n → r ≡ root (take count (now (members .entry)))
         (plain (proofOf rs ls (now (starts .entry)) (now (codes .entry)) n))) ⌝ }
 {
-    same(sequent(starts, codes, 0), claim_set(members, count))
+    let found = sequent(starts, codes, 0);
+    let claimed = claim_set(members, count);
+    same(&found, &claimed)
 }

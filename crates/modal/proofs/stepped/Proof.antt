@@ -44,26 +44,26 @@ shared-slice-read-code c = search needs
 
 operand-code-requires : tie.Need-operand-code-requires Inv-loop μ-loop
 operand-code-requires c κs =
-    let p = c .before .before .before .before .pre in
-    (p .0 .small _ (here c), p .1 _ (here c), omega arith)
+    let p = c .before .before .before .before .before .pre in
+    (p .0 .small _ (here (c .before)), p .1 _ (here (c .before)), omega arith)
 
-with-requires : tie.Need-with-requires Inv-loop μ-loop
-with-requires c κs = c .operand-code .ensures .0
+put-requires : tie.Need-put-requires Inv-loop μ-loop
+put-requires c κs = c .operand-code .ensures .0
 
 loop-less : tie.Need-loop-less Inv-loop μ-loop
 loop-less c = search needs
 
 loop-again : tie.Need-loop-again Inv-loop μ-loop
 loop-again c =
-    let s = c .before .before .before .before .before .before in
-    let l = c .before .before .before .before .loop in (
+    let s = c .before .before .before .before .before .before .before in
+    let l = c .before .before .before .before .before .loop in (
       search needs,
       search needs,
       λ ys n M.
-          let m = M _ (here (c .before .before)) in
+          let m = M _ (here (c .before .before .before)) in
           each-before (Stepped (tableOf (s .args .kinds .now) (s .args .a .now) ys n)) (s .args .codes .now) (l .i) (s .args .to) _ (omega arith) (omega arith) (s .pre .0 .long)
           (rw (m .is) (c .before .operand-code .ensures .1 ys n (m .inside)))
-          (c .with .ensures _ (l .inv .2 ys n M)),
+          (c .put .ensures _ (l .inv .2 ys n M)),
     )
 
 returns : tie.Need-returns Inv-loop μ-loop
@@ -82,7 +82,7 @@ stepped-spec =
     mul-code
     shared-slice-read-code
     operand-code-requires
-    with-requires
+    put-requires
     loop-less
     loop-again
     returns)

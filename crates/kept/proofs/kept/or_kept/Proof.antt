@@ -1,92 +1,67 @@
 -- `or_kept` meets its contract: the set that is compared holds the side and both targets.
 use mathlib.Core.Path.{refl}
+use mathlib.Core.List.{[]}
 use native.Mathlib.Omega.{arith}
 use borrow.Author.Needs.{needs}
-use Rattle.formula.specs.Kind
-use Rattle.calculus.specs.Judge.{or-kept as Kept}
-use Rattle.sequents.specs.KeptLaws.{was-false, ChosenAB, chosen, or-chosen}
+use Rattle.formula.specs.Codes.{entryOf}
+use Rattle.calculus.specs.Judge.{sides, or-kept as Kept}
+use Rattle.sequents.specs.KeptLaws.{Operands, this-kind, other-kind, or-operands}
 use Rattle.kept.proofs.kept.or_kept.Statement.{statement}
 use Rattle.kept.proofs.kept.or_kept.Tie as tie
 
--- where the first test is passed, the principal is of the kind that the rule names
-told : (c : tie.Else1) → let a = c .before .before .before .args in
-    ChosenAB (a .kinds .now) (a .a .now) (a .b .now) (a .count) (a .links .now) (a .starts .now) (a .codes .now) (a .v) Kind.OR
-told c =
-    let a = c .before .before .before .args in
-    let R = c .before .before .before .pre in
-    or-chosen R (chosen R Kind.OR (c .before .of-kind .ensures (a .a .now) (a .b .now) (a .count) (R .entries)) (c .if1 .left))
+-- where the first test is passed, the principal has two operands
+told : (c : tie.Else1) → let a = c .before .before .before .args in Operands (a .kinds .now) (a .a .now) (a .b .now) (a .size) (entryOf (a .principal))
+told c = or-operands (c .before .before .before .pre) (c .before .before .entry-of .ensures) (c .if1 .left)
 
-of-kind-requires : tie.Need-of-kind-requires
-of-kind-requires c κs = search needs
+entry-of-requires : tie.Need-entry-of-requires
+entry-of-requires c κs = search needs
+
+element-copy-out-if1 : tie.Need-element-copy-out-if1
+element-copy-out-if1 c = search needs
 
 returns : tie.Need-returns
 unfolding Kept
-returns c =
-    let a = c .before .before .before .args in
-    rw (was-false (c .before .of-kind .ensures (a .a .now) (a .b .now) (a .count) (c .before .before .before .pre .entries)) (c .if1 .taken)) refl
-
-mul-principal : tie.Need-mul-principal
-mul-principal c = search needs
-
-mul-principal-2 : tie.Need-mul-principal-2
-mul-principal-2 c = search needs
-
-element-copy-out-principal : tie.Need-element-copy-out-principal
-element-copy-out-principal c = search needs
+returns c l m S M = rw (other-kind (c .before .before .before .pre) l m [] (S .belongs) (c .before .before .entry-of .ensures) (c .if1 .taken)) refl
 
 operand-code-requires : tie.Need-operand-code-requires
-operand-code-requires c κs = let k = told (c .before) in (k .chosen .small, k .a .within, omega arith)
+operand-code-requires c κs = (search needs, told c .a .within, omega arith)
 
 operand-code-requires-2 : tie.Need-operand-code-requires-2
-operand-code-requires-2 c κs = let k = told (c .before .before) in (k .chosen .small, k .b .within, omega arith)
+operand-code-requires-2 c κs = (search needs, told (c .before) .b .within, omega arith)
 
-side-requires : tie.Need-side-requires
-side-requires c κs = let e = c .before .before .before in (e .before .before .before .pre .here, told e .chosen .small)
+put-requires : tie.Need-put-requires
+put-requires c κs = search needs
 
-with-requires : tie.Need-with-requires
-with-requires c κs = search needs
+put-requires-2 : tie.Need-put-requires-2
+put-requires-2 c κs = search needs
 
-mul-child-is : tie.Need-mul-child-is
-mul-child-is c = search needs
-
-add-child-is : tie.Need-add-child-is
-add-child-is c = search needs
-
-with-requires-2 : tie.Need-with-requires-2
-with-requires-2 c κs = search needs
-
-child-is-requires : tie.Need-child-is-requires
-child-is-requires c κs = search needs
+same-requires : tie.Need-same-requires
+same-requires c κs = search needs
 
 returns-2 : tie.Need-returns-2
-unfolding Kept
-returns-2 c =
-    let e = c .before .before .before .before .before .before .before in
-    let a = e .before .before .before .args in
+unfolding Kept sides
+returns-2 c l m S M =
+    let a = c .before .before .before .before .before .before .before .before .before .before .before .before .args in
+    let k = told (c .before .before .before .before .before .before .before .before .before) in
     rw (
-      told e .chosen .of-kind,
-      told e .a .is,
-      told e .b .is,
-      ← c .before .before .before .before .before .operand-code .ensures .1 (a .b .now) (a .count) (told e .a .inside),
-      ← c .before .before .before .before .operand-code2 .ensures .1 (a .b .now) (a .count) (told e .b .inside),
+      this-kind (c .before .before .before .before .before .before .before .before .before .before .before .before .pre) l m [] (S .belongs) (c .before .before .before .before .before .before .before .before .before .before .before .entry-of .ensures) (c .before .before .before .before .before .before .before .before .before .if1 .left),
+      k .a .is,
+      k .b .is,
+      ← c .before .before .before .before .before .before .before .before .operand-code .ensures .1 (a .b .now) (a .size) (k .a .inside),
+      ← c .before .before .before .before .before .before .before .operand-code2 .ensures .1 (a .b .now) (a .size) (k .b .inside),
     )
-    (c .child-is .ensures _ (c .before .with2 .ensures _ (c .before .before .with .ensures _ (c .before .before .before .side .ensures))))
+    (c .same .ensures m _ M (c .before .before .put2 .ensures _ (c .before .before .before .before .put .ensures _ (S .holds))))
 
 pub or-kept-spec : {M : Type 1} → statement M
 or-kept-spec =
     tie.close
     (tie.spec
-    of-kind-requires
+    entry-of-requires
+    element-copy-out-if1
     returns
-    mul-principal
-    mul-principal-2
-    element-copy-out-principal
     operand-code-requires
     operand-code-requires-2
-    side-requires
-    with-requires
-    mul-child-is
-    add-child-is
-    with-requires-2
-    child-is-requires
+    put-requires
+    put-requires-2
+    same-requires
     returns-2)

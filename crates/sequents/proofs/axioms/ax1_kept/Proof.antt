@@ -1,6 +1,5 @@
 -- `ax1_kept` meets its contract, from what `clash` promises.
 use borrow.Author.Needs.{needs}
-use Rattle.calculus.specs.Judge.{ax1-kept as Kept}
 use Rattle.sequents.proofs.axioms.ax1_kept.Statement.{statement}
 use Rattle.sequents.proofs.axioms.ax1_kept.Tie as tie
 
@@ -29,8 +28,7 @@ clash-requires : tie.Need-clash-requires
 clash-requires c κs = rw (c .before .before .wide .ensures, c .wide2 .ensures) (c .before .before .before .before .before .pre .span)
 
 returns : tie.Need-returns
-unfolding Kept
-returns c ys ls n E = rw (c .before .before .before .wide .ensures, c .before .wide2 .ensures) at (c .clash .ensures) ys n E
+returns c ys n E = rw (c .before .before .before .wide .ensures, c .before .wide2 .ensures) at (c .clash .ensures) ys n E
 
 pub ax1-kept-spec : {M : Type 1} → statement M
 ax1-kept-spec =

@@ -1,6 +1,5 @@
 -- `ax2_kept` meets its contract, from what `truth` promises.
 use borrow.Author.Needs.{needs}
-use Rattle.calculus.specs.Judge.{ax2-kept as Kept}
 use Rattle.sequents.proofs.axioms.ax2_kept.Statement.{statement}
 use Rattle.sequents.proofs.axioms.ax2_kept.Tie as tie
 
@@ -29,8 +28,7 @@ truth-requires : tie.Need-truth-requires
 truth-requires c κs = rw (c .before .before .wide .ensures, c .wide2 .ensures) (c .before .before .before .before .before .pre .span)
 
 returns : tie.Need-returns
-unfolding Kept
-returns c xs ys ls n E = rw (c .before .before .before .wide .ensures, c .before .wide2 .ensures) at (c .truth .ensures) xs ys n E
+returns c xs ys n E = rw (c .before .before .before .wide .ensures, c .before .wide2 .ensures) at (c .truth .ensures) xs ys n E
 
 pub ax2-kept-spec : {M : Type 1} → statement M
 ax2-kept-spec =

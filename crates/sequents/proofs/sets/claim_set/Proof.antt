@@ -30,22 +30,22 @@ element-copy-out-code-of c = search needs
 
 code-of-requires : tie.Need-code-of-requires Inv-loop μ-loop
 code-of-requires c κs =
-    let s = c .before .before .before in
-    (s .pre .small _ (rw part-all at (part-member (s .args .members .now) 0 (s .args .count) (c .before .before .loop .i - 1) zero-le (omega arith) (s .pre .long))), search needs)
+    let s = c .before .before .before .before in
+    (s .pre .small _ (rw part-all at (part-member (s .args .members .now) 0 (s .args .count) (c .before .before .before .loop .i - 1) zero-le (omega arith) (s .pre .long))), search needs)
 
-with-requires : tie.Need-with-requires Inv-loop μ-loop
-with-requires c κs = c .code-of .ensures .0
+put-requires : tie.Need-put-requires Inv-loop μ-loop
+put-requires c κs = c .code-of .ensures .0
 
 loop-less : tie.Need-loop-less Inv-loop μ-loop
 loop-less c = search needs
 
 loop-again : tie.Need-loop-again Inv-loop μ-loop
 loop-again c =
-    let s = c .before .before .before .before .before in
-    let l = c .before .before .before .before .loop in (
+    let s = c .before .before .before .before .before .before in
+    let l = c .before .before .before .before .before .loop in (
       search needs,
       each-before inFocus (s .args .members .now) (l .i) (s .args .count) _ (omega arith) (omega arith) (s .pre .long) (c .before .code-of .ensures .1)
-          (c .with .ensures _ (l .inv .1)),
+          (c .put .ensures _ (l .inv .1)),
     )
 
 returns : tie.Need-returns Inv-loop μ-loop
@@ -64,7 +64,7 @@ claim-set-spec =
     mul-code-of
     element-copy-out-code-of
     code-of-requires
-    with-requires
+    put-requires
     loop-less
     loop-again
     returns)

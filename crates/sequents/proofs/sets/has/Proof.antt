@@ -8,21 +8,21 @@ use Rattle.sequents.proofs.sets.has.Tie as tie
 returns : tie.Need-returns
 returns c l H =
     let a = c .before .args in
-    sym (past-words (a .t1) (search needs) (a .code) (c .if1 .taken)) ∙ H .tells (a .code)
+    sym (past-words (a .set .now) l H (a .code) (c .if1 .taken)) ∙ H .tells (a .code)
 
 mul-word : tie.Need-mul-word
 mul-word c = search needs
 
-array-read-word : tie.Need-array-read-word
-array-read-word c = search needs
+element-copy-out-word : tie.Need-element-copy-out-word
+element-copy-out-word c = search needs
 
 shr-result : tie.Need-shr-result
 shr-result c = search needs
 
 returns-2 : tie.Need-returns-2
 returns-2 c l H =
-    let a = c .before .args in
-    in-word (a .t1) (a .code) ∙ H .tells (a .code)
+    let a = c .before .before .args in
+    in-word (a .set .now) (a .code) ∙ H .tells (a .code)
 
 pub has-spec : {M : Type 1} → statement M
-has-spec = tie.close (tie.spec returns mul-word array-read-word shr-result returns-2)
+has-spec = tie.close (tie.spec returns mul-word element-copy-out-word shr-result returns-2)

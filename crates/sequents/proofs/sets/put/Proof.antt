@@ -1,9 +1,4 @@
 -- `put` meets its contract: the word of the code has one bit more.
-use mathlib.Core.Path.{_∙_}
-use native.Mathlib.Omega.{arith}
-use Prim.Native.Nat.{_/_, _%_}
-use lib.ListN.{getD, length-set}
-use Rattle.bits.specs.WordLaws.{withBit}
 use borrow.Author.Needs.{needs}
 use Rattle.sequents.specs.CodeSet.{holds-with}
 use Rattle.sequents.proofs.sets.put.Statement.{statement}
@@ -25,7 +20,7 @@ element-write-set : tie.Need-element-write-set
 element-write-set c = search needs
 
 returns : tie.Need-returns
-returns c = (length-set (c .before .args .set .now) (c .before .args .code / 64) (withBit (getD (c .before .args .set .now) (c .before .args .code / 64) 0) (c .before .args .code % 64)) ∙ c .before .pre .1, λ l H. holds-with (c .before .args .set .now) l (c .before .args .code) (omega (arith, c .before .pre .0, c .before .pre .1)) H)
+returns c l H = holds-with (c .before .args .set .now) l (c .before .args .code) (c .before .pre) H
 
 pub put-spec : {M : Type 1} → statement M
 put-spec = tie.close (tie.spec mul-set element-copy-out-set shl-set mul-set-2 element-write-set returns)

@@ -3,8 +3,6 @@ use mathlib.Core.Path.{_≡_}
 use Prim.Native.Nat.{ℕ, _≤_, _<_, _-_}
 use native.Mathlib.Omega.{arith}
 use lib.ListN.{getD}
-use mir.Syntax.{w64}
-use mir.Val.{Fits}
 use borrow.Author.Count.{below-more}
 use borrow.Author.Needs.{needs}
 use Rattle.sequents.specs.CodeSet.{same-words, other-words}
@@ -23,21 +21,19 @@ loop-holds c = (search needs, λ k h. omega arith)
 mul-if1 : tie.Need-mul-if1 Inv-loop μ-loop
 mul-if1 c = search needs
 
-array-read-if1 : tie.Need-array-read-if1 Inv-loop μ-loop
-array-read-if1 c = search needs
+element-copy-out-if1 : tie.Need-element-copy-out-if1 Inv-loop μ-loop
+element-copy-out-if1 c = search needs
 
 mul-if1-2 : tie.Need-mul-if1-2 Inv-loop μ-loop
 mul-if1-2 c = search needs
 
-array-read-if1-2 : tie.Need-array-read-if1-2 Inv-loop μ-loop
-array-read-if1-2 c = search needs
+element-copy-out-if1-2 : tie.Need-element-copy-out-if1-2 Inv-loop μ-loop
+element-copy-out-if1-2 c = search needs
 
 returns : tie.Need-returns Inv-loop μ-loop
 returns c l m X Y =
-    let a = c .before .before .before .args in
-    let x : Fits w64 (getD (a .t1) (c .before .before .loop .i) 0) = search needs in
-    let y : Fits w64 (getD (a .t2) (c .before .before .loop .i) 0) = search needs in
-    other-words (a .t1) (a .t2) l m X Y (c .before .before .loop .i) (x .fits) (y .fits) (c .if1 .taken)
+    let a = c .before .before .before .before .before .args in
+    other-words (a .x .now) (a .y .now) l m X Y (c .before .before .before .before .loop .i) (c .if1 .taken)
 
 add-i : tie.Need-add-i Inv-loop μ-loop
 add-i c = search needs
@@ -46,12 +42,12 @@ loop-less : tie.Need-loop-less Inv-loop μ-loop
 loop-less c = search needs
 
 loop-again : tie.Need-loop-again Inv-loop μ-loop
-loop-again c = (search needs, below-more _ _ (c .before .before .loop .inv .1) (c .if1 .left))
+loop-again c = (search needs, below-more _ _ (c .before .before .before .before .loop .inv .1) (c .if1 .left))
 
 returns-2 : tie.Need-returns-2 Inv-loop μ-loop
 returns-2 c l m X Y =
     let a = c .before .before .args in
-    same-words (a .t1) (a .t2) l m X Y (search needs) (search needs) (λ k h. c .before .loop .inv .1 k (omega arith))
+    same-words (a .x .now) (a .y .now) l m X Y (λ k h. c .before .loop .inv .1 k (omega arith))
 
 pub same-spec : {M : Type 1} → statement M
 same-spec =
@@ -61,9 +57,9 @@ same-spec =
     μ-loop
     loop-holds
     mul-if1
-    array-read-if1
+    element-copy-out-if1
     mul-if1-2
-    array-read-if1-2
+    element-copy-out-if1-2
     returns
     add-i
     loop-less

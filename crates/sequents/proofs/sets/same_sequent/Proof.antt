@@ -15,9 +15,9 @@ same-requires c κs = search needs
 
 returns : tie.Need-returns
 returns c =
-    let a = c .before .before .before .before .args in
+    let a = c .before .before .before .before .before .before .args in
     c .same .ensures (codesAt (a .starts .now) (a .codes .now) (a .v)) (codesAt (a .starts .now) (a .codes .now) (a .w))
-    (c .before .before .sequent .ensures) (c .before .sequent2 .ensures)
+    (c .before .before .before .before .sequent .ensures) (c .before .before .before .sequent2 .ensures)
 
 pub same-sequent-spec : {M : Type 1} → statement M
 same-sequent-spec = tie.close (tie.spec sequent-requires sequent-requires-2 same-requires returns)

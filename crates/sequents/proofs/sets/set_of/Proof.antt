@@ -1,9 +1,8 @@
 -- `set_of` meets its contract. The invariant: the set holds the codes from i on.
 use mathlib.Core.Path.{_≡_}
-use Prim.Native.Nat.{ℕ, _≤_, _-_}
+use Prim.Native.Nat.{_≤_, _-_}
 use native.Mathlib.Omega.{arith}
 use native.Mathlib.Nat.{le-refl}
-use lib.ListN.{length, length-replicate}
 use borrow.Author.Needs.{needs}
 use Rattle.sequents.specs.CodeSet.{Holds, holds-none}
 use Rattle.sequents.specs.Part.{part, part-none, part-before, part-member}
@@ -11,13 +10,13 @@ use Rattle.sequents.proofs.sets.set_of.Statement.{statement}
 use Rattle.sequents.proofs.sets.set_of.Tie as tie
 
 abbrev Inv-loop : tie.InvT-loop
-Inv-loop codes from to set₀ i₀ set i = (from ≤ i) × (i ≤ to) × Holds set (part codes i to) × (length set ≡ 8)
+Inv-loop codes from to set₀ i₀ set i = (from ≤ i) × (i ≤ to) × Holds set (part codes i to)
 
 abbrev μ-loop : tie.MeasureT-loop
 μ-loop codes from to set₀ i₀ set i = i - from
 
 loop-holds : tie.Need-loop-holds Inv-loop μ-loop
-loop-holds c = (search needs, search needs, rw (part-none _ _ _ (le-refl _)) holds-none, length-replicate {A = ℕ} 8 0)
+loop-holds c = (search needs, search needs, rw (part-none _ _ _ (le-refl _)) holds-none)
 
 sub-i : tie.Need-sub-i Inv-loop μ-loop
 sub-i c = search needs
@@ -31,7 +30,7 @@ shared-slice-read-put c = search needs
 put-requires : tie.Need-put-requires Inv-loop μ-loop
 put-requires c κs =
     let a = c .before .before .before .before .before .args in
-    (c .before .before .before .before .before .pre .small _ (part-member (a .codes .now) (a .from) (a .to) (c .before .before .before .loop .i - 1) (omega arith) (omega arith) (search needs)), c .before .before .before .loop .inv .3)
+    c .before .before .before .before .before .pre .small _ (part-member (a .codes .now) (a .from) (a .to) (c .before .before .before .loop .i - 1) (omega arith) (omega arith) (search needs))
 
 loop-less : tie.Need-loop-less Inv-loop μ-loop
 loop-less c = search needs
@@ -43,8 +42,7 @@ loop-again c =
       search needs,
       search needs,
       rw (part-before (a .codes .now) (l .i) (a .to) (omega arith) (omega arith) (search needs))
-          (c .put .ensures .1 (part (a .codes .now) (l .i) (a .to)) (l .inv .2)),
-      c .put .ensures .0,
+          (c .put .ensures (part (a .codes .now) (l .i) (a .to)) (l .inv .2)),
     )
 
 returns : tie.Need-returns Inv-loop μ-loop
