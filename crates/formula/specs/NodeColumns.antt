@@ -13,6 +13,17 @@ use Rattle.formula.specs.Nodes.{Node, Proof, node}
 use Rattle.formula.specs.Records.{allCodes}
 use Rattle.formula.specs.PlainNodes.{codesAt, plainNode, proofOf, proofOf-length, proofOf-node}
 
+-- columns with room for n nodes: a rule, four links and a start to each, the end of the last, and up to 24 codes to each
+pub record Columns (n : ℕ) (rs ls ss cs : List ℕ) : Type 0 where
+  pub few : n ≤ 1024
+  pub rules : n ≤ length rs
+  pub links : 4 * n ≤ length ls
+  pub starts : n < length ss
+  pub codes : 24 * n ≤ length cs
+
+pub fewer : {n m : ℕ} {rs ls ss cs : List ℕ} → n ≤ m → Columns m rs ls ss cs → Columns n rs ls ss cs
+fewer h c = record { few = omega arith; rules = omega arith; links = omega arith; starts = omega arith; codes = omega arith }
+
 -- what each node adds to a column, one after the other
 unfoldable pub spread : (Node → List ℕ) → Proof → List ℕ
 spread f [] = []

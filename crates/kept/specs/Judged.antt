@@ -15,6 +15,7 @@ use Rattle.formula.specs.Plain.{tableOf, tableOf-length}
 use Rattle.conditions.specs.WellFormed.{WellFormed}
 use Rattle.formula.specs.Codes.{focusOf}
 use Rattle.formula.specs.Nodes.{Node, node}
+use Rattle.formula.specs.NodeColumns.{Columns}
 use Rattle.formula.specs.PlainNodes.{codesAt, plainNode, proofOf, proofOf-length, proofOf-node}
 use Rattle.calculus.specs.Given.{Given}
 use Rattle.calculus.specs.Tree.{Tree, Child, first, second}
@@ -25,11 +26,9 @@ use Rattle.sequents.specs.Placed.{family, Placed, Entries, Coded}
 use Rattle.kept.specs.Fixpoint.{fixpoint-kept}
 
 pub record Judged (ks xs ys : List ℕ) (n : ℕ) (rs ls ss cs : List ℕ) (m : ℕ) : Type 0 where
-  -- 256 entries and 1,024 nodes
   pub entries : n ≤ 256
-  pub nodes : m ≤ 1024
-  pub codes : 24576 ≤ length cs
-  pub rising : (v : ℕ) → v < m → (getD ss v 0 ≤ getD ss (v + 1) 0) × (getD ss (v + 1) 0 ≤ 24576)
+  pub columns : Columns m rs ls ss cs
+  pub rising : (v : ℕ) → v < m → (getD ss v 0 ≤ getD ss (v + 1) 0) × (getD ss (v + 1) 0 ≤ 24 * m)
   pub well : WellFormed (tableOf ks xs ys n)
   pub given : Given (tableOf ks xs ys n) (proofOf rs ls ss cs m)
   pub tree : Tree (proofOf rs ls ss cs m)
@@ -65,11 +64,10 @@ module _ {ks xs ys : List ℕ} {n : ℕ} {rs ls ss cs : List ℕ} {m : ℕ} (J :
 
   pub placed : Placed ss cs v
   placed = record {
-    room = omega (arith, J .nodes);
+    room = omega (arith, J .columns .starts);
     span = record {
       order = J .rising v real .0;
-      within = J .rising v real .1;
-      long = omega (arith, J .rising v real .1, J .codes);
+      long = omega (arith, J .rising v real .1, J .columns .codes);
       small = λ c e. omega (arith, entries-in c e, J .entries);
     };
   }

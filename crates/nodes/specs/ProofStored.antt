@@ -12,18 +12,24 @@ use Rattle.formula.specs.Nodes.{Node, Proof}
 use Rattle.formula.specs.Fields.{linkWidth-le}
 use Rattle.formula.specs.Records.{allCodes}
 use Rattle.formula.specs.PlainNodes.{proofOf}
-use Rattle.formula.specs.NodeColumns.{spread, ruleOf, fourLinks, rulesOf, linksOf, startsFrom, startsOf, spread-more, spread-length, codes-more, starts-length, starts-more, proof-of-columns}
+use Rattle.formula.specs.NodeColumns.{Columns, spread, ruleOf, fourLinks, rulesOf, linksOf, startsFrom, startsOf, spread-more, spread-length, codes-more, starts-length, starts-more, proof-of-columns}
 use Rattle.encoding.specs.Parse.{pick}
 use Rattle.encoding.specs.Places.{wordAt}
 use Rattle.verdict.specs.WrittenLaws.{written-on, written-length}
-use Rattle.nodes.specs.ProofDecode.{wordsAt-length, codesPlace, codeCount, nodeEnd, nodeLinks, nodeAt, NodeFits, nodesAt, NodesFit, one-more, proofIn, Decodes, setLinks}
+use Rattle.nodes.specs.ProofDecode.{wordsAt-length, codesPlace, codeCount, nodeEnd, nodeLinks, nodeAt, NodeFits, nodesAt, nodesAt-length, NodesFit, one-more, proofIn, Decodes, setLinks}
 
--- the slice of codes may be longer than 24 codes for each of 1,024 nodes
-pub record NodeArrays (rs ls ss cs : List ℕ) : Type 0 where
-  pub rules : length rs ≡ 1024
-  pub links : length ls ≡ 4096
-  pub starts : length ss ≡ 1025
-  pub codes : 24576 ≤ length cs
+-- there is room for node v, and for 24 codes from a start on
+pub record NodeRoom (v start : ℕ) (rs ls cs : List ℕ) : Type 0 where
+  pub rule : v < length rs
+  pub links : 4 * v + 4 ≤ length ls
+  pub codes : start + 24 ≤ length cs
+
+-- the columns have the lengths that they had
+pub record SameLengths (rs₀ ls₀ ss₀ cs₀ rs ls ss cs : List ℕ) : Type 0 where
+  pub rules : length rs ≡ length rs₀
+  pub links : length ls ≡ length ls₀
+  pub starts : length ss ≡ length ss₀
+  pub codes : length cs ≡ length cs₀
 
 -- the columns of a proof are written into the arrays, which are unchanged beyond them
 pub record NodesStored (p : Proof) (rs₀ ls₀ ss₀ cs₀ rs ls ss cs : List ℕ) : Type 0 where
@@ -97,9 +103,9 @@ module _ {s rs₀ ls₀ ss₀ cs₀ : List ℕ} where
         codes = refl;
       }
 
-  module _ (d : Decodes s) (lent : NodeArrays rs₀ ls₀ ss₀ cs₀) {rs ls ss cs : List ℕ} {at start i : ℕ} (w : Storing s rs₀ ls₀ ss₀ cs₀ rs ls ss cs at start i) where
-    small : wordAt s 4 ≤ 1024
-    small = d .few
+  module _ (d : Decodes s) (lent : Columns (length (proofIn s)) rs₀ ls₀ ss₀ cs₀) {rs ls ss cs : List ℕ} {at start i : ℕ} (w : Storing s rs₀ ls₀ ss₀ cs₀ rs ls ss cs at start i) where
+    pub room : Columns (wordAt s 4) rs₀ ls₀ ss₀ cs₀
+    room = subst (λ (n : ℕ). Columns n rs₀ ls₀ ss₀ cs₀) (nodesAt-length s 6 (wordAt s 4)) lent
 
     rules-long : length (rulesOf (w .done)) ≡ i
     rules-long = omega (arith, spread-length ruleOf 1 (λ _. refl) (w .done), w .many)
@@ -110,9 +116,14 @@ module _ {s rs₀ ls₀ ss₀ cs₀ : List ℕ} where
     starts-long : length (startsFrom 0 (w .done)) ≡ i
     starts-long = starts-length 0 (w .done) ∙ w .many
 
-    -- the stores leave the codes' slice as long as it was
-    pub stored-long : i ≤ wordAt s 4 → length cs ≡ length cs₀
-    stored-long h = ap length (w .codes) ∙ written-length (allCodes (w .done)) cs₀ (omega (arith, w .counted, w .few, small, lent .codes))
+    -- the stores leave the slices as long as they were
+    pub stored-long : i ≤ wordAt s 4 → SameLengths rs₀ ls₀ ss₀ cs₀ rs ls ss cs
+    stored-long h = record {
+      rules = ap length (w .rules) ∙ written-length (rulesOf (w .done)) rs₀ (omega (arith, rules-long, room .rules));
+      links = ap length (w .links) ∙ written-length (linksOf (w .done)) ls₀ (omega (arith, links-long, room .links));
+      starts = ap length (w .starts) ∙ written-length (startsFrom 0 (w .done)) ss₀ (omega (arith, starts-long, room .starts));
+      codes = ap length (w .codes) ∙ written-length (allCodes (w .done)) cs₀ (omega (arith, w .counted, w .few, room .codes));
+    }
 
     module _ (more : i < wordAt s 4) where
       ahead : wordAt s 4 - i ≡ suc (wordAt s 4 - (i + 1))
@@ -123,6 +134,15 @@ module _ {s rs₀ ls₀ ss₀ cs₀ : List ℕ} where
 
       pub node-fits : NodeFits s at
       node-fits = first-fits one-left .0
+
+      pub node-room : NodeRoom i start rs ls cs
+      node-room =
+          let long = stored-long (omega arith) in
+          record {
+            rule = omega (arith, long .rules, room .rules);
+            links = omega (arith, long .links, room .links);
+            codes = omega (arith, long .codes, room .codes, w .few);
+          }
 
       here : Node
       here = nodeAt s at
@@ -161,10 +181,10 @@ module _ {s rs₀ ls₀ ss₀ cs₀ : List ℕ} where
             near = omega (arith, node-near s at (node-fits .few), w .near);
             counted = c ∙ sym longer;
             few = omega (arith, node-fits .few, w .few);
-            rules = r ∙ stored-on (rulesOf (w .done)) (ruleOf (nodeAt s at)) rs₀ (w .rules) rules-long (omega arith) (spread-more ruleOf (w .done) (nodeAt s at));
-            links = l ∙ links-run ls i s at ∙ stored-on (linksOf (w .done)) (fourLinks (nodeAt s at)) ls₀ (w .links) links-long (omega arith) (spread-more fourLinks (w .done) (nodeAt s at));
-            starts = b ∙ stored-on (startsFrom 0 (w .done)) (start ∷ []) ss₀ (w .starts) starts-long (omega arith) next-start;
-            codes = k ∙ stored-on (allCodes (w .done)) (nodeAt s at .codes) cs₀ (w .codes) (sym (w .counted)) (omega (arith, added, node-fits .few, w .few)) (codes-more (w .done) (nodeAt s at));
+            rules = r ∙ stored-on (rulesOf (w .done)) (ruleOf (nodeAt s at)) rs₀ (w .rules) rules-long (omega (arith, room .rules)) (spread-more ruleOf (w .done) (nodeAt s at));
+            links = l ∙ links-run ls i s at ∙ stored-on (linksOf (w .done)) (fourLinks (nodeAt s at)) ls₀ (w .links) links-long (omega (arith, room .links)) (spread-more fourLinks (w .done) (nodeAt s at));
+            starts = b ∙ stored-on (startsFrom 0 (w .done)) (start ∷ []) ss₀ (w .starts) starts-long (omega (arith, room .starts)) next-start;
+            codes = k ∙ stored-on (allCodes (w .done)) (nodeAt s at .codes) cs₀ (w .codes) (sym (w .counted)) (omega (arith, added, node-fits .few, w .few, room .codes)) (codes-more (w .done) (nodeAt s at));
           }
 
     -- when all are stored, the number of all codes ends the starts
@@ -183,6 +203,6 @@ module _ {s rs₀ ls₀ ss₀ cs₀ : List ℕ} where
           (record {
             rules = w .rules;
             links = w .links;
-            starts = stored-on (startsFrom 0 (w .done)) (start ∷ []) ss₀ (w .starts) starts-long (omega arith) e;
+            starts = stored-on (startsFrom 0 (w .done)) (start ∷ []) ss₀ (w .starts) starts-long (omega (arith, room .starts)) e;
             codes = w .codes;
           })

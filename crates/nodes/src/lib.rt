@@ -7,7 +7,7 @@ ghost use Rattle.bits.specs.IfSet.{ifSet};
 ghost use Rattle.formula.specs.Fields.{linkWidth};
 ghost use Rattle.proofs.specs.ProofParts.{fieldAt, linksAt};
 ghost use Rattle.nodes.specs.ProofDecode.{codeCount, wordsAt, nodeLinks, nodeAt, nodeEnd, NodeFits, setLinks, proofIn, Decodes};
-ghost use Rattle.nodes.specs.ProofStored.{NodeArrays, NodesStored};
+ghost use Rattle.nodes.specs.ProofStored.{NodeRoom, NodesStored};
 use encoding::word_at;
 use formula::Rule;
 
@@ -31,8 +31,8 @@ fn past_field(at: usize, stands: bool) -> usize
 }
 
 // The four links of a node, from the fields of its rule.
-fn decode_links(bytes: &[u8], at: usize, rule: u8, v: usize, links: &mut [u16; 4096])
-    requires { ⌜ (at + linkWidth rule ≤ length (now bytes)) × (at ≤ 58376) × (v < 1024) ⌝ }
+fn decode_links(bytes: &[u8], at: usize, rule: u8, v: usize, links: &mut [u16])
+    requires { ⌜ (at + linkWidth rule ≤ length (now bytes)) × (at ≤ 58376) × (4 * v + 4 ≤ length (now links)) ⌝ }
     ensures { λ r. ⌜ now (links .exit) ≡ setLinks (now (links .entry)) v (linksAt rule (now (bytes .entry)) at) ⌝ }
 {
     let has_principal = Rule::has_principal(rule);
@@ -71,11 +71,11 @@ fn decode_node(
     bytes: &[u8],
     spot: Spot,
     v: usize,
-    rules: &mut [u8; 1024],
-    links: &mut [u16; 4096],
+    rules: &mut [u8],
+    links: &mut [u16],
     codes: &mut [u16],
 ) -> Spot
-    requires { ⌜ NodeFits (now bytes) (spot .at) × (spot .at ≤ 58374) × (v < 1024) × (spot .start + 24 ≤ length (now codes)) ⌝ }
+    requires { ⌜ NodeFits (now bytes) (spot .at) × (spot .at ≤ 58374) × NodeRoom v (spot .start) (now rules) (now links) (now codes) ⌝ }
     ensures { λ r. ⌜ (r .at ≡ nodeEnd (now (bytes .entry)) (spot .at)) × (r .start ≡ spot .start + codeCount (now (bytes .entry)) (spot .at)) ⌝ }
     ensures { λ r. ⌜ now (rules .exit) ≡ set (now (rules .entry)) v (nodeAt (now (bytes .entry)) (spot .at) .rule) ⌝ }
     ensures { λ r. ⌜ now (links .exit) ≡ setLinks (now (links .entry)) v (nodeLinks (now (bytes .entry)) (spot .at)) ⌝ }
@@ -101,12 +101,12 @@ fn decode_node(
 // The nodes of a proof file, written into the arrays that the caller lends, and their number.
 pub fn decode_proof(
     bytes: &[u8],
-    rules: &mut [u8; 1024],
-    links: &mut [u16; 4096],
-    starts: &mut [u16; 1025],
+    rules: &mut [u8],
+    links: &mut [u16],
+    starts: &mut [u16],
     codes: &mut [u16],
 ) -> usize
-    requires { ⌜ Decodes (now bytes) × NodeArrays (now rules) (now links) (now starts) (now codes) ⌝ }
+    requires { ⌜ Decodes (now bytes) × Columns (length (proofIn (now bytes))) (now rules) (now links) (now starts) (now codes) ⌝ }
     ensures { λ r. ⌜ r ≡ length (proofIn (now (bytes .entry))) ⌝ }
     ensures { λ r. ⌜ NodesStored (proofIn (now (bytes .entry))) (now (rules .entry)) (now (links .entry)) (now (starts .entry)) (now (codes .entry))
         (now (rules .exit)) (now (links .exit)) (now (starts .exit)) (now (codes .exit)) ⌝ }

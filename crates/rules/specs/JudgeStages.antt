@@ -14,6 +14,7 @@ use Rattle.formula.specs.Rule
 use Rattle.formula.specs.Table.{Table}
 use Rattle.formula.specs.Plain.{tableOf}
 use Rattle.formula.specs.Nodes.{Node, Proof, node}
+use Rattle.formula.specs.NodeColumns.{Columns}
 use Rattle.formula.specs.PlainNodes.{codesAt, proofOf, proofOf-length, proofOf-node}
 use Rattle.conditions.specs.WellFormed.{WellFormed}
 use Rattle.calculus.specs.Tree.{Tree}
@@ -89,14 +90,14 @@ module _ {ks xs ys : List ℕ} {n : ℕ} {rs ls ss cs : List ℕ} {m : ℕ} (J :
 -- what the reader and the table's judge have ensured before 35
 pub record Laid (ks xs ys : List ℕ) (n : ℕ) (rs ls ss cs : List ℕ) (m : ℕ) : Type 0 where
   pub entries : n ≤ 256
-  pub nodes : (1 ≤ m) × (m ≤ 1024)
-  pub codes : 24576 ≤ length cs
-  pub rising : (v : ℕ) → v < m → (getD ss v 0 ≤ getD ss (v + 1) 0) × (getD ss (v + 1) 0 ≤ 24576)
+  pub some : 1 ≤ m
+  pub columns : Columns m rs ls ss cs
+  pub rising : (v : ℕ) → v < m → (getD ss v 0 ≤ getD ss (v + 1) 0) × (getD ss (v + 1) 0 ≤ 24 * m)
   pub well : WellFormed (tableOf ks xs ys n)
   pub given : Given (tableOf ks xs ys n) (proofOf rs ls ss cs m)
 
 pub laid-judged : {ks xs ys : List ℕ} {n : ℕ} {rs ls ss cs : List ℕ} {m : ℕ} → Laid ks xs ys n rs ls ss cs m → Tree (proofOf rs ls ss cs m) → Judged ks xs ys n rs ls ss cs m
-laid-judged L T = record { entries = L .entries; nodes = L .nodes .1; codes = L .codes; rising = L .rising; well = L .well; given = L .given; tree = T }
+laid-judged L T = record { entries = L .entries; columns = L .columns; rising = L .rising; well = L .well; given = L .given; tree = T }
 
 module _ {ks xs ys : List ℕ} {n : ℕ} {rs ls ss cs : List ℕ} {m : ℕ} {owners : List ℕ} {flags : List Bool} (R : TreeReady ks xs ys n rs ls ss cs m owners flags) (t : Table) (v : ℕ) (real : v < m)
     (leaf : getD rs v 0 ≡ Rule.BACK) {answer good : Bool} (companion : Companion rs ls owners flags v answer good) where

@@ -11,10 +11,9 @@ use Rattle.verdict.specs.Sets.{elements}
 abbrev pub part : List ℕ → ℕ → ℕ → List ℕ
 part l i j = take (j - i) (drop i l)
 
--- a part of a list of at most 24,576 codes, each of which fits a set
+-- a part of a list of codes, each of which fits a set
 pub record Span (cs : List ℕ) (i j : ℕ) : Type 0 where
   pub order : i ≤ j
-  pub within : j ≤ 24576
   pub long : j ≤ length cs
   pub small : (c : ℕ) → elements (part cs i j) c → c < 512
 

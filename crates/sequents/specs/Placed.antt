@@ -36,7 +36,7 @@ pub record Side (w : List ℕ) (p : ℕ) (l : List ℕ) : Type 0 where
 
 -- the codes of node v stand within their list, and fit a set
 pub record Placed (ss cs : List ℕ) (v : ℕ) : Type 0 where
-  pub room : v < 1024
+  pub room : v + 1 < length ss
   pub span : Span cs (getD ss v 0) (getD ss (v + 1) 0)
 
 -- a claim's members: at most 24 entries of a table of 256

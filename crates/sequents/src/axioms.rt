@@ -59,13 +59,7 @@ fn truth(kinds: &[u8; 256], codes: &[u16], from: usize, to: usize) -> bool
 }
 
 // 0 Ax1: exactly a letter and its negation, either focus, no child.
-pub fn ax1_kept(
-    kinds: &[u8; 256],
-    a: &[u16; 256],
-    starts: &[u16; 1025],
-    codes: &[u16],
-    v: usize,
-) -> bool
+pub fn ax1_kept(kinds: &[u8; 256], a: &[u16; 256], starts: &[u16], codes: &[u16], v: usize) -> bool
     requires { ⌜ Placed (now starts) (now codes) v ⌝ }
     ensures { λ r. ⌜ ((ys : List ℕ) (n : ℕ) → Entries n (codesAt (now (starts .entry)) (now (codes .entry)) v) → r ≡ Clash
         (tableOf (now (kinds .entry)) (now (a .entry)) ys n) (codesAt (now (starts .entry)) (now (codes .entry)) v)) ⌝ }
@@ -74,7 +68,7 @@ pub fn ax1_kept(
 }
 
 // 1 Ax2: exactly one member, true.
-pub fn ax2_kept(kinds: &[u8; 256], starts: &[u16; 1025], codes: &[u16], v: usize) -> bool
+pub fn ax2_kept(kinds: &[u8; 256], starts: &[u16], codes: &[u16], v: usize) -> bool
     requires { ⌜ Placed (now starts) (now codes) v ⌝ }
     ensures { λ r. ⌜ ((xs ys : List ℕ) (n : ℕ) → Entries n (codesAt (now (starts .entry)) (now (codes .entry)) v) → r ≡ Truth
         (tableOf (now (kinds .entry)) xs ys n) (codesAt (now (starts .entry)) (now (codes .entry)) v)) ⌝ }

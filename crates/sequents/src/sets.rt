@@ -90,7 +90,7 @@ pub fn code_of(entry: u16, focus: u16) -> u16
 }
 
 // The sequent of node v.
-pub fn sequent(starts: &[u16; 1025], codes: &[u16], v: usize) -> [u64; 8]
+pub fn sequent(starts: &[u16], codes: &[u16], v: usize) -> [u64; 8]
     requires { ⌜ Placed (now starts) (now codes) v ⌝ }
     ensures { λ r. ⌜ Holds r (codesAt (now (starts .entry)) (now (codes .entry)) v) ⌝ }
 {
@@ -98,7 +98,7 @@ pub fn sequent(starts: &[u16; 1025], codes: &[u16], v: usize) -> [u64; 8]
 }
 
 // Whether nodes v and w have the same sequent, as a back leaf and its companion have.
-pub fn same_sequent(starts: &[u16; 1025], codes: &[u16], v: usize, w: usize) -> bool
+pub fn same_sequent(starts: &[u16], codes: &[u16], v: usize, w: usize) -> bool
     requires { ⌜ Placed (now starts) (now codes) v × Placed (now starts) (now codes) w ⌝ }
     ensures { λ r. ⌜ r ≡ sameSet (codesAt (now (starts .entry)) (now (codes .entry)) v) (codesAt (now (starts .entry)) (now (codes .entry)) w) ⌝ }
 {
@@ -122,7 +122,7 @@ fn claim_set(members: &[u16; 24], count: usize) -> [u64; 8]
 }
 
 // Whether the root's members are the claim's, all in focus (refusal 36).
-pub fn root_is_claim(members: &[u16; 24], count: usize, starts: &[u16; 1025], codes: &[u16]) -> bool
+pub fn root_is_claim(members: &[u16; 24], count: usize, starts: &[u16], codes: &[u16]) -> bool
     requires { ⌜ Members (now members) count × Placed (now starts) (now codes) 0 ⌝ }
     ensures { λ r. ⌜ ((rs ls : List ℕ) (n : ℕ) → 0 < n → r ≡ root (take count (now (members .entry)))
         (plain (proofOf rs ls (now (starts .entry)) (now (codes .entry)) n))) ⌝ }

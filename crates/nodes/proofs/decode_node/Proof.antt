@@ -12,16 +12,16 @@ use Rattle.nodes.proofs.decode_node.Tie as tie
 -- the node, and the place after its fields
 module _ (c : tie.After-link-width) where
   abbrev file : List ℕ
-  file = c .before .before .before .before .before .before .args .bytes .now
+  file = c .before .before .before .before .before .before .before .before .before .before .args .bytes .now
 
   abbrev here : ℕ
-  here = c .before .before .before .before .before .before .args .spot .at
+  here = c .before .before .before .before .before .before .before .before .before .before .args .spot .at
 
   abbrev codes-at : ℕ
   codes-at = here + 2 + c .link-width .result
 
   fits : NodeFits file here
-  fits = c .before .before .before .before .before .before .pre .0
+  fits = c .before .before .before .before .before .before .before .before .before .before .pre .0
 
   placed : codes-at ≡ codesPlace file here
   placed = omega (arith, c .link-width .ensures)
@@ -35,14 +35,14 @@ add-rule c = search needs
 shared-slice-read-rule : tie.Need-shared-slice-read-rule
 shared-slice-read-rule c = search needs
 
-element-write-rules : tie.Need-element-write-rules
-element-write-rules c = search needs
+slice-write-rules : tie.Need-slice-write-rules
+slice-write-rules c = search needs
 
 add-decode-links : tie.Need-add-decode-links
 add-decode-links c = search needs
 
 decode-links-requires : tie.Need-decode-links-requires
-decode-links-requires c κs = omega (arith, c .before .before .before .before .pre)
+decode-links-requires c κs = omega (arith, c .before .before .before .before .before .before .pre)
 
 add-next : tie.Need-add-next
 add-next c = search needs
@@ -59,13 +59,19 @@ add-next-2 c = search needs
 shared-slice-read-if1 : tie.Need-shared-slice-read-if1
 shared-slice-read-if1 c = search needs
 
+same-length : tie.Need-same-length
+same-length c = search needs
+
+same-length-2 : tie.Need-same-length-2
+same-length-2 c = search needs
+
 returns : tie.Need-returns
 unfolding nodeAt
 returns c =
     let bare = no-codes (file (c .before .before)) (here (c .before .before)) (c .if1 .taken) _ (placed (c .before .before)) in
-    let start = c .before .before .before .before .before .before .before .before .args .spot .start in (
+    let start = c .before .before .before .before .before .before .before .before .before .before .before .before .args .spot .start in (
       (bare .ends, omega (arith, bare .many)),
-      (refl, (c .before .before .before .decode-links .ensures, ap (sets (c .before .before .before .before .before .before .before .before .args .codes .now) start) (bare .are))),
+      (refl, (c .before .before .before .before .before .decode-links .ensures, ap (sets (c .before .before .before .before .before .before .before .before .before .before .before .before .args .codes .now) start) (bare .are))),
     )
 
 shared-slice-read-n : tie.Need-shared-slice-read-n
@@ -80,7 +86,7 @@ add-copy-codes c = search needs
 copy-codes-requires : tie.Need-copy-codes-requires
 copy-codes-requires c κs =
     let node = c .before .before .before .before in
-    omega (arith, fits node .whole, fits node .few, coded (c .before .before) .ends, coded (c .before .before) .many, c .before .before .before .before .before .before .before .before .before .before .pre)
+    omega (arith, fits node .whole, fits node .few, coded (c .before .before) .ends, coded (c .before .before) .many, c .before .before .before .before .before .before .before .before .before .before .before .before .before .before .pre)
 
 add-t19 : tie.Need-add-t19
 add-t19 c = search needs
@@ -88,28 +94,34 @@ add-t19 c = search needs
 mul-t12 : tie.Need-mul-t12
 mul-t12 c =
     let node = c .before .before .before .before .before .before .before in
-    omega (arith, fits node .whole, fits node .few, coded (c .before .before .before .before .before) .ends, coded (c .before .before .before .before .before) .many, c .before .before .before .before .before .before .before .before .before .before .before .before .before .pre)
+    omega (arith, fits node .whole, fits node .few, coded (c .before .before .before .before .before) .ends, coded (c .before .before .before .before .before) .many, c .before .before .before .before .before .before .before .before .before .before .before .before .before .before .before .before .before .pre)
 
 add-t25 : tie.Need-add-t25
 add-t25 c =
     let node = c .before .before .before .before .before .before .before in
-    omega (arith, fits node .whole, fits node .few, coded (c .before .before .before .before .before) .ends, coded (c .before .before .before .before .before) .many, c .before .before .before .before .before .before .before .before .before .before .before .before .before .pre)
+    omega (arith, fits node .whole, fits node .few, coded (c .before .before .before .before .before) .ends, coded (c .before .before .before .before .before) .many, c .before .before .before .before .before .before .before .before .before .before .before .before .before .before .before .before .before .pre)
 
 add-t26 : tie.Need-add-t26
 add-t26 c =
     let node = c .before .before .before .before .before .before .before in
-    omega (arith, fits node .whole, fits node .few, coded (c .before .before .before .before .before) .ends, coded (c .before .before .before .before .before) .many, c .before .before .before .before .before .before .before .before .before .before .before .before .before .pre)
+    omega (arith, fits node .whole, fits node .few, coded (c .before .before .before .before .before) .ends, coded (c .before .before .before .before .before) .many, c .before .before .before .before .before .before .before .before .before .before .before .before .before .before .before .before .before .pre .2 .codes, c .before .before .before .before .before .before .before .before .before .before .before .before .before .before .before .before .before .good .1 .1 .1 .1 .1 .0)
 
-same-length : tie.Need-same-length
-same-length c = search needs
+same-length-3 : tie.Need-same-length-3
+same-length-3 c = search needs
+
+same-length-4 : tie.Need-same-length-4
+same-length-4 c = search needs
+
+same-length-5 : tie.Need-same-length-5
+same-length-5 c = search needs
 
 returns-2 : tie.Need-returns-2
 unfolding nodeAt
 returns-2 c =
-    let entry = c .before .before .before .before .before .before .before .before .before .before .before .before .before in
+    let entry = c .before .before .before .before .before .before .before .before .before .before .before .before .before .before .before .before .before in
     let full = coded (c .before .before .before .before .before) in (
       (full .ends, ap (λ (n : ℕ). entry .args .spot .start + n) (full .many)),
-      (refl, (c .before .before .before .before .before .before .before .before .decode-links .ensures, c .before .before .copy-codes .ensures ∙ ap (sets (entry .args .codes .now) (entry .args .spot .start)) (full .are))),
+      (refl, (c .before .before .before .before .before .before .before .before .before .before .decode-links .ensures, c .before .before .copy-codes .ensures ∙ ap (sets (entry .args .codes .now) (entry .args .spot .start)) (full .are))),
     )
 
 pub decode-node-spec : {M : Type 1} → statement M
@@ -118,7 +130,7 @@ decode-node-spec =
     (tie.spec
     add-rule
     shared-slice-read-rule
-    element-write-rules
+    slice-write-rules
     add-decode-links
     decode-links-requires
     add-next
@@ -126,6 +138,8 @@ decode-node-spec =
     cast-next
     add-next-2
     shared-slice-read-if1
+    same-length
+    same-length-2
     returns
     shared-slice-read-n
     cast-n
@@ -135,5 +149,7 @@ decode-node-spec =
     mul-t12
     add-t25
     add-t26
-    same-length
+    same-length-3
+    same-length-4
+    same-length-5
     returns-2)

@@ -3,10 +3,11 @@ use borrow.Author.Needs.{needs}
 use native.Mathlib.Omega.{arith}
 use mathlib.Core.Path.{_≡_, refl, subst, _∙_}
 use Prim.Native.Nat.{ℕ, _-_, _<_, _≤_}
-use lib.ListN.{set}
+use lib.ListN.{set, length-set}
+use Rattle.formula.specs.NodeColumns.{Columns}
 use Rattle.encoding.specs.Places.{wordAt}
 use Rattle.nodes.specs.ProofDecode.{proofIn, nodesAt-length}
-use Rattle.nodes.specs.ProofStored.{Storing, storing-begins, storing-steps, node-fits, stored-long, NodesStored, stored-nodes}
+use Rattle.nodes.specs.ProofStored.{Storing, storing-begins, storing-steps, node-fits, room, node-room, SameLengths, stored-long, NodesStored, stored-nodes}
 use Rattle.nodes.proofs.decode_proof.Statement.{statement}
 use Rattle.nodes.proofs.decode_proof.Tie as tie
 
@@ -17,15 +18,24 @@ abbrev μ-loop : tie.MeasureT-loop
 μ-loop bytes rules₀ links₀ starts₀ codes₀ n spot₀ i₀ rules links starts codes spot i = n - i
 
 -- in a turn there is a node left
-more : (c : tie.In-loop Inv-loop μ-loop) → c .before .loop .i < wordAt (c .before .before .before .before .before .args .bytes .now) 4
+more : (c : tie.In-loop Inv-loop μ-loop) → c .before .loop .i < wordAt (c .before .before .before .before .before .before .before .before .args .bytes .now) 4
 more c = omega (arith, c .before .loop .inv .1, c .loop-test .taken)
 
+-- the slices are as long as they were
+lengths : (c : tie.At-loop Inv-loop μ-loop) → let a = c .before .before .before .before .before .before .before .args in
+    SameLengths (a .rules .now) (a .links .now) (a .starts .now) (a .codes .now) (c .loop .rules) (c .loop .links) (c .loop .starts) (c .loop .codes)
+lengths c = stored-long (c .before .before .before .before .before .before .before .pre .0) (c .before .before .before .before .before .before .before .pre .1) (c .loop .inv .2) (omega (arith, c .loop .inv .1))
+
+-- and have room for the nodes that the file has
+columns : (c : tie.At-loop Inv-loop μ-loop) → let a = c .before .before .before .before .before .before .before .args in Columns (wordAt (a .bytes .now) 4) (a .rules .now) (a .links .now) (a .starts .now) (a .codes .now)
+columns c = room (c .before .before .before .before .before .before .before .pre .0) (c .before .before .before .before .before .before .before .pre .1) (c .loop .inv .2)
+
 node-count-requires : tie.Need-node-count-requires Inv-loop μ-loop
-node-count-requires c κs = c .before .before .pre .0
+node-count-requires c κs = c .before .before .before .before .before .pre .0
 
 loop-holds : tie.Need-loop-holds Inv-loop μ-loop
 loop-holds c =
-    let entry = c .before .before .before in
+    let entry = c .before .before .before .before .before .before in
     let file = entry .args .bytes .now in
     (omega arith, c .node-count .ensures ∙ nodesAt-length file 6 (wordAt file 4), storing-begins (entry .pre .0))
 
@@ -35,18 +45,16 @@ cast-starts c = search needs
 mul-starts : tie.Need-mul-starts Inv-loop μ-loop
 mul-starts c = search needs
 
-element-write-starts : tie.Need-element-write-starts Inv-loop μ-loop
-element-write-starts c = search needs
+slice-write-starts : tie.Need-slice-write-starts Inv-loop μ-loop
+slice-write-starts c = omega (arith, more (c .before), lengths (c .before .before) .starts, columns (c .before .before) .starts)
 
 decode-node-requires : tie.Need-decode-node-requires Inv-loop μ-loop
 decode-node-requires c κs =
-    let entry = c .before .before .before .before .before .before .before .before .before in
-    let turn = c .before .before .before .before .before .loop in
-    let stored = turn .inv .2 in
+    let entry = c .before .before .before .before .before .before .before .before .before .before .before .before in
+    let stored = c .before .before .before .before .before .loop .inv .2 in
     let left = more (c .before .before .before .before) in
     let few = entry .pre .0 .few in
-    let long = stored-long (entry .pre .0) (entry .pre .1) stored (omega arith) in
-    (node-fits (entry .pre .0) (entry .pre .1) stored left, omega (arith, stored .near), omega arith, omega (arith, stored .few, long, entry .pre .1 .codes))
+    (node-fits (entry .pre .0) (entry .pre .1) stored left, omega (arith, stored .near), node-room (entry .pre .0) (entry .pre .1) stored left)
 
 add-i : tie.Need-add-i Inv-loop μ-loop
 add-i c = search needs
@@ -56,31 +64,38 @@ loop-less c = search needs
 
 loop-again : tie.Need-loop-again Inv-loop μ-loop
 loop-again c =
-    let entry = c .before .before .before .before .before .before .before .before .before .before .before .before in
-    let turn = c .before .before .before .before .before .before .before .before .loop in
-    let left = c .before .before .decode-node .ensures in (
+    let entry = c .before .before .before .before .before .before .before .before .before .before .before .before .before .before .before .before .before .before .before in
+    let turn = c .before .before .before .before .before .before .before .before .before .before .before .before .loop in
+    let left = c .before .before .before .before .before .before .decode-node .ensures in (
       omega arith,
       turn .inv .1,
-      storing-steps (entry .pre .0) (entry .pre .1) (turn .inv .2) (more (c .before .before .before .before .before .before .before)) (left .1 .0) (left .1 .1 .0) refl (left .1 .1 .1) (left .0 .0) (left .0 .1),
+      storing-steps (entry .pre .0) (entry .pre .1) (turn .inv .2) (more (c .before .before .before .before .before .before .before .before .before .before .before)) (left .1 .0) (left .1 .1 .0) refl (left .1 .1 .1) (left .0 .0) (left .0 .1),
     )
 
 cast-starts-2 : tie.Need-cast-starts-2 Inv-loop μ-loop
-cast-starts-2 c = omega (arith, c .before .before .before .before .before .before .pre .0 .few, c .before .before .loop .inv .2 .few)
+cast-starts-2 c = omega (arith, c .before .before .before .before .before .before .before .before .before .pre .0 .few, c .before .before .loop .inv .2 .few)
 
 mul-starts-2 : tie.Need-mul-starts-2 Inv-loop μ-loop
 mul-starts-2 c = search needs
 
-element-write-starts-2 : tie.Need-element-write-starts-2 Inv-loop μ-loop
-element-write-starts-2 c = search needs
+slice-write-starts-2 : tie.Need-slice-write-starts-2 Inv-loop μ-loop
+slice-write-starts-2 c = omega (arith, c .before .before .loop .inv .1, lengths (c .before .before) .starts, columns (c .before .before) .starts)
 
 same-length : tie.Need-same-length Inv-loop μ-loop
-same-length c =
-    let entry = c .before .before .before .before .before .before in
-    stored-long (entry .pre .0) (entry .pre .1) (c .before .before .loop .inv .2) (omega (arith, c .before .before .loop .inv .1))
+same-length c = lengths (c .before .before) .rules
+
+same-length-2 : tie.Need-same-length-2 Inv-loop μ-loop
+same-length-2 c = lengths (c .before .before) .links
+
+same-length-3 : tie.Need-same-length-3 Inv-loop μ-loop
+same-length-3 c = simp length-set (lengths (c .before .before) .starts)
+
+same-length-4 : tie.Need-same-length-4 Inv-loop μ-loop
+same-length-4 c = lengths (c .before .before) .codes
 
 returns : tie.Need-returns Inv-loop μ-loop
 returns c =
-    let entry = c .before .before .before .before .before .before in
+    let entry = c .before .before .before .before .before .before .before .before .before in
     let stored = c .before .before .loop .inv .2 in
     let all : c .before .before .loop .i ≡ c .before .before .before .node-count .result = omega arith in
     let last : c .before .before .loop .i ≡ wordAt (entry .args .bytes .now) 4 = all ∙ c .before .before .loop .inv .1 in (
@@ -100,13 +115,16 @@ decode-proof-spec =
     loop-holds
     cast-starts
     mul-starts
-    element-write-starts
+    slice-write-starts
     decode-node-requires
     add-i
     loop-less
     loop-again
     cast-starts-2
     mul-starts-2
-    element-write-starts-2
+    slice-write-starts-2
     same-length
+    same-length-2
+    same-length-3
+    same-length-4
     returns)

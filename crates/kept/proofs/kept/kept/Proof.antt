@@ -6,14 +6,14 @@ use Rattle.kept.specs.Judged.{entries-in, placed, first-placed, keeps-ax
 use Rattle.kept.proofs.kept.kept.Statement.{statement}
 use Rattle.kept.proofs.kept.kept.Tie as tie
 
-element-copy-out-rule : tie.Need-element-copy-out-rule
-element-copy-out-rule c = search needs
+shared-slice-read-rule : tie.Need-shared-slice-read-rule
+shared-slice-read-rule c = search needs
 
 ax1-kept-requires : tie.Need-ax1-kept-requires
-ax1-kept-requires c κs = let p = c .before .before .before .pre in placed (p .0) _ (p .1)
+ax1-kept-requires c κs = let p = c .before .before .before .before .before .before .pre in placed (p .0) _ (p .1)
 
 ax2-kept-requires : tie.Need-ax2-kept-requires
-ax2-kept-requires c κs = let p = c .before .before .before .pre in placed (p .0) _ (p .1)
+ax2-kept-requires c κs = let p = c .before .before .before .before .before .before .pre in placed (p .0) _ (p .1)
 
 mul-wide : tie.Need-mul-wide
 mul-wide c = search needs
@@ -24,15 +24,15 @@ add-wide c = search needs
 mul-wide-2 : tie.Need-mul-wide-2
 mul-wide-2 c = search needs
 
-element-copy-out-wide : tie.Need-element-copy-out-wide
-element-copy-out-wide c = search needs
+shared-slice-read-wide : tie.Need-shared-slice-read-wide
+shared-slice-read-wide c = search needs
 
 wide-requires : tie.Need-wide-requires
 wide-requires c κs = search needs
 
 same-sequent-requires : tie.Need-same-sequent-requires
 same-sequent-requires c κs =
-    let p = c .before .before .before .before .before .pre in
+    let p = c .before .before .before .before .before .before .before .before .pre in
     (rw (c .wide .ensures) (first-placed (p .0) _ (p .1) (omega (arith, c .before .before .match .keys3)) (omega (arith, c .before .before .match .keys3))), placed (p .0) _ (p .1))
 
 principal-kept-requires : tie.Need-principal-kept-requires
@@ -40,19 +40,19 @@ principal-kept-requires c κs = search needs
 
 returns : tie.Need-returns
 returns c =
-    let p = c .before .before .before .before .pre in
-    let a = c .before .before .before .before .args in
+    let p = c .before .before .before .before .before .before .before .pre in
+    let a = c .before .before .before .before .before .before .before .args in
     c .ax1-kept .ensures (a .b .now) (a .count) (entries-in (p .0) _ (p .1)) ∙ keeps-ax1-here (p .0) _ (p .1) _ (c .before .match .keys1)
 
 returns-2 : tie.Need-returns-2
 returns-2 c =
-    let p = c .before .before .before .before .pre in
-    let a = c .before .before .before .before .args in
+    let p = c .before .before .before .before .before .before .before .pre in
+    let a = c .before .before .before .before .before .before .before .args in
     c .ax2-kept .ensures (a .a .now) (a .b .now) (a .count) (entries-in (p .0) _ (p .1)) ∙ keeps-ax2-here (p .0) _ (p .1) _ (c .before .match .keys2)
 
 returns-3 : tie.Need-returns-3
 returns-3 c =
-    let p = c .before .before .before .before .before .before .pre in
+    let p = c .before .before .before .before .before .before .before .before .before .pre in
     rw (c .before .wide .ensures) at (c .same-sequent .ensures) ∙ keeps-d-here (p .0) _ (p .1) _ (c .before .before .before .match .keys3)
 
 returns-4 : tie.Need-returns-4
@@ -60,20 +60,20 @@ returns-4 c = search needs
 
 returns-5 : tie.Need-returns-5
 returns-5 c =
-    let p = c .before .before .before .before .pre in
+    let p = c .before .before .before .before .before .before .before .pre in
     keeps-none (p .0) _ (p .1) _ (omega arith)
 
 pub kept-spec : {M : Type 1} → statement M
 kept-spec =
     tie.close
     (tie.spec
-    element-copy-out-rule
+    shared-slice-read-rule
     ax1-kept-requires
     ax2-kept-requires
     mul-wide
     add-wide
     mul-wide-2
-    element-copy-out-wide
+    shared-slice-read-wide
     wide-requires
     same-sequent-requires
     principal-kept-requires

@@ -20,26 +20,26 @@ use Rattle.kept.proofs.kept.principal_kept.Statement.{statement}
 use Rattle.kept.proofs.kept.principal_kept.Tie as tie
 
 -- the node's own set
-own : (c : tie.After-set-of) → let a = c .before .before .before .before .before .before .before .before .args in Holds (c .set-of .result) (codesAt (a .starts .now) (a .codes .now) (a .v))
+own : (c : tie.After-set-of) → let a = c .before .before .before .before .before .before .before .before .before .before .before .args in Holds (c .set-of .result) (codesAt (a .starts .now) (a .codes .now) (a .v))
 own c = rw (c .before .before .before .wide .ensures, c .before .wide2 .ensures) at (c .set-of .ensures)
 
 -- whether the principal belongs
-belonging : (c : tie.After-has) → let a = c .before .before .before .before .before .before .before .before .before .before .args in c .has .result ≡ member (codesAt (a .starts .now) (a .codes .now) (a .v)) (getD (a .links .now) (4 * a .v) 0)
+belonging : (c : tie.After-has) → let a = c .before .before .before .before .before .before .before .before .before .before .before .before .before .args in c .has .result ≡ member (codesAt (a .starts .now) (a .codes .now) (a .v)) (getD (a .links .now) (4 * a .v) 0)
 belonging c = c .has .ensures _ (own (c .before .before))
 
 -- where it does, it is the code of an entry, and the side is what is left
-principal : (c : tie.Else1) → let a = c .before .before .before .before .before .before .before .before .before .before .before .args in Coded (a .kinds .now) (a .a .now) (a .b .now) (a .size) (getD (a .links .now) (4 * a .v) 0)
-principal c = let p = c .before .before .before .before .before .before .before .before .before .before .before .pre in coded (p .0) _ (p .1) (was-true (belonging (c .before)) (c .if1 .left))
+principal : (c : tie.Else1) → let a = c .before .before .before .before .before .before .before .before .before .before .before .before .before .before .args in Coded (a .kinds .now) (a .a .now) (a .b .now) (a .size) (getD (a .links .now) (4 * a .v) 0)
+principal c = let p = c .before .before .before .before .before .before .before .before .before .before .before .before .before .before .pre in coded (p .0) _ (p .1) (was-true (belonging (c .before)) (c .if1 .left))
 
-sided : (c : tie.After-take) → let a = c .before .before .before .before .before .before .before .before .before .before .before .before .before .args in Side (c .take .last .0) (getD (a .links .now) (4 * a .v) 0) (codesAt (a .starts .now) (a .codes .now) (a .v))
+sided : (c : tie.After-take) → let a = c .before .before .before .before .before .before .before .before .before .before .before .before .before .before .before .before .args in Side (c .take .last .0) (getD (a .links .now) (4 * a .v) 0) (codesAt (a .starts .now) (a .codes .now) (a .v))
 sided c = record { belongs = was-true (belonging (c .before .before .before)) (c .before .before .if1 .left); holds = c .take .ensures _ (own (c .before .before .before .before .before)) }
 
 -- the first child's set
-first : (c : tie.After-sequent) → let a = c .before .before .before .before .before .before .before .before .before .before .before .before .before .before .before .before .args in Holds (c .sequent .result) (codesAt (a .starts .now) (a .codes .now) (getD (a .links .now) (4 * a .v + 1) 0))
+first : (c : tie.After-sequent) → let a = c .before .before .before .before .before .before .before .before .before .before .before .before .before .before .before .before .before .before .before .args in Holds (c .sequent .result) (codesAt (a .starts .now) (a .codes .now) (getD (a .links .now) (4 * a .v + 1) 0))
 first c = rw (c .before .wide3 .ensures) at (c .sequent .ensures)
 
-element-copy-out-rule : tie.Need-element-copy-out-rule
-element-copy-out-rule c = search needs
+shared-slice-read-rule : tie.Need-shared-slice-read-rule
+shared-slice-read-rule c = search needs
 
 mul-principal : tie.Need-mul-principal
 mul-principal c = search needs
@@ -47,14 +47,14 @@ mul-principal c = search needs
 mul-principal-2 : tie.Need-mul-principal-2
 mul-principal-2 c = search needs
 
-element-copy-out-principal : tie.Need-element-copy-out-principal
-element-copy-out-principal c = search needs
+shared-slice-read-principal : tie.Need-shared-slice-read-principal
+shared-slice-read-principal c = search needs
 
 mul-wide : tie.Need-mul-wide
 mul-wide c = search needs
 
-element-copy-out-wide : tie.Need-element-copy-out-wide
-element-copy-out-wide c = search needs
+shared-slice-read-wide : tie.Need-shared-slice-read-wide
+shared-slice-read-wide c = search needs
 
 wide-requires : tie.Need-wide-requires
 wide-requires c κs = search needs
@@ -65,15 +65,15 @@ add-wide c = search needs
 mul-wide-2 : tie.Need-mul-wide-2
 mul-wide-2 c = search needs
 
-element-copy-out-wide-2 : tie.Need-element-copy-out-wide-2
-element-copy-out-wide-2 c = search needs
+shared-slice-read-wide-2 : tie.Need-shared-slice-read-wide-2
+shared-slice-read-wide-2 c = search needs
 
 wide-requires-2 : tie.Need-wide-requires-2
 wide-requires-2 c κs = search needs
 
 set-of-requires : tie.Need-set-of-requires
 set-of-requires c κs =
-    let p = c .before .before .before .before .before .before .before .pre in
+    let p = c .before .before .before .before .before .before .before .before .before .before .pre in
     rw (c .before .before .wide .ensures, c .wide2 .ensures) (placed (p .0) _ (p .1) .span)
 
 has-requires : tie.Need-has-requires
@@ -81,7 +81,7 @@ has-requires c κs = search needs
 
 returns : tie.Need-returns
 returns c =
-    let p = c .before .before .before .before .before .before .before .before .before .before .before .pre in
+    let p = c .before .before .before .before .before .before .before .before .before .before .before .before .before .before .pre in
     keeps-alien (p .0) _ (p .1) _ (p .2) (p .3) (was-false (belonging (c .before)) (c .if1 .taken))
 
 take-requires : tie.Need-take-requires
@@ -96,15 +96,15 @@ add-wide-2 c = search needs
 mul-wide-4 : tie.Need-mul-wide-4
 mul-wide-4 c = search needs
 
-element-copy-out-wide-3 : tie.Need-element-copy-out-wide-3
-element-copy-out-wide-3 c = search needs
+shared-slice-read-wide-3 : tie.Need-shared-slice-read-wide-3
+shared-slice-read-wide-3 c = search needs
 
 wide-requires-3 : tie.Need-wide-requires-3
 wide-requires-3 c κs = search needs
 
 sequent-requires : tie.Need-sequent-requires
 sequent-requires c κs =
-    let p = c .before .before .before .before .before .before .before .before .before .before .before .before .before .before .before .pre in
+    let p = c .before .before .before .before .before .before .before .before .before .before .before .before .before .before .before .before .before .before .pre in
     rw (c .wide3 .ensures) (first-placed (p .0) _ (p .1) (p .2) (omega (arith, p .3)))
 
 or-kept-requires : tie.Need-or-kept-requires
@@ -119,15 +119,15 @@ add-wide-3 c = search needs
 mul-wide-6 : tie.Need-mul-wide-6
 mul-wide-6 c = search needs
 
-element-copy-out-wide-4 : tie.Need-element-copy-out-wide-4
-element-copy-out-wide-4 c = search needs
+shared-slice-read-wide-4 : tie.Need-shared-slice-read-wide-4
+shared-slice-read-wide-4 c = search needs
 
 wide-requires-4 : tie.Need-wide-requires-4
 wide-requires-4 c κs = search needs
 
 sequent-requires-2 : tie.Need-sequent-requires-2
 sequent-requires-2 c κs =
-    let p = c .before .before .before .before .before .before .before .before .before .before .before .before .before .before .before .before .before .before .before .pre in
+    let p = c .before .before .before .before .before .before .before .before .before .before .before .before .before .before .before .before .before .before .before .before .before .before .pre in
     rw (c .wide4 .ensures) (second-placed (p .0) _ (p .1) (c .before .before .match .keys2))
 
 and-kept-requires : tie.Need-and-kept-requires
@@ -135,7 +135,7 @@ and-kept-requires c κs = principal (c .before .before .before .before .before .
 
 box-kept-requires : tie.Need-box-kept-requires
 box-kept-requires c κs =
-    let p = c .before .before .before .before .before .before .before .before .before .before .before .before .before .before .before .before .before .before .pre in
+    let p = c .before .before .before .before .before .before .before .before .before .before .before .before .before .before .before .before .before .before .before .before .before .pre in
     rw (c .before .before .before .before .before .before .before .before .before .before .before .before .before .wide .ensures, c .before .before .before .before .before .before .before .before .before .before .before .wide2 .ensures) (principal (c .before .before .before .before .before .before .before), placed (p .0) _ (p .1) .span, entries-in (p .0) _ (p .1))
 
 fixpoint-kept-requires : tie.Need-fixpoint-kept-requires
@@ -155,51 +155,51 @@ focus-kept-requires-2 c κs = let C = principal (c .before .before .before .befo
 
 returns-2 : tie.Need-returns-2
 returns-2 c =
-    let p = c .before .before .before .before .before .before .before .before .before .before .before .before .before .before .before .before .before .before .before .before .pre in
+    let p = c .before .before .before .before .before .before .before .before .before .before .before .before .before .before .before .before .before .before .before .before .before .before .before .pre in
     c .or-kept .ensures _ _ (sided (c .before .before .before .before .before .before .before)) (first (c .before .before .before .before)) ∙ keeps-or-here (p .0) _ (p .1) _ (c .before .before .before .match .keys1)
 
 returns-3 : tie.Need-returns-3
 returns-3 c =
-    let p = c .before .before .before .before .before .before .before .before .before .before .before .before .before .before .before .before .before .before .before .before .before .before .before .before .pre in
+    let p = c .before .before .before .before .before .before .before .before .before .before .before .before .before .before .before .before .before .before .before .before .before .before .before .before .before .before .before .pre in
     c .and-kept .ensures _ _ _ (sided (c .before .before .before .before .before .before .before .before .before .before .before)) (first (c .before .before .before .before .before .before .before .before)) (rw (c .before .before .before .before .before .wide4 .ensures) at (c .before .before .before .before .sequent2 .ensures)) ∙ keeps-and-here (p .0) _ (p .1) _ (c .before .before .before .before .before .before .before .match .keys2)
 
 returns-4 : tie.Need-returns-4
 returns-4 c =
-    let p = c .before .before .before .before .before .before .before .before .before .before .before .before .before .before .before .before .before .before .before .pre in
+    let p = c .before .before .before .before .before .before .before .before .before .before .before .before .before .before .before .before .before .before .before .before .before .before .pre in
     rw (c .before .before .before .before .before .before .before .before .before .before .before .before .before .before .wide .ensures, c .before .before .before .before .before .before .before .before .before .before .before .before .wide2 .ensures) at (c .box-kept .ensures) _ (sided (c .before .before .before .before .before .before) .belongs) (first (c .before .before .before)) ∙ keeps-box-here (p .0) _ (p .1) _ (c .before .before .match .keys3)
 
 returns-5 : tie.Need-returns-5
 returns-5 c =
-    let p = c .before .before .before .before .before .before .before .before .before .before .before .before .before .before .before .before .before .before .before .before .pre in
+    let p = c .before .before .before .before .before .before .before .before .before .before .before .before .before .before .before .before .before .before .before .before .before .before .before .pre in
     c .fixpoint-kept .ensures _ _ (sided (c .before .before .before .before .before .before .before)) (first (c .before .before .before .before)) ∙ keeps-mu-here (p .0) _ (p .1) _ (c .before .before .before .match .keys4)
 
 returns-6 : tie.Need-returns-6
 returns-6 c =
-    let p = c .before .before .before .before .before .before .before .before .before .before .before .before .before .before .before .before .before .before .before .before .pre in
+    let p = c .before .before .before .before .before .before .before .before .before .before .before .before .before .before .before .before .before .before .before .before .before .before .before .pre in
     c .fixpoint-kept2 .ensures _ _ (sided (c .before .before .before .before .before .before .before)) (first (c .before .before .before .before)) ∙ keeps-nu-here (p .0) _ (p .1) _ (c .before .before .before .match .keys5)
 
 returns-7 : tie.Need-returns-7
 unfolding weaken-kept belongs sides
 returns-7 c =
-    let p = c .before .before .before .before .before .before .before .before .before .before .before .before .before .before .before .before .before .before .before .before .pre in
-    let a = c .before .before .before .before .before .before .before .before .before .before .before .before .before .before .before .before .before .before .before .before .args in
+    let p = c .before .before .before .before .before .before .before .before .before .before .before .before .before .before .before .before .before .before .before .before .before .before .before .pre in
+    let a = c .before .before .before .before .before .before .before .before .before .before .before .before .before .before .before .before .before .before .before .before .before .before .before .args in
     let s = sided (c .before .before .before .before .before .before .before) in
     let w : c .same .result ≡ weaken-kept (tableOf (a .kinds .now) (a .a .now) (a .b .now) (a .size)) (around (a .links .now) (a .starts .now) (a .codes .now) (a .v) []) 0 = rw (s .belongs) (c .same .ensures _ _ (first (c .before .before .before .before)) (s .holds)) in
     w ∙ keeps-w-here (p .0) _ (p .1) _ (c .before .before .before .match .keys6)
 
 returns-8 : tie.Need-returns-8
 returns-8 c =
-    let p = c .before .before .before .before .before .before .before .before .before .before .before .before .before .before .before .before .before .before .before .before .pre in
+    let p = c .before .before .before .before .before .before .before .before .before .before .before .before .before .before .before .before .before .before .before .before .before .before .before .pre in
     c .focus-kept .ensures _ _ _ (sided (c .before .before .before .before .before .before .before)) (first (c .before .before .before .before)) ∙ keeps-f-here (p .0) _ (p .1) _ (c .before .before .before .match .keys7)
 
 returns-9 : tie.Need-returns-9
 returns-9 c =
-    let p = c .before .before .before .before .before .before .before .before .before .before .before .before .before .before .before .before .before .before .before .before .pre in
+    let p = c .before .before .before .before .before .before .before .before .before .before .before .before .before .before .before .before .before .before .before .before .before .before .before .pre in
     c .focus-kept2 .ensures _ _ _ (sided (c .before .before .before .before .before .before .before)) (first (c .before .before .before .before)) ∙ keeps-u-here (p .0) _ (p .1) _ (c .before .before .before .match .keys8)
 
 returns-10 : tie.Need-returns-10
 returns-10 c =
-    let p = c .before .before .before .before .before .before .before .before .before .before .before .before .before .before .before .before .before .pre in
+    let p = c .before .before .before .before .before .before .before .before .before .before .before .before .before .before .before .before .before .before .before .before .pre in
     let n = c .match .rest in
     let beyond = past Rule.U (past Rule.F (past Rule.W (past Rule.NU (past Rule.MU (past Rule.BOX (past Rule.AND (past Rule.OR (p .2) (n .0 .0 .0 .0 .0 .0 .0 .1)) (n .0 .0 .0 .0 .0 .0 .1)) (n .0 .0 .0 .0 .0 .1)) (n .0 .0 .0 .0 .1)) (n .0 .0 .0 .1)) (n .0 .0 .1)) (n .0 .1)) (n .1) in
     absurd (lt-irrefl _ (lt-of-lt-of-le beyond (p .3)))
@@ -208,16 +208,16 @@ pub principal-kept-spec : {M : Type 1} → statement M
 principal-kept-spec =
     tie.close
     (tie.spec
-    element-copy-out-rule
+    shared-slice-read-rule
     mul-principal
     mul-principal-2
-    element-copy-out-principal
+    shared-slice-read-principal
     mul-wide
-    element-copy-out-wide
+    shared-slice-read-wide
     wide-requires
     add-wide
     mul-wide-2
-    element-copy-out-wide-2
+    shared-slice-read-wide-2
     wide-requires-2
     set-of-requires
     has-requires
@@ -226,14 +226,14 @@ principal-kept-spec =
     mul-wide-3
     add-wide-2
     mul-wide-4
-    element-copy-out-wide-3
+    shared-slice-read-wide-3
     wide-requires-3
     sequent-requires
     or-kept-requires
     mul-wide-5
     add-wide-3
     mul-wide-6
-    element-copy-out-wide-4
+    shared-slice-read-wide-4
     wide-requires-4
     sequent-requires-2
     and-kept-requires

@@ -8,7 +8,7 @@ use Rattle.rules.proofs.judge.judge.Statement.{statement}
 use Rattle.rules.proofs.judge.judge.Tie as tie
 
 fill-owners-requires : tie.Need-fill-owners-requires
-fill-owners-requires c κs = c .before .before .pre .0 .nodes
+fill-owners-requires c κs = let L = c .before .before .pre .0 in (L .some, L .columns .few)
 
 enum-told : tie.Need-enum-told
 enum-told c = search needs
@@ -16,7 +16,7 @@ enum-told c = search needs
 judge-tree-requires : tie.Need-judge-tree-requires
 judge-tree-requires c κs =
     let filled = rw (c .before .enum-told .given .1) at (c .before .before .before .fill-owners .ensures) in
-    (filled-judged filled (c .before .before .before .before .before .before .pre .0), ((c .before .before .before .before .before .before .pre .1, c .before .before .before .before .before .before .pre .0 .nodes .0), (filled-parented _ _ _ _ filled, filled .owned refl)))
+    (filled-judged filled (c .before .before .before .before .before .before .pre .0), ((c .before .before .before .before .before .before .pre .1, c .before .before .before .before .before .before .pre .0 .some), (filled-parented _ _ _ _ filled, filled .owned refl)))
 
 enum-known-number : tie.Need-enum-known-number
 enum-known-number c = search needs

@@ -30,13 +30,13 @@ node-stands-requires : tie.Need-node-stands-requires Inv-loop μ-loop
 node-stands-requires c κs = search needs
 
 element-copy-out-refusal-of : tie.Need-element-copy-out-refusal-of Inv-loop μ-loop
-element-copy-out-refusal-of c = omega (arith, c .before .before .before .before .before .before .pre .judged .nodes)
+element-copy-out-refusal-of c = omega (arith, c .before .before .before .before .before .before .pre .judged .columns .few)
 
 refusal-of-requires : tie.Need-refusal-of-requires Inv-loop μ-loop
 refusal-of-requires c κs = search needs
 
 cast-t20 : tie.Need-cast-t20 Inv-loop μ-loop
-cast-t20 c = omega (arith, c .before .before .before .before .before .before .before .before .pre .judged .nodes)
+cast-t20 c = omega (arith, c .before .before .before .before .before .before .before .before .pre .judged .columns .few)
 
 returns : tie.Need-returns Inv-loop μ-loop
 returns c =

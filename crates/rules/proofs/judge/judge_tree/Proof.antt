@@ -28,34 +28,34 @@ proof s = proofOf (s .args .rules .now) (s .args .links .now) (s .args .starts .
 abbrev claim : tie.Start → List ℕ
 claim s = take (s .args .listed) (s .args .members .now)
 
-rooted : (c : tie.Else1) → root (claim (c .before .before .before)) (plain (proof (c .before .before .before))) ≡ true
+rooted : (c : tie.Else1) → root (claim (c .before .before .before .before)) (plain (proof (c .before .before .before .before))) ≡ true
 rooted c =
-    let s = c .before .before .before in
+    let s = c .before .before .before .before in
     sym (c .before .root-is-claim .ensures (s .args .rules .now) (s .args .links .now) (s .args .nodes) (s .pre .1 .0 .1)) ∙ not-false _ (c .if1 .left)
 
 root-is-claim-requires : tie.Need-root-is-claim-requires
-root-is-claim-requires c κs = (c .before .pre .1 .0 .0, placed (c .before .pre .0) 0 (c .before .pre .1 .0 .1))
+root-is-claim-requires c κs = (c .before .before .pre .1 .0 .0, placed (c .before .before .pre .0) 0 (c .before .before .pre .1 .0 .1))
 
 returns : tie.Need-returns
 returns c =
-    let s = c .before .before .before in
+    let s = c .before .before .before .before in
     sym (other-root (table s) (claim s) (proof s) (sym (c .before .root-is-claim .ensures (s .args .rules .now) (s .args .links .now) (s .args .nodes) (s .pre .1 .0 .1)) ∙ not-true _ (c .if1 .taken)))
 
 fill-flags-requires : tie.Need-fill-flags-requires
 fill-flags-requires c κs =
-    let J = c .before .before .before .before .pre .0 in
-    (J .nodes, λ v h. omega (arith, J .rising v h .1, J .codes))
+    let J = c .before .before .before .before .before .pre .0 in
+    (J .columns .few, λ v h. omega (arith, J .rising v h .1, J .columns .codes))
 
 judge-nodes-requires : tie.Need-judge-nodes-requires
 judge-nodes-requires c κs = record {
-  judged = c .before .before .before .before .before .before .pre .0;
-  parented = c .before .before .before .before .before .before .pre .1 .1 .0;
-  noted = noted-of _ _ _ _ _ _ _ (c .before .before .before .before .before .before .pre .1 .1 .1 _ _) (c .before .fill-flags .ensures _);
+  judged = c .before .before .before .before .before .before .before .pre .0;
+  parented = c .before .before .before .before .before .before .before .pre .1 .1 .0;
+  noted = noted-of _ _ _ _ _ _ _ (c .before .before .before .before .before .before .before .pre .1 .1 .1 _ _) (c .before .fill-flags .ensures _);
 }
 
 returns-2 : tie.Need-returns-2
 returns-2 c =
-    let s = c .before .before .before .before .before .before .before in
+    let s = c .before .before .before .before .before .before .before .before in
     c .judge-nodes .ensures ∙ sym (claim-root (table s) (claim s) (proof s) (rooted (c .before .before .before .before)))
 
 pub judge-tree-spec : {M : Type 1} → statement M

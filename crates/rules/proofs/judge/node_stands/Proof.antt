@@ -18,11 +18,11 @@ kept-requires c κs = search needs
 
 returns : tie.Need-returns
 returns c =
-    let start = c .before .before .before .before in
-    (c .kept .ensures, other-path (start .pre .0) (start .args .v) (start .pre .1) (c .before .if1 .taken))
+    let start = c .before .before .before .before .before .before .before in
+    (c .kept .ensures, other-path (start .pre .0) (start .args .v) (start .pre .1) (c .before .before .before .before .if1 .taken))
 
 companion-requires : tie.Need-companion-requires
-companion-requires c κs = (omega (arith, c .before .before .before .pre .0 .judged .nodes), λ w k h. c .before .before .before .pre .0 .parented w k (omega arith))
+companion-requires c κs = (omega (arith, c .before .before .before .pre .0 .judged .columns .few), λ w k h. c .before .before .before .pre .0 .parented w k (omega arith))
 
 returns-2 : tie.Need-returns-2
 returns-2 c =
@@ -49,18 +49,18 @@ wide-requires c κs = search needs
 
 same-sequent-requires : tie.Need-same-sequent-requires
 same-sequent-requires c κs =
-    let start = c .before .before .before .before .before .before .before .before in
+    let start = c .before .before .before .before .before .before .before .before .before in
     let J = start .pre .0 .judged in
-    let inside = companion-inside (start .pre .0) [] (start .args .v) (start .pre .1) (c .before .before .before .before .before .if1 .left) (c .before .before .before .before .companion .ensures) (not-false _ (c .before .before .if2 .left)) in
+    let inside = companion-inside (start .pre .0) [] (start .args .v) (start .pre .1) (c .before .before .before .before .before .before .if1 .left) (c .before .before .before .before .before .companion .ensures) (not-false _ (c .before .before .before .if2 .left)) in
     (placed J (start .args .v) (start .pre .1), rw (c .wide .ensures) (placed J _ inside))
 
 returns-3 : tie.Need-returns-3
 returns-3 c =
-    let start = c .before .before .before .before .before .before .before .before .before in
-    let leaf = c .before .before .before .before .before .before .if1 .left in
-    let companion = c .before .before .before .before .before .companion .ensures in (
+    let start = c .before .before .before .before .before .before .before .before .before .before in
+    let leaf = c .before .before .before .before .before .before .before .if1 .left in
+    let companion = c .before .before .before .before .before .before .companion .ensures in (
       (rw (c .before .wide .ensures) at (c .same-sequent .ensures))
-          ∙ sym (leaf-compared (start .pre .0) _ _ (start .pre .1) leaf companion (not-false _ (c .before .before .before .if2 .left))),
+          ∙ sym (leaf-compared (start .pre .0) _ _ (start .pre .1) leaf companion (not-false _ (c .before .before .before .before .if2 .left))),
       leaf-path (start .pre .0) [] _ (start .pre .1) leaf companion,
     )
 

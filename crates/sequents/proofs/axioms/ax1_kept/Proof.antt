@@ -6,8 +6,8 @@ use Rattle.sequents.proofs.axioms.ax1_kept.Tie as tie
 mul-wide : tie.Need-mul-wide
 mul-wide c = search needs
 
-element-copy-out-wide : tie.Need-element-copy-out-wide
-element-copy-out-wide c = search needs
+shared-slice-read-wide : tie.Need-shared-slice-read-wide
+shared-slice-read-wide c = search needs
 
 wide-requires : tie.Need-wide-requires
 wide-requires c κs = search needs
@@ -18,14 +18,14 @@ add-wide c = search needs
 mul-wide-2 : tie.Need-mul-wide-2
 mul-wide-2 c = search needs
 
-element-copy-out-wide-2 : tie.Need-element-copy-out-wide-2
-element-copy-out-wide-2 c = search needs
+shared-slice-read-wide-2 : tie.Need-shared-slice-read-wide-2
+shared-slice-read-wide-2 c = search needs
 
 wide-requires-2 : tie.Need-wide-requires-2
 wide-requires-2 c κs = search needs
 
 clash-requires : tie.Need-clash-requires
-clash-requires c κs = rw (c .before .before .wide .ensures, c .wide2 .ensures) (c .before .before .before .before .before .pre .span)
+clash-requires c κs = rw (c .before .before .wide .ensures, c .wide2 .ensures) (c .before .before .before .before .before .before .pre .span)
 
 returns : tie.Need-returns
 returns c ys n E = rw (c .before .before .before .wide .ensures, c .before .wide2 .ensures) at (c .clash .ensures) ys n E
@@ -35,11 +35,11 @@ ax1-kept-spec =
     tie.close
     (tie.spec
     mul-wide
-    element-copy-out-wide
+    shared-slice-read-wide
     wide-requires
     add-wide
     mul-wide-2
-    element-copy-out-wide-2
+    shared-slice-read-wide-2
     wide-requires-2
     clash-requires
     returns)

@@ -15,7 +15,7 @@ same-requires c κs = search needs
 
 returns : tie.Need-returns
 returns c =
-    let a = c .before .before .before .before .before .before .args in
+    let a = c .before .before .before .before .before .before .before .args in
     c .same .ensures (codesAt (a .starts .now) (a .codes .now) (a .v)) (codesAt (a .starts .now) (a .codes .now) (a .w))
     (c .before .before .before .before .sequent .ensures) (c .before .before .before .sequent2 .ensures)
 

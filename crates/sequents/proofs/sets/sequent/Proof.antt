@@ -6,8 +6,8 @@ use Rattle.sequents.proofs.sets.sequent.Tie as tie
 mul-wide : tie.Need-mul-wide
 mul-wide c = search needs
 
-element-copy-out-wide : tie.Need-element-copy-out-wide
-element-copy-out-wide c = search needs
+shared-slice-read-wide : tie.Need-shared-slice-read-wide
+shared-slice-read-wide c = search needs
 
 wide-requires : tie.Need-wide-requires
 wide-requires c κs = search needs
@@ -18,15 +18,15 @@ add-wide c = search needs
 mul-wide-2 : tie.Need-mul-wide-2
 mul-wide-2 c = search needs
 
-element-copy-out-wide-2 : tie.Need-element-copy-out-wide-2
-element-copy-out-wide-2 c = search needs
+shared-slice-read-wide-2 : tie.Need-shared-slice-read-wide-2
+shared-slice-read-wide-2 c = search needs
 
 wide-requires-2 : tie.Need-wide-requires-2
 wide-requires-2 c κs = search needs
 
 set-of-requires : tie.Need-set-of-requires
 set-of-requires c κs =
-    let p = c .before .before .before .before .before .pre in
+    let p = c .before .before .before .before .before .before .pre in
     rw (c .before .before .wide .ensures, c .wide2 .ensures) (p .span)
 
 returns : tie.Need-returns
@@ -37,11 +37,11 @@ sequent-spec =
     tie.close
     (tie.spec
     mul-wide
-    element-copy-out-wide
+    shared-slice-read-wide
     wide-requires
     add-wide
     mul-wide-2
-    element-copy-out-wide-2
+    shared-slice-read-wide-2
     wide-requires-2
     set-of-requires
     returns)
