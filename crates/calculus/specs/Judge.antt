@@ -164,12 +164,12 @@ module _ (t : Table) (q : View) where
       ax1-kept ∷ ax2-kept ∷ or-kept ∷ and-kept ∷ box-kept ∷ mu-kept ∷ nu-kept ∷ weaken-kept ∷ focus-kept 0 1 ∷ focus-kept 1 0
       ∷ discharge-kept ∷ []
 
-module _ (c : Claim) (q : View) where
   -- what a node owes its children
   unfoldable pub step-kept : ℕ → Bool
   unfolding tests
-  step-kept v = getD (tests (c .entries) q) (rule q v) (λ _. false) v
+  step-kept v = getD tests (rule q v) (λ _. false) v
 
+module _ (c : Claim) (q : View) where
   -- what a leaf owes its tree
   unfoldable pub leaf-kept : ℕ → Bool
   unfolding back-kept
@@ -177,7 +177,7 @@ module _ (c : Claim) (q : View) where
 
   unfoldable pub keeps : ℕ → Bool
   unfolding step-kept leaf-kept
-  keeps v = step-kept v || leaf-kept v
+  keeps v = step-kept (c .entries) q v || leaf-kept v
 
 module _ (q : View) where
   unfoldable pub on-loop : ℕ → Bool

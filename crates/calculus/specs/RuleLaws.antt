@@ -137,7 +137,7 @@ module _ (c : Claim) (d : Derivation) (T : Tree (d .nodes)) (G : Given c d) (v :
       (λ e h. discharge e (discharge-exact .says h))
       (λ r e h. absurd (false≢true h))
 
-  holds : Step c d v → step-kept c (plain p) v ≡ true
+  holds : Step c d v → step-kept t (plain p) v ≡ true
   unfolding step-kept tests
   holds (ax1 e k) = rw e (ax1-exact .holds k)
   holds (ax2 e k) = rw e (ax2-exact .holds k)
@@ -151,7 +151,7 @@ module _ (c : Claim) (d : Derivation) (T : Tree (d .nodes)) (G : Given c d) (v :
   holds (out-of-focus e b k f) = rw e (focus-exact 1 0 .holds (b, (k, f)))
   holds (discharge e f) = rw e (discharge-exact .holds f)
 
-  step-tells : Tells (step-kept c (plain p) v) (Step c d v)
+  step-tells : Tells (step-kept t (plain p) v) (Step c d v)
   unfolding step-kept
   step-tells = record { says = says (rule p v) refl; holds = holds }
 

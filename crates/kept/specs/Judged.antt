@@ -11,16 +11,15 @@ use Rattle.verdict.specs.SetTells.{member-tells}
 use Rattle.formula.specs.Kind
 use Rattle.formula.specs.Rule
 use Rattle.formula.specs.Table.{Table}
-use Rattle.formula.specs.Plain.{tableOf, tableOf-length}
+use Rattle.formula.specs.Plain.{tableOf}
 use Rattle.conditions.specs.WellFormed.{WellFormed}
 use Rattle.formula.specs.Codes.{focusOf}
 use Rattle.formula.specs.Nodes.{Node, node}
 use Rattle.formula.specs.NodeColumns.{Columns}
 use Rattle.formula.specs.PlainNodes.{codesAt, plainNode, proofOf, proofOf-length, proofOf-node}
-use Rattle.calculus.specs.Given.{Given}
 use Rattle.calculus.specs.Tree.{Tree, Child, first, second}
 use Rattle.calculus.specs.View.{View, plain}
-use Rattle.calculus.specs.Judge.{ax1-kept, ax2-kept, or-kept, and-kept, box-kept, mu-kept, nu-kept, weaken-kept, focus-kept, discharge-kept, of-kind, belongs, sides, clash, truth, keeps, tests}
+use Rattle.calculus.specs.Judge.{ax1-kept, ax2-kept, or-kept, and-kept, box-kept, mu-kept, nu-kept, weaken-kept, focus-kept, discharge-kept, of-kind, belongs, sides, clash, truth, step-kept, tests}
 use Rattle.calculus.specs.Steps.{keeps-ax1, keeps-ax2, keeps-or, keeps-and, keeps-box, keeps-mu, keeps-nu, keeps-w, keeps-f, keeps-u, keeps-d}
 use Rattle.sequents.specs.Placed.{family, Placed, Entries, Coded}
 use Rattle.kept.specs.Fixpoint.{fixpoint-kept}
@@ -30,7 +29,7 @@ pub record Judged (ks xs ys : List ℕ) (n : ℕ) (rs ls ss cs : List ℕ) (m : 
   pub columns : Columns m rs ls ss cs
   pub rising : (v : ℕ) → v < m → (getD ss v 0 ≤ getD ss (v + 1) 0) × (getD ss (v + 1) 0 ≤ 24 * m)
   pub well : WellFormed (tableOf ks xs ys n)
-  pub given : Given (tableOf ks xs ys n) (proofOf rs ls ss cs m)
+  pub members : (v : ℕ) → v < m → Entries n (codesAt ss cs v)
   pub tree : Tree (proofOf rs ls ss cs m)
 
 -- what the rule of a node with a principal looks at, where its second child has the codes k
@@ -59,16 +58,13 @@ module _ {ks xs ys : List ℕ} {n : ℕ} {rs ls ss cs : List ℕ} {m : ℕ} (J :
   inside : v < length (proofOf rs ls ss cs m)
   inside = rw proofOf-length real
 
-  pub entries-in : Entries n (codesAt ss cs v)
-  entries-in c e = rw tableOf-length at (J .given .members v c inside (rw at-node e) .inside)
-
   pub placed : Placed ss cs v
   placed = record {
     room = omega (arith, J .columns .starts);
     span = record {
       order = J .rising v real .0;
       long = omega (arith, J .rising v real .1, J .columns .codes);
-      small = λ c e. omega (arith, entries-in c e, J .entries);
+      small = λ c e. omega (arith, J .members v real c e, J .entries);
     };
   }
 
@@ -91,7 +87,7 @@ module _ {ks xs ys : List ℕ} {n : ℕ} {rs ls ss cs : List ℕ} {m : ℕ} (J :
 
   -- the code of a member
   pub coded : {c : ℕ} → member (codesAt ss cs v) c ≡ true → Coded ks xs ys n c
-  coded {c} h = record { well = J .well; small = J .entries; inside = entries-in J v real c (member-tells (codesAt ss cs v) c .says h) }
+  coded {c} h = record { well = J .well; small = J .entries; inside = J .members v real c (member-tells (codesAt ss cs v) c .says h) }
 
   first-node : Rule.OR ≤ getD rs v 0 → getD rs v 0 ≤ Rule.D → node (proofOf rs ls ss cs m) (getD ls (4 * v + 1) 0) ≡ plainNode rs ls ss cs (getD ls (4 * v + 1) 0)
   first-node a b = at-node J (getD ls (4 * v + 1) 0) (first-inside J v real a b)
@@ -117,70 +113,70 @@ module _ {ks xs ys : List ℕ} {n : ℕ} {rs ls ss cs : List ℕ} {m : ℕ} (J :
 
   -- the test that a node's rule names, of what stands in the lists
   module _ (t : Table) where
-    pub keeps-ax1-here : getD rs v 0 ≡ Rule.AX1 → clash t (codesAt ss cs v) ≡ keeps t (plain (proofOf rs ls ss cs m)) v
+    pub keeps-ax1-here : getD rs v 0 ≡ Rule.AX1 → clash t (codesAt ss cs v) ≡ step-kept t (plain (proofOf rs ls ss cs m)) v
     unfolding ax1-kept
     keeps-ax1-here e = sym (keeps-ax1 t (plain (proofOf rs ls ss cs m)) v (rule-is J v real ∙ e) ∙ ap (clash t) codes-is)
 
-    pub keeps-ax2-here : getD rs v 0 ≡ Rule.AX2 → truth t (codesAt ss cs v) ≡ keeps t (plain (proofOf rs ls ss cs m)) v
+    pub keeps-ax2-here : getD rs v 0 ≡ Rule.AX2 → truth t (codesAt ss cs v) ≡ step-kept t (plain (proofOf rs ls ss cs m)) v
     unfolding ax2-kept
     keeps-ax2-here e = sym (keeps-ax2 t (plain (proofOf rs ls ss cs m)) v (rule-is J v real ∙ e) ∙ ap (truth t) codes-is)
 
-    pub keeps-or-here : getD rs v 0 ≡ Rule.OR → or-kept t (around ls ss cs v []) 0 ≡ keeps t (plain (proofOf rs ls ss cs m)) v
+    pub keeps-or-here : getD rs v 0 ≡ Rule.OR → or-kept t (around ls ss cs v []) 0 ≡ step-kept t (plain (proofOf rs ls ss cs m)) v
     unfolding or-kept of-kind belongs sides
     keeps-or-here e =
         let f = first-codes (omega arith) (omega arith) in
         sym (keeps-or t (plain (proofOf rs ls ss cs m)) v (rule-is J v real ∙ e) ∙ cc (principal-is, codes-is, f))
 
-    pub keeps-and-here : getD rs v 0 ≡ Rule.AND → and-kept t (around ls ss cs v (codesAt ss cs (getD ls (4 * v + 2) 0))) 0 ≡ keeps t (plain (proofOf rs ls ss cs m)) v
+    pub keeps-and-here : getD rs v 0 ≡ Rule.AND → and-kept t (around ls ss cs v (codesAt ss cs (getD ls (4 * v + 2) 0))) 0 ≡ step-kept t (plain (proofOf rs ls ss cs m)) v
     unfolding and-kept of-kind belongs sides
     keeps-and-here e =
         let f = first-codes (omega arith) (omega arith) in
         sym (keeps-and t (plain (proofOf rs ls ss cs m)) v (rule-is J v real ∙ e) ∙ cc (principal-is, codes-is, f, second-codes e))
 
-    pub keeps-box-here : getD rs v 0 ≡ Rule.BOX → box-kept t (around ls ss cs v []) 0 ≡ keeps t (plain (proofOf rs ls ss cs m)) v
+    pub keeps-box-here : getD rs v 0 ≡ Rule.BOX → box-kept t (around ls ss cs v []) 0 ≡ step-kept t (plain (proofOf rs ls ss cs m)) v
     unfolding box-kept of-kind belongs sides
     keeps-box-here e =
         let f = first-codes (omega arith) (omega arith) in
         sym (keeps-box t (plain (proofOf rs ls ss cs m)) v (rule-is J v real ∙ e) ∙ cc (principal-is, codes-is, f))
 
-    pub keeps-mu-here : getD rs v 0 ≡ Rule.MU → fixpoint-kept t (around ls ss cs v []) Kind.MU 0 0 ≡ keeps t (plain (proofOf rs ls ss cs m)) v
+    pub keeps-mu-here : getD rs v 0 ≡ Rule.MU → fixpoint-kept t (around ls ss cs v []) Kind.MU 0 0 ≡ step-kept t (plain (proofOf rs ls ss cs m)) v
     unfolding mu-kept of-kind belongs sides
     keeps-mu-here e =
         let f = first-codes (omega arith) (omega arith) in
         sym (keeps-mu t (plain (proofOf rs ls ss cs m)) v (rule-is J v real ∙ e) ∙ cc (principal-is, codes-is, f))
 
-    pub keeps-nu-here : getD rs v 0 ≡ Rule.NU → fixpoint-kept t (around ls ss cs v []) Kind.NU (focusOf (getD ls (4 * v) 0)) 0 ≡ keeps t (plain (proofOf rs ls ss cs m)) v
+    pub keeps-nu-here : getD rs v 0 ≡ Rule.NU → fixpoint-kept t (around ls ss cs v []) Kind.NU (focusOf (getD ls (4 * v) 0)) 0 ≡ step-kept t (plain (proofOf rs ls ss cs m)) v
     unfolding nu-kept of-kind belongs sides
     keeps-nu-here e =
         let f = first-codes (omega arith) (omega arith) in
         sym (keeps-nu t (plain (proofOf rs ls ss cs m)) v (rule-is J v real ∙ e) ∙ cc (principal-is, codes-is, f))
 
-    pub keeps-w-here : getD rs v 0 ≡ Rule.W → weaken-kept t (around ls ss cs v []) 0 ≡ keeps t (plain (proofOf rs ls ss cs m)) v
+    pub keeps-w-here : getD rs v 0 ≡ Rule.W → weaken-kept t (around ls ss cs v []) 0 ≡ step-kept t (plain (proofOf rs ls ss cs m)) v
     unfolding weaken-kept belongs sides
     keeps-w-here e =
         let f = first-codes (omega arith) (omega arith) in
         sym (keeps-w t (plain (proofOf rs ls ss cs m)) v (rule-is J v real ∙ e) ∙ cc (principal-is, codes-is, f))
 
-    pub keeps-f-here : getD rs v 0 ≡ Rule.F → focus-kept t (around ls ss cs v []) 0 1 0 ≡ keeps t (plain (proofOf rs ls ss cs m)) v
+    pub keeps-f-here : getD rs v 0 ≡ Rule.F → focus-kept t (around ls ss cs v []) 0 1 0 ≡ step-kept t (plain (proofOf rs ls ss cs m)) v
     unfolding focus-kept belongs sides
     keeps-f-here e =
         let f = first-codes (omega arith) (omega arith) in
         sym (keeps-f t (plain (proofOf rs ls ss cs m)) v (rule-is J v real ∙ e) ∙ cc (principal-is, codes-is, f))
 
-    pub keeps-u-here : getD rs v 0 ≡ Rule.U → focus-kept t (around ls ss cs v []) 1 0 0 ≡ keeps t (plain (proofOf rs ls ss cs m)) v
+    pub keeps-u-here : getD rs v 0 ≡ Rule.U → focus-kept t (around ls ss cs v []) 1 0 0 ≡ step-kept t (plain (proofOf rs ls ss cs m)) v
     unfolding focus-kept belongs sides
     keeps-u-here e =
         let f = first-codes (omega arith) (omega arith) in
         sym (keeps-u t (plain (proofOf rs ls ss cs m)) v (rule-is J v real ∙ e) ∙ cc (principal-is, codes-is, f))
 
-    pub keeps-d-here : getD rs v 0 ≡ Rule.D → same (codesAt ss cs (getD ls (4 * v + 1) 0)) (codesAt ss cs v) ≡ keeps t (plain (proofOf rs ls ss cs m)) v
+    pub keeps-d-here : getD rs v 0 ≡ Rule.D → same (codesAt ss cs (getD ls (4 * v + 1) 0)) (codesAt ss cs v) ≡ step-kept t (plain (proofOf rs ls ss cs m)) v
     unfolding discharge-kept
     keeps-d-here e =
         let f = first-codes (omega arith) (omega arith) in
         sym (keeps-d t (plain (proofOf rs ls ss cs m)) v (rule-is J v real ∙ e) ∙ cc (codes-is, f))
 
     -- a rule with a principal that does not belong is not kept
-    pub keeps-alien : Rule.OR ≤ getD rs v 0 → getD rs v 0 ≤ Rule.U → member (codesAt ss cs v) (getD ls (4 * v) 0) ≡ false → false ≡ keeps t (plain (proofOf rs ls ss cs m)) v
+    pub keeps-alien : Rule.OR ≤ getD rs v 0 → getD rs v 0 ≤ Rule.U → member (codesAt ss cs v) (getD ls (4 * v) 0) ≡ false → false ≡ step-kept t (plain (proofOf rs ls ss cs m)) v
     unfolding or-kept and-kept box-kept weaken-kept focus-kept of-kind belongs
     keeps-alien low high h =
         either Rule.OR low (λ e. rw h refl ∙ keeps-or-here e) (λ low.
@@ -192,8 +188,8 @@ module _ {ks xs ys : List ℕ} {n : ℕ} {rs ls ss cs : List ℕ} {m : ℕ} (J :
         either Rule.F low (λ e. rw h refl ∙ keeps-f-here e) (λ low.
         either Rule.U low (λ e. rw h refl ∙ keeps-u-here e) (λ low. absurd (omega arith)))))))))
 
-    pub keeps-none : Rule.BACK < getD rs v 0 → false ≡ keeps t (plain (proofOf rs ls ss cs m)) v
-    unfolding keeps
+    pub keeps-none : Rule.D < getD rs v 0 → false ≡ step-kept t (plain (proofOf rs ls ss cs m)) v
+    unfolding step-kept
     keeps-none h = sym (ap (λ (f : ℕ → Bool). f v) (List·getD-eq-default (tests t (plain (proofOf rs ls ss cs m))) (λ _. false) (beyond (rule-is J v real))))
       where
         beyond : {r : ℕ} → r ≡ getD rs v 0 → length (tests t (plain (proofOf rs ls ss cs m))) ≤ r

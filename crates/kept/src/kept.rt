@@ -3,14 +3,14 @@ ghost use mathlib.Core.Path.{_≡_};
 ghost use mathlib.Core.List.{List, []};
 ghost use Prim.Native.Nat.{ℕ, _<_, _≤_};
 ghost use lib.ListN.{getD};
-ghost use Rattle.formula.specs.Rule.{OR, U, BACK};
+ghost use Rattle.formula.specs.Rule.{OR, U};
 ghost use Rattle.formula.specs.Table.{Table};
 ghost use Rattle.formula.specs.Plain.{tableOf};
 ghost use Rattle.formula.specs.PlainNodes.{proofOf};
 ghost use Rattle.sequents.specs.CodeSet.{Holds};
 ghost use Rattle.sequents.specs.Placed.{family, Side, Coded};
 ghost use Rattle.calculus.specs.View.{plain};
-ghost use Rattle.calculus.specs.Judge.{or-kept as OrKept, and-kept as AndKept, focus-kept as FocusKept, keeps};
+ghost use Rattle.calculus.specs.Judge.{or-kept as OrKept, and-kept as AndKept, focus-kept as FocusKept, step-kept};
 ghost use Rattle.kept.specs.Fixpoint.{IsFixpoint, fixpoint-kept as FixpointKept};
 ghost use Rattle.kept.specs.Judged.{Judged};
 use bits::wide;
@@ -132,7 +132,7 @@ fn principal_kept(
 ) -> bool
     requires { ⌜ Judged (now kinds) (now a) (now b) size (now rules) (now links) (now starts) (now codes) nodes × (v < nodes) ×
         (OR ≤ getD (now rules) v 0) × (getD (now rules) v 0 ≤ U) ⌝ }
-    ensures { λ r. ⌜ r ≡ keeps (tableOf (now (kinds .entry)) (now (a .entry)) (now (b .entry)) size)
+    ensures { λ r. ⌜ r ≡ step-kept (tableOf (now (kinds .entry)) (now (a .entry)) (now (b .entry)) size)
         (plain (proofOf (now (rules .entry)) (now (links .entry)) (now (starts .entry)) (now (codes .entry)) nodes)) v ⌝ }
 {
     let rule = rules[v];
@@ -162,7 +162,7 @@ fn principal_kept(
     }
 }
 
-// Whether node v keeps its rule (refusal 37), a back leaf apart.
+// Whether node v keeps what it owes its children (refusal 37); a back leaf owes them nothing that it keeps.
 pub fn kept(
     kinds: &[u8; 256],
     a: &[u16; 256],
@@ -175,9 +175,8 @@ pub fn kept(
     nodes: usize,
     v: usize,
 ) -> bool
-    requires { ⌜ Judged (now kinds) (now a) (now b) count (now rules) (now links) (now starts) (now codes) nodes × (v < nodes) ×
-        (getD (now rules) v 0 ≡ BACK → ⊥) ⌝ }
-    ensures { λ r. ⌜ r ≡ keeps (tableOf (now (kinds .entry)) (now (a .entry)) (now (b .entry)) count)
+    requires { ⌜ Judged (now kinds) (now a) (now b) count (now rules) (now links) (now starts) (now codes) nodes × (v < nodes) ⌝ }
+    ensures { λ r. ⌜ r ≡ step-kept (tableOf (now (kinds .entry)) (now (a .entry)) (now (b .entry)) count)
         (plain (proofOf (now (rules .entry)) (now (links .entry)) (now (starts .entry)) (now (codes .entry)) nodes)) v ⌝ }
 {
     let rule = rules[v];

@@ -5,6 +5,7 @@ ghost use Prim.Native.Nat.{ℕ, _<_};
 ghost use lib.ListN.{take};
 ghost use Rattle.verdict.specs.Tests.{member, same as sameSet, remove, each};
 ghost use Rattle.formula.specs.Codes.{code as codeOf, entryOf};
+ghost use Rattle.formula.specs.Table.{Table};
 ghost use Rattle.formula.specs.PlainNodes.{codesAt, proofOf};
 ghost use Rattle.sequents.specs.CodeSet.{Holds};
 ghost use Rattle.sequents.specs.Part.{part, Span};
@@ -124,7 +125,7 @@ fn claim_set(members: &[u16; 24], count: usize) -> [u64; 8]
 // Whether the root's members are the claim's, all in focus (refusal 36).
 pub fn root_is_claim(members: &[u16; 24], count: usize, starts: &[u16], codes: &[u16]) -> bool
     requires { ⌜ Members (now members) count × Placed (now starts) (now codes) 0 ⌝ }
-    ensures { λ r. ⌜ ((rs ls : List ℕ) (n : ℕ) → 0 < n → r ≡ root (take count (now (members .entry)))
+    ensures { λ r. ⌜ ((t : Table) (rs ls : List ℕ) (n : ℕ) → 0 < n → r ≡ root (record { entries = t; members = take count (now (members .entry)) })
         (plain (proofOf rs ls (now (starts .entry)) (now (codes .entry)) n))) ⌝ }
 {
     let found = sequent(starts, codes, 0);

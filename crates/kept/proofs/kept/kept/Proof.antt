@@ -2,7 +2,7 @@
 use mathlib.Core.Path.{_∙_}
 use native.Mathlib.Omega.{arith}
 use borrow.Author.Needs.{needs}
-use Rattle.kept.specs.Judged.{entries-in, placed, first-placed, keeps-ax1-here, keeps-ax2-here, keeps-d-here, keeps-none}
+use Rattle.kept.specs.Judged.{placed, first-placed, keeps-ax1-here, keeps-ax2-here, keeps-d-here, keeps-none}
 use Rattle.kept.proofs.kept.kept.Statement.{statement}
 use Rattle.kept.proofs.kept.kept.Tie as tie
 
@@ -42,13 +42,13 @@ returns : tie.Need-returns
 returns c =
     let p = c .before .before .before .before .before .before .before .pre in
     let a = c .before .before .before .before .before .before .before .args in
-    c .ax1-kept .ensures (a .b .now) (a .count) (entries-in (p .0) _ (p .1)) ∙ keeps-ax1-here (p .0) _ (p .1) _ (c .before .match .keys1)
+    c .ax1-kept .ensures (a .b .now) (a .count) (p .0 .members _ (p .1)) ∙ keeps-ax1-here (p .0) _ (p .1) _ (c .before .match .keys1)
 
 returns-2 : tie.Need-returns-2
 returns-2 c =
     let p = c .before .before .before .before .before .before .before .pre in
     let a = c .before .before .before .before .before .before .before .args in
-    c .ax2-kept .ensures (a .a .now) (a .b .now) (a .count) (entries-in (p .0) _ (p .1)) ∙ keeps-ax2-here (p .0) _ (p .1) _ (c .before .match .keys2)
+    c .ax2-kept .ensures (a .a .now) (a .b .now) (a .count) (p .0 .members _ (p .1)) ∙ keeps-ax2-here (p .0) _ (p .1) _ (c .before .match .keys2)
 
 returns-3 : tie.Need-returns-3
 returns-3 c =

@@ -15,7 +15,7 @@ use Rattle.calculus.specs.Judge.{belongs, sides, weaken-kept}
 use Rattle.sequents.specs.CodeSet.{Holds}
 use Rattle.sequents.specs.Placed.{Side, Coded}
 use Rattle.sequents.specs.KeptLaws.{was-false, was-true}
-use Rattle.kept.specs.Judged.{entries-in, placed, first-placed, second-placed, coded, around, keeps-or-here, keeps-and-here, keeps-box-here, keeps-mu-here, keeps-nu-here, keeps-w-here, keeps-f-here, keeps-u-here, keeps-alien, past}
+use Rattle.kept.specs.Judged.{placed, first-placed, second-placed, coded, around, keeps-or-here, keeps-and-here, keeps-box-here, keeps-mu-here, keeps-nu-here, keeps-w-here, keeps-f-here, keeps-u-here, keeps-alien, past}
 use Rattle.kept.proofs.kept.principal_kept.Statement.{statement}
 use Rattle.kept.proofs.kept.principal_kept.Tie as tie
 
@@ -136,7 +136,7 @@ and-kept-requires c κs = principal (c .before .before .before .before .before .
 box-kept-requires : tie.Need-box-kept-requires
 box-kept-requires c κs =
     let p = c .before .before .before .before .before .before .before .before .before .before .before .before .before .before .before .before .before .before .before .before .before .pre in
-    rw (c .before .before .before .before .before .before .before .before .before .before .before .before .before .wide .ensures, c .before .before .before .before .before .before .before .before .before .before .before .wide2 .ensures) (principal (c .before .before .before .before .before .before .before), placed (p .0) _ (p .1) .span, entries-in (p .0) _ (p .1))
+    rw (c .before .before .before .before .before .before .before .before .before .before .before .before .before .wide .ensures, c .before .before .before .before .before .before .before .before .before .before .before .wide2 .ensures) (principal (c .before .before .before .before .before .before .before), placed (p .0) _ (p .1) .span, p .0 .members _ (p .1))
 
 fixpoint-kept-requires : tie.Need-fixpoint-kept-requires
 fixpoint-kept-requires c κs = (principal (c .before .before .before .before .before .before .before .before), inl refl, omega arith)

@@ -23,7 +23,7 @@ same-requires c κs = search needs
 
 returns : tie.Need-returns
 unfolding root
-returns c rs ls n h =
+returns c t rs ls n h =
     let a = c .before .before .before .before .before .before .before .args in
     c .same .ensures (codesAt (a .starts .now) (a .codes .now) 0) (each inFocus (take (a .count) (a .members .now))) (c .before .before .before .before .sequent .ensures) (c .before .before .before .claim-set .ensures)
     ∙ ap (λ (l : List ℕ). sameSet l (each inFocus (take (a .count) (a .members .now)))) (sym (ap (λ (x : Node). x .codes) (proofOf-node rs ls (a .starts .now) (a .codes .now) n 0 h)))
