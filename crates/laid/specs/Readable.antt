@@ -1,0 +1,111 @@
+-- a claim and a proof that were read, and the columns that hold them: what the judge of the rules asks holds of these
+use mathlib.Core.Path.{_≡_, refl, sym, subst, ap, _∙_}
+use mathlib.Core.List.{List}
+use Prim.Native.Nat.{ℕ, _+_, _*_, _<_, _≤_}
+use native.Mathlib.Numerals.{add-one}
+use native.Mathlib.Omega.{arith}
+use lib.ListN.{length, getD, take}
+use Rattle.verdict.specs.Verdict.{Verdict}
+use Rattle.encoding.specs.Encode.{Bytes}
+use Rattle.encoding.specs.File.{Reading}
+use Rattle.formula.specs.Table.{Table}
+use Rattle.formula.specs.Claim.{Claim, Derivation}
+use Rattle.formula.specs.Codes.{entryOf}
+use Rattle.formula.specs.Nodes.{Node, Proof, node}
+use Rattle.formula.specs.Plain.{tableOf, tableOf-length}
+use Rattle.formula.specs.PlainNodes.{codesAt, plainNode, proofOf, proofOf-node}
+use Rattle.formula.specs.Held.{heldClaim, heldProof}
+use Rattle.formula.specs.Records.{allCodes}
+use Rattle.formula.specs.NodeColumns.{Columns, start-stands}
+use Rattle.formula.specs.CodeCounts.{few-codes, more-codes}
+use Rattle.conditions.specs.WellFormed.{WellFormed}
+use Rattle.claims.specs.ClaimRecords.{member-formula, entry-count}
+use Rattle.proofs.specs.ProofFile.{ProofFile}
+use Rattle.proofs.specs.ProofExact.{proof-good}
+use Rattle.proofs.specs.ProofRecords.{node-count, codes-few, code-formula}
+use Rattle.nodes.specs.ProofDecode.{proofIn, Decodes}
+use Rattle.nodes.specs.ProofGood.{good-decoded}
+use Rattle.nodes.specs.ProofStored.{NodesStored, stored-proof}
+use Rattle.calculus.specs.Judge.{judge}
+use Rattle.sequents.specs.Placed.{Members, Entries}
+use Rattle.rules.specs.JudgeStages.{Laid}
+use Rattle.reader.specs.Files.{Files, files}
+use Rattle.reader.specs.FilesExact.{files-exactly}
+use Rattle.reader.specs.Found.{FilesGot}
+use Rattle.reader.specs.WellFormed as reader
+
+-- the nodes that stand in a proof file
+abbrev pub proofAt : List ℕ → Derivation
+proofAt s = record { nodes = proofIn s }
+
+-- the claim is held, its table well formed, and the file is a proof over it, of m nodes
+pub record Readable (ks xs ys : List ℕ) (n : ℕ) (ms : List ℕ) (k : ℕ) (s : List ℕ) (m : ℕ) : Type 0 where
+  pub entries : n ≤ 256
+  pub members : Members ms k
+  pub well : WellFormed (tableOf ks xs ys n)
+  pub decodes : Decodes s
+  pub file : ProofFile (heldClaim ks xs ys n ms k) s (proofAt s)
+  pub nodes : m ≡ length (proofIn s)
+
+-- what was read of two files
+module _ (claim proof : List ℕ) (bc : Bytes claim) (bp : Bytes proof) {ks xs ys ms : List ℕ} {n k m : ℕ} (g : FilesGot (files claim proof) ks xs ys ms n k m) where
+  formed : reader.WellFormed claim proof (g .files)
+  formed = files-exactly claim proof bc bp .given (g .files) (g .was)
+
+  same-proof : proofAt proof ≡ g .files .beside
+  same-proof = ap (λ (p : Proof). record { nodes = p }) (sym (good-decoded (g .files .claim) proof (proof-good (formed .beside-formed)) .same))
+
+  same-entries : g .files .claim .entries ≡ tableOf ks xs ys n
+  same-entries = ap (λ (c : Claim). c .entries) (sym (g .held .same))
+
+  pub readable : Readable ks xs ys n ms k proof m
+  readable = record {
+    entries = g .held .entries;
+    members = record {
+      few = g .held .members;
+      long = g .held .listed;
+      small = λ e h.
+          let l = rw (g .held .same) at (member-formula (formed .claim-formed .claim-file) e (rw (g .held .same) h)) in
+          omega (arith, l, entry-count (formed .claim-formed .claim-file));
+    };
+    well = subst WellFormed same-entries (formed .claim-formed .formed .well);
+    decodes = good-decoded (g .files .claim) proof (proof-good (formed .beside-formed)) .decodes;
+    file = rw (g .held .same, same-proof) (formed .beside-formed);
+    nodes = g .nodes ∙ ap (λ (d : Derivation). length (d .nodes)) (sym same-proof);
+  }
+
+  pub readable-judged : judge (g .files .claim) (g .files .beside) ≡ judge (heldClaim ks xs ys n ms k) (proofAt proof)
+  readable-judged = rw (g .held .same, same-proof) refl
+
+module _ {ks xs ys : List ℕ} {n : ℕ} {ms : List ℕ} {k : ℕ} {s : List ℕ} {m : ℕ} (r : Readable ks xs ys n ms k s m) where
+  pub count : (1 ≤ m) × (m ≤ 1024)
+  count = (omega (arith, r .nodes, node-count (r .file)), omega (arith, r .nodes, node-count (r .file)))
+
+  -- columns that hold the file's nodes, their codes one after the other
+  module _ {rs ls ss cs : List ℕ} (columns : Columns m rs ls ss cs) (same : proofOf rs ls ss cs m ≡ proofIn s)
+      (starts : (v : ℕ) → v ≤ m → getD ss v 0 ≡ length (allCodes (take v (proofIn s)))) where
+    rising : (v : ℕ) → v < m → (getD ss v 0 ≤ getD ss (v + 1) 0) × (getD ss (v + 1) 0 ≤ 24 * m)
+    rising v l =
+        let here = starts v (omega arith) in
+        let next = starts (v + 1) (omega arith) in
+        let more : length (allCodes (take v (proofIn s))) ≤ length (allCodes (take (v + 1) (proofIn s))) = rw add-one (more-codes (proofIn s) v) in
+        (omega (arith, here, next, more), omega (arith, next, few-codes (proofIn s) (codes-few (r .file)) (v + 1)))
+
+    inside : (v : ℕ) → v < m → Entries n (codesAt ss cs v)
+    inside v l x h =
+        let at : node (proofIn s) v .codes ≡ codesAt ss cs v = ap (λ (p : Proof). node p v .codes) (sym same) ∙ ap (λ (y : Node). y .codes) (proofOf-node rs ls ss cs m v l) in
+        omega (arith, code-formula (r .file) v x (rw at h) .inside, tableOf-length ks xs ys n)
+
+    pub laid : Laid ks xs ys n rs ls ss cs m
+    laid = record { entries = r .entries; some = count .0; columns = columns; rising = rising; well = r .well; members = inside }
+
+    pub laid-judged : judge (heldClaim ks xs ys n ms k) (proofAt s) ≡ judge (heldClaim ks xs ys n ms k) (heldProof rs ls ss cs m)
+    laid-judged = ap (λ (p : Proof). judge (heldClaim ks xs ys n ms k) (record { nodes = p })) (sym same)
+
+  -- columns that the decoder filled
+  module _ {rs₀ ls₀ ss₀ cs₀ rs ls ss cs : List ℕ} (w : NodesStored (proofIn s) rs₀ ls₀ ss₀ cs₀ rs ls ss cs) where
+    pub stored-same : proofOf rs ls ss cs m ≡ proofIn s
+    stored-same = ap (proofOf rs ls ss cs) (r .nodes) ∙ stored-proof w
+
+    pub stored-starts : (v : ℕ) → v ≤ m → getD ss v 0 ≡ length (allCodes (take v (proofIn s)))
+    stored-starts v l = ap (λ (x : List ℕ). getD x v 0) (w .starts) ∙ start-stands (proofIn s) ss₀ v (omega (arith, r .nodes))

@@ -1,0 +1,1 @@
+// What was read, laid out as the judge of the rules asks. No code.
