@@ -1,0 +1,87 @@
+-- the spans tell the proper ancestors: a node's span lies in that of each ancestor, and apart from that of any other smaller number
+use mathlib.Core.Path.{_≡_, refl, sym, _∙_}
+use mathlib.Core.Bool.{Bool, true, false, _&&_, or-false, false≢true, true≢false}
+use mathlib.Core.List.{List, _∷_}
+use Prim.Native.Nat.{ℕ, zero, suc, _+_, _-_, _<_, _≤_}
+use native.Mathlib.Decide.{ℕ-discrete, decLt}
+use native.Mathlib.Omega.{arith}
+use lib.ListN.{length, getD}
+use borrow.Author.Tests.{lt-ltb, le-ltb, eq-eqb, ne-eqb}
+use Rattle.verdict.specs.Tests.{any, member}
+use Rattle.verdict.specs.Tells.{fails-holds, and-tells, ltb-tells}
+use Rattle.formula.specs.Nodes.{Proof}
+use Rattle.calculus.specs.View.{plain}
+use Rattle.calculus.specs.Judge.{ancestor}
+use Rattle.tree.specs.Owners.{Owned, Parented}
+use Rattle.tree.specs.Spans.{up, Spans, spanned}
+use Rattle.tree.specs.Climbs.{path, Parents, path-step, path-end}
+
+module _ (p : Proof) (owners : List ℕ) (R : Parents p owners) (entries exits : List ℕ) (S : Spans owners (length p) entries exits) where
+  -- no number is in both spans
+  abbrev Apart : ℕ → ℕ → Type 0
+  Apart c w = (k : ℕ) → getD entries c 0 ≤ k → k < getD exits c 0 → getD entries w 0 ≤ k → k < getD exits w 0 → ⊥
+
+  -- a node between w and its parent is not above w: if the two have not one parent, the higher parent's number lies between the other node and its parent
+  beside : (f c w : ℕ) → c + w < f → w < length p → c < w → up owners w < c → Apart c w
+  beside zero c w h real l m k a b d e = absurd (omega arith)
+  beside (suc f) c w h real l m k a b d e = go (decLt (up owners c) (up owners w)) (decLt (up owners w) (up owners c)) (beside f)
+    where
+      go : Dec (up owners c < up owners w) → Dec (up owners w < up owners c) → ((c w : ℕ) → c + w < f → w < length p → c < w → up owners w < c → Apart c w) → ⊥
+      go (yes i) _ ih = ih (up owners w) c (omega arith) (omega arith) m i k (omega (arith, S .after w (omega arith) real)) (omega (arith, S .within w (omega arith) real)) a b
+      go (no i) (yes j) ih =
+          let r = R .parented c (omega arith) (omega arith) in
+          ih (up owners c) w (omega arith) real (omega arith) j k (omega (arith, S .after c (omega arith) (omega arith))) (omega (arith, S .within c (omega arith) (omega arith))) d e
+      go (no i) (no j) ih = omega (arith, S .apart c w (omega arith) l real (omega arith))
+
+  -- how the spans of c and w lie, by whether c is above w
+  record Lie (c w : ℕ) (above : Bool) : Type 0 where
+    inside : above ≡ true → (getD entries c 0 < getD entries w 0) × (getD exits w 0 ≤ getD exits c 0)
+    outside : above ≡ false → Apart c w
+
+  module _ (c : ℕ) where
+    below : (w : ℕ) → 0 < w → w < length p → (b : Bool) → Lie c (up owners w) b → Lie c w b
+    below w k h b L =
+        let i = S .after w k h in
+        let j = S .within w k h in
+        record { inside = λ e. (omega (arith, L .inside e), omega (arith, L .inside e)); outside = λ e x q r s t. L .outside e x q r (omega arith) (omega arith) }
+
+    lie : (f w : ℕ) → w ≤ f → c < w → w < length p → Lie c w (member (path p c w) c)
+    unfolding member any
+    lie zero w h k real = absurd (omega arith)
+    lie (suc f) w h k real = rw (path-step p owners R c w k real, ne-eqb c w (omega arith)) (go (decLt c (up owners w)) (ℕ-discrete c (up owners w)) (lie f (up owners w)))
+      where
+        go : Dec (c < up owners w) → Dec (c ≡ up owners w) → (up owners w ≤ f → c < up owners w → up owners w < length p → Lie c (up owners w) (member (path p c (up owners w)) c))
+            → Lie c w (member (path p c (up owners w)) c)
+        go (yes l) _ ih = let r = R .parented w (omega arith) real in below w (omega arith) real _ (ih (omega arith) l (omega arith))
+        go (no l) (yes e) ih = rw (path-end p owners R c (up owners w) (omega arith), eq-eqb c (up owners w) e) (record {
+          inside = λ _. rw e (S .after w (omega arith) real, S .within w (omega arith) real);
+          outside = λ z. absurd (true≢false z);
+        })
+        go (no l) (no e) ih = rw (path-end p owners R c (up owners w) (omega arith), ne-eqb c (up owners w) e) (record {
+          inside = λ z. absurd (false≢true z);
+          outside = λ _. beside (suc (c + w)) c w (omega arith) real k (omega arith);
+        })
+
+    pub ancestor-is : (w : ℕ) → c < w → w < length p → spanned entries exits c w ≡ ancestor (plain p) c w
+    unfolding ancestor
+    ancestor-is w k real = rw (lt-ltb c w k) (go (member (path p c w) c) (lie w w (omega arith) k real))
+      where
+        go : (b : Bool) → Lie c w b → spanned entries exits c w ≡ b
+        go true L =
+            let (i, j) = L .inside refl in
+            let s = S .some w real in
+            rw (lt-ltb (getD entries c 0) (getD entries w 0) i, lt-ltb (getD entries w 0) (getD exits c 0) (omega arith)) refl
+        go false L = fails-holds (and-tells (ltb-tells (getD entries c 0) (getD entries w 0)) (ltb-tells (getD entries w 0) (getD exits c 0))) (λ (i, j). L .outside refl (getD entries w 0) (omega arith) j (omega arith) (omega (arith, S .some w real)))
+
+-- of every proof with these parents: v is a node below c where its entry lies in the span of c
+abbrev pub AncestorsTold : List ℕ → ℕ → List ℕ → List ℕ → Type 0
+AncestorsTold owners n entries exits = (p : Proof) → length p ≡ n → Owned p n owners → (c v : ℕ) → c < v → v < n → spanned entries exits c v ≡ ancestor (plain p) c v
+
+pub spans-tell : (owners : List ℕ) (n : ℕ) (entries exits : List ℕ) → Parented owners n → Spans owners n entries exits → AncestorsTold owners n entries exits
+spans-tell owners n entries exits P S p size O c v h real =
+    ancestor-is p owners (record { owned = rw size O; parented = rw size P }) entries exits (rw size S) c v h (rw size real)
+
+-- what has no larger number is no descendant
+pub not-below : (p : Proof) (c v : ℕ) → v ≤ c → ancestor (plain p) c v ≡ false
+unfolding ancestor
+not-below p c v h = rw (le-ltb c v h) refl
