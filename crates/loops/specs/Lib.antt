@@ -1,4 +1,4 @@
-pub mod Flags
-pub mod FlagLaws
-pub mod WalkLaws
+pub mod Paths
+pub mod FocusLaws
+pub mod PathLaws
 pub mod LoopStages

@@ -1,12 +1,15 @@
--- the link of a back leaf and its loop path, as the code finds them
+-- a back leaf's link and loop path, as the code finds them
 use mathlib.Core.Path.{_≡_, refl, sym, ap, _∙_}
 use mathlib.Core.Bool.{Bool, true, false, _&&_, and-assoc}
 use mathlib.Core.List.{List}
-use Prim.Native.Nat.{ℕ, _+_, _*_, _<_}
+use Prim.Native.Nat.{ℕ, _+_, _*_, _<_, _≤_}
 use native.Mathlib.Omega.{arith}
 use lib.Dec.{eqb}
 use lib.ListN.{length, getD}
+use borrow.Author.Count.{below-more}
 use borrow.Author.Tests.{eq-eqb, ne-eqb}
+use Rattle.verdict.specs.Verdict.{accepted, refused}
+use Rattle.verdict.specs.ScanLaws.{Passed, scan-passes, scan-fails}
 use Rattle.verdict.specs.Tests.{same}
 use Rattle.formula.specs.Rule
 use Rattle.formula.specs.Table.{Table}
@@ -14,41 +17,62 @@ use Rattle.formula.specs.Nodes.{Proof, Node, node}
 use Rattle.formula.specs.PlainNodes.{proofOf, proofOf-length, proofOf-node}
 use Rattle.calculus.specs.View.{plain}
 use Rattle.calculus.specs.Judge.{codes, ancestor, back-kept, loop}
-use Rattle.tree.specs.Owners.{Owned}
-use Rattle.loops.specs.Flags.{Flagged, Noted, Linked, WalkedUp, companion-fits}
+use Rattle.tree.specs.Spans.{spanned}
+use Rattle.tree.specs.Ancestors.{AncestorsTold, not-below}
+use Rattle.loops.specs.Paths.{companion-fits, clear, PathsTold, Linked, LeavesTold, loops-judged}
 
-module _ (rs ls ss cs : List ℕ) (n : ℕ) where
-  -- the tables that refusal 35 and the flags have left are the proof's
-  pub noted-of : (owners : List ℕ) (flags : List Bool) → Owned (proofOf rs ls ss cs n) n owners → Flagged (proofOf rs ls ss cs n) flags → Noted (proofOf rs ls ss cs n) rs owners flags
-  noted-of owners flags O F = record {
-    rules-are = λ w h. ap (λ (x : Node). x .rule) (proofOf-node rs ls ss cs n w (omega (arith, proofOf-length rs ls ss cs n)));
-    owners-are = λ w h. rw (proofOf-length rs ls ss cs n) (O .each w h);
-    flags-are = F;
-  }
+module _ (rs ls ss cs : List ℕ) (n v : ℕ) (real : v < n) where
+  rule-is : node (proofOf rs ls ss cs n) v .rule ≡ getD rs v 0
+  rule-is = ap (λ (x : Node). x .rule) (proofOf-node rs ls ss cs n v real)
 
-  pub linked-of : Linked (proofOf rs ls ss cs n) ls
-  linked-of = record { links-are = λ v h. ap (λ (x : Node). x .back) (proofOf-node rs ls ss cs n v (omega (arith, proofOf-length rs ls ss cs n))) }
+  back-is : node (proofOf rs ls ss cs n) v .back ≡ getD ls (4 * v + 3) 0
+  back-is = ap (λ (x : Node). x .back) (proofOf-node rs ls ss cs n v real)
+
+  -- only a back leaf has a loop path
+  pub no-leaf : (getD rs v 0 ≡ Rule.BACK → ⊥) → loop (plain (proofOf rs ls ss cs n)) v ≡ true
+  unfolding loop
+  no-leaf h = rw (rule-is, ne-eqb (getD rs v 0) Rule.BACK h) refl
+
+  pub leaf-loop : (bars boxes : List ℕ) → getD rs v 0 ≡ Rule.BACK → LeavesTold (proofOf rs ls ss cs n) bars boxes → clear bars boxes (getD ls (4 * v + 3) 0) v ≡ loop (plain (proofOf rs ls ss cs n)) v
+  unfolding loop
+  leaf-loop bars boxes h T = rw (rule-is, eq-eqb (getD rs v 0) Rule.BACK h, ← back-is) (T .leaf-is v (rw proofOf-length real) (rule-is ∙ h))
+
+  abbrev link : ℕ
+  link = getD ls (4 * v + 3) 0
+
+  pub link-below : v ≤ link → companion-fits (proofOf rs ls ss cs n) v ≡ false
+  link-below h = rw (back-is, not-below (proofOf rs ls ss cs n) link v h) refl
+
+  module _ (entries exits : List ℕ) (A : AncestorsTold (proofOf rs ls ss cs n) entries exits) (h : link < v) where
+    told : spanned entries exits link v ≡ ancestor (plain (proofOf rs ls ss cs n)) link v
+    told = A .tells link v h (rw proofOf-length real)
+
+    pub no-ancestor : spanned entries exits link v ≡ false → companion-fits (proofOf rs ls ss cs n) v ≡ false
+    no-ancestor e = rw (back-is, ← told, e) refl
+
+    pub some-ancestor : spanned entries exits link v ≡ true → companion-fits (proofOf rs ls ss cs n) v ≡ eqb (getD rs link 0) Rule.D
+    some-ancestor e = rw (back-is, ← told, e) (ap (λ (x : Node). eqb (x .rule) Rule.D) (proofOf-node rs ls ss cs n link (omega arith)))
 
 -- with the sequents this is refusal 38's test
 pub back-kept-is : (t : Table) (p : Proof) (v : ℕ) → back-kept t (plain p) v ≡ (companion-fits p v && same (codes (plain p) v) (codes (plain p) (node p v .back)))
 unfolding back-kept
 back-kept-is t p v = sym (and-assoc (ancestor (plain p) (node p v .back) v) (eqb (node p (node p v .back) .rule) Rule.D) _)
 
-module _ (p : Proof) (rs ls owners : List ℕ) (flags : List Bool) (v : ℕ) (N : Noted p rs owners flags) (L : Linked p ls) (real : v < length p) where
-  pub no-leaf : (getD rs v 0 ≡ Rule.BACK → ⊥) → loop (plain p) v ≡ true
-  unfolding loop
-  no-leaf h = rw (N .rules-are v real, ne-eqb (getD rs v 0) Rule.BACK h) refl
+-- where 38 has passed, the tables of all paths tell the loop paths
+pub leaves-told : (p : Proof) (bars boxes : List ℕ) → Linked p → PathsTold p bars boxes → LeavesTold p bars boxes
+leaves-told p bars boxes L T = record { leaf-is = λ v h e. T .path-is (node p v .back) v h (L v h e) }
 
-  module _ (link : ℕ) (found good : Bool) (e : link ≡ getD ls (4 * v + 3) 0) (walked : WalkedUp rs owners flags v link found good) where
-    back-is : node p v .back ≡ link
-    back-is = L .links-are v real ∙ sym e
+-- the paths of all leaves below v are good
+abbrev pub GoodBelow : List ℕ → List ℕ → ℕ → List ℕ → List ℕ → ℕ → Type 0
+GoodBelow rs ls n bars boxes v = (ss cs : List ℕ) → LeavesTold (proofOf rs ls ss cs n) bars boxes → Passed (loop (plain (proofOf rs ls ss cs n))) v
 
-    pub leaf-loop : getD rs v 0 ≡ Rule.BACK → loop (plain p) v ≡ good
-    unfolding loop
-    leaf-loop h = rw (N .rules-are v real, eq-eqb (getD rs v 0) Rule.BACK h, back-is) (sym (walked .path p N real))
+module _ (rs ls : List ℕ) (n : ℕ) (bars boxes : List ℕ) (v : ℕ) (f : GoodBelow rs ls n bars boxes v) where
+  pub all-good : n ≤ v → (ss cs : List ℕ) → LeavesTold (proofOf rs ls ss cs n) bars boxes → loops-judged (proofOf rs ls ss cs n) ≡ accepted
+  all-good h ss cs T = scan-passes _ (λ _. 39) _ accepted (λ w l. f ss cs T w (omega (arith, proofOf-length rs ls ss cs n)))
 
-    pub no-ancestor : found ≡ false → companion-fits p v ≡ false
-    no-ancestor h = rw (back-is, ← walked .finds p N real, h) refl
+  module _ (real : v < n) (x : Bool) (here : (ss cs : List ℕ) (n : ℕ) → v < n → LeavesTold (proofOf rs ls ss cs n) bars boxes → x ≡ loop (plain (proofOf rs ls ss cs n)) v) where
+    pub good-more : x ≡ true → GoodBelow rs ls n bars boxes (v + 1)
+    good-more e ss cs T = below-more (λ w. loop (plain (proofOf rs ls ss cs n)) w ≡ true) v (f ss cs T) (sym (here ss cs n real T) ∙ e)
 
-    pub some-ancestor : found ≡ true → companion-fits p v ≡ eqb (getD rs link 0) Rule.D
-    some-ancestor h = rw (back-is, ← walked .finds p N real, h, N .rules-are link (omega (arith, walked .above h))) refl
+    pub first-bad : x ≡ false → (ss cs : List ℕ) → LeavesTold (proofOf rs ls ss cs n) bars boxes → loops-judged (proofOf rs ls ss cs n) ≡ refused 39 v
+    first-bad e ss cs T = scan-fails _ (λ _. 39) _ accepted v (omega (arith, proofOf-length rs ls ss cs n)) (f ss cs T) (sym (here ss cs n real T) ∙ e)

@@ -1,15 +1,19 @@
-// The walk from a back leaf up to its companion: the link for refusal 38, the loop path for 39.
+// Back leaves: the link to a companion (38), and the loop path from it down to the leaf (39). Tables of the tree tell both in one step.
 ghost use mathlib.Core.Path.{_≡_};
-ghost use mathlib.Core.Bool.{false};
+ghost use mathlib.Core.Bool.{Bool};
 ghost use mathlib.Core.List.{List};
 ghost use Prim.Native.Nat.{ℕ, _+_, _*_, _-_, _<_, _≤_};
-ghost use lib.ListN.{length, take, drop, replicate, getD};
+ghost use lib.ListN.{length, take, drop, getD};
+ghost use Rattle.verdict.specs.Shown.{shown};
 ghost use Rattle.verdict.specs.Tests.{any};
-ghost use Rattle.formula.specs.PlainNodes.{codesAt, proofOf};
-ghost use Rattle.tree.specs.Owners.{Parented};
-ghost use Rattle.loops.specs.Flags.{in-focus, may-loop, Inside, Flagged, WalkedUp, Companion};
+ghost use Rattle.formula.specs.PlainNodes.{proofOf};
+ghost use Rattle.calculus.specs.View.{plain};
+ghost use Rattle.calculus.specs.Judge.{on-loop, loop};
+ghost use Rattle.tree.specs.Owners.{Owned, Parented};
+ghost use Rattle.loops.specs.Paths.{in-focus, nearest-at, Tabled, PathsTold, Linked, LeavesTold, Companion, loops-judged};
 use bits::wide;
 use formula::Rule;
+use tree::spans::is_spanned;
 use verdict::Verdict;
 
 // Whether one of the codes from start up to end is in focus.
@@ -27,102 +31,119 @@ fn has_focus(codes: &[u16], start: usize, end: usize) -> bool
     false
 }
 
-// Whether node v may stand on a loop path: its sequent has a focused member, and its rule is not 8 or 9.
-fn may_loop(rules: &[u8; 1024], starts: &[u16; 1025], codes: &[u16], v: usize) -> bool
-    requires { ⌜ (v < 1024) × (getD (now starts) (v + 1) 0 ≤ length (now codes)) ⌝ }
-    ensures { λ r. ⌜ r ≡ may-loop (getD (now (rules .entry)) v 0) (codesAt (now (starts .entry)) (now (codes .entry)) v) ⌝ }
+// Whether node v may lie on a loop path: its sequent has a focused member, and its rule is not 8 or 9.
+fn may_loop(rules: &[u8], starts: &[u16], codes: &[u16], v: usize) -> bool
+    requires { ⌜ (v < length (now rules)) × (v + 1 < length (now starts)) × (getD (now starts) (v + 1) 0 ≤ length (now codes)) ⌝ }
+    ensures { λ r. ⌜ ((ls : List ℕ) (n : ℕ) → v < n → r ≡ on-loop (plain (proofOf (now (rules .entry)) ls (now (starts .entry)) (now (codes .entry)) n)) v) ⌝ }
 {
     let rule = rules[v];
-    if rule == Rule::F {
-        return false;
-    }
-    if rule == Rule::U {
+    let allowed = (rule != Rule::F) & (rule != Rule::U);
+    if !allowed {
         return false;
     }
     has_focus(codes, wide(starts[v]), wide(starts[v + 1]))
 }
 
-// At the start no flag is set.
-fn clear_flags(flags: &mut [bool; 1024])
-    ensures { λ r. ⌜ now (flags .exit) ≡ replicate 1024 false ⌝ }
+// One more than the number of the nearest marked node at or above v, or 0; the table has those of all nodes below v.
+fn nearest(owners: &[u16], table: &[u16], v: usize, marked: bool) -> u16
+    requires { ⌜ (v < 1024) × (v < length (now owners)) × (v ≤ length (now table)) × Parented (now owners) (v + 1) ⌝ }
+    ensures { λ r. ⌜ r ≡ nearest-at (now (owners .entry)) (now (table .entry)) v marked ⌝ }
 {
-    *flags = [false; 1024];
+    if marked {
+        return (v + 1) as u16;
+    }
+    if v == 0 {
+        return 0;
+    }
+    table[wide(owners[v]) - 1]
 }
 
-// For each node, whether it may stand on a loop path: the codes are looked at once.
-pub fn fill_flags(
-    rules: &[u8; 1024],
-    starts: &[u16; 1025],
+// For each node the nearest one at or above it that may not lie on a loop path, and the nearest box: the codes are looked at once.
+fn fill_paths(
+    rules: &[u8],
+    starts: &[u16],
     codes: &[u16],
     nodes: usize,
-    flags: &mut [bool; 1024],
+    owners: &[u16],
+    bars: &mut [u16],
+    boxes: &mut [u16],
 )
-    requires { ⌜ (nodes ≤ 1024) × Inside (now starts) (now codes) nodes ⌝ }
-    ensures { λ r. ⌜ ((ls : List ℕ) → Flagged (proofOf (now (rules .entry)) ls (now (starts .entry)) (now (codes .entry)) nodes) (now (flags .exit)))
-        ⌝ }
+    requires { ⌜ Tabled (now rules) (now starts) (now codes) nodes (now owners) × (nodes ≤ length (now bars)) × (nodes ≤ length (now boxes)) ⌝ }
+    ensures { λ r. ⌜ ((ls : List ℕ) → Owned (proofOf (now (rules .entry)) ls (now (starts .entry)) (now (codes .entry)) nodes) nodes (now (owners .entry)) →
+        PathsTold (proofOf (now (rules .entry)) ls (now (starts .entry)) (now (codes .entry)) nodes) (now (bars .exit)) (now (boxes .exit))) ⌝ }
 {
-    clear_flags(flags);
     let mut v: usize = 0;
     while v < nodes {
-        flags[v] = may_loop(rules, starts, codes, v);
+        let barred = !may_loop(rules, starts, codes, v);
+        bars[v] = nearest(owners, bars, v, barred);
+        boxes[v] = nearest(owners, boxes, v, rules[v] == Rule::BOX);
         v += 1;
     }
 }
 
-// What a walk up says of a leaf and its link: the link is a proper ancestor; the path from it down to the leaf is good.
-pub struct Walked {
-    pub found: bool,
-    pub good: bool,
-}
-
-// From the leaf up the parents, ended at the first number not above the link: the link itself, if it is an ancestor.
-pub fn walk(
-    rules: &[u8; 1024],
-    owners: &[u16; 1024],
-    flags: &[bool; 1024],
-    leaf: usize,
-    link: usize,
-) -> Walked
-    requires { ⌜ (leaf < 1024) × Parented (now owners) (leaf + 1) ⌝ }
-    ensures { λ r. ⌜ WalkedUp (now (rules .entry)) (now (owners .entry)) (now (flags .entry)) leaf link (r .found) (r .good) ⌝ }
+// Whether v is no back leaf, or its loop path is good: from its companion down to it no node is barred and one is a box.
+fn path_good(rules: &[u8], links: &[u16], bars: &[u16], boxes: &[u16], v: usize) -> bool
+    requires { ⌜ (v < length (now rules)) × (4 * v + 3 < length (now links)) × (v < length (now bars)) × (v < length (now boxes)) ⌝ }
+    ensures { λ r. ⌜ ((ss cs : List ℕ) (n : ℕ) → v < n → LeavesTold (proofOf (now (rules .entry)) (now (links .entry)) ss cs n) (now (bars .entry)) (now (boxes .entry)) →
+        r ≡ loop (plain (proofOf (now (rules .entry)) (now (links .entry)) ss cs n)) v) ⌝ }
 {
-    let mut at = leaf;
-    let mut clear = true;
-    let mut boxed = false;
-    while link < at {
-        clear = clear & flags[at];
-        boxed = boxed | (rules[at] == Rule::BOX);
-        at = wide(owners[at]) - 1;
+    if rules[v] != Rule::BACK {
+        return true;
     }
-    // Both ends are on the path.
-    Walked {
-        found: (link < leaf) & (link == at),
-        good: clear & flags[at] & (boxed | (rules[at] == Rule::BOX)),
-    }
+    let link = links[4 * v + 3];
+    (bars[v] <= link) & (link < boxes[v])
 }
 
-// Whether the back link of v is a proper ancestor of rule 10, and whether the loop path of v is good: one walk says both. The two
-// sequents are not compared here.
-pub fn companion(
-    rules: &[u8; 1024],
-    links: &[u16; 4096],
-    owners: &[u16; 1024],
-    flags: &[bool; 1024],
-    v: usize,
-) -> Walked
-    requires { ⌜ (v < 1024) × Parented (now owners) (v + 1) ⌝ }
-    ensures { λ r. ⌜ Companion (now (rules .entry)) (now (links .entry)) (now (owners .entry)) (now (flags .entry)) v (r .found) (r .good) ⌝ }
+// 39 by rising leaf.
+fn judge_paths(rules: &[u8], links: &[u16], nodes: usize, bars: &[u16], boxes: &[u16]) -> Verdict
+    requires { ⌜ (nodes ≤ 1024) × (nodes ≤ length (now rules)) × (4 * nodes ≤ length (now links)) × (nodes ≤ length (now bars)) × (nodes ≤ length (now boxes)) ⌝ }
+    ensures { λ r. ⌜ ((ss cs : List ℕ) → LeavesTold (proofOf (now (rules .entry)) (now (links .entry)) ss cs nodes) (now (bars .entry)) (now (boxes .entry)) →
+        shown r ≡ loops-judged (proofOf (now (rules .entry)) (now (links .entry)) ss cs nodes)) ⌝ }
+{
+    let mut v: usize = 0;
+    while v < nodes {
+        if !path_good(rules, links, bars, boxes, v) {
+            return Verdict::Refused {
+                number: 39,
+                place: v as u16,
+            };
+        }
+        v += 1;
+    }
+    Verdict::Accepted
+}
+
+// 39, once no node has earned 38; in two tables of any content.
+pub fn judge_loops(
+    rules: &[u8],
+    links: &[u16],
+    starts: &[u16],
+    codes: &[u16],
+    nodes: usize,
+    owners: &[u16],
+    bars: &mut [u16],
+    boxes: &mut [u16],
+) -> Verdict
+    requires { ⌜ Tabled (now rules) (now starts) (now codes) nodes (now owners) × (nodes ≤ length (now bars)) × (nodes ≤ length (now boxes)) ⌝ }
+    requires { ⌜ (4 * nodes ≤ length (now links)) × Owned (proofOf (now rules) (now links) (now starts) (now codes) nodes) nodes (now owners) ×
+        Linked (proofOf (now rules) (now links) (now starts) (now codes) nodes) ⌝ }
+    ensures { λ r. ⌜ shown r ≡ loops-judged (proofOf (now (rules .entry)) (now (links .entry)) (now (starts .entry)) (now (codes .entry)) nodes) ⌝ }
+{
+    fill_paths(rules, starts, codes, nodes, owners, bars, boxes);
+    judge_paths(rules, links, nodes, bars, boxes)
+}
+
+// Whether the back link of v is a proper ancestor of rule 10. The two sequents are not compared here.
+pub fn companion(rules: &[u8], links: &[u16], entries: &[u16], exits: &[u16], v: usize) -> bool
+    requires { ⌜ (v < length (now rules)) × (4 * v + 3 < length (now links)) × (v < length (now entries)) × (v < length (now exits)) ⌝ }
+    ensures { λ r. ⌜ Companion (now (rules .entry)) (now (links .entry)) (now (entries .entry)) (now (exits .entry)) v r ⌝ }
 {
     let link = wide(links[4 * v + 3]);
-    let walked = walk(rules, owners, flags, v, link);
-    if !walked.found {
-        return Walked {
-            found: false,
-            good: walked.good,
-        };
+    if v <= link {
+        return false;
     }
-    Walked {
-        found: rules[link] == Rule::D,
-        good: walked.good,
+    if !is_spanned(entries, exits, link, v) {
+        return false;
     }
+    rules[link] == Rule::D
 }

@@ -9,6 +9,7 @@ use lib.ListN.{length, getD}
 use borrow.Author.Tests.{eq-eqb, ne-eqb}
 use Rattle.verdict.specs.Verdict.{Verdict, accepted, refused, pick, scan}
 use Rattle.verdict.specs.declared.Verdict.the-variants.{Accepted}
+use Rattle.verdict.specs.VerdictLaws.{scan-says}
 use Rattle.verdict.specs.Tests.{same}
 use Rattle.formula.specs.Rule
 use Rattle.formula.specs.Table.{Table}
@@ -20,14 +21,15 @@ use Rattle.conditions.specs.WellFormed.{WellFormed}
 use Rattle.calculus.specs.Tree.{Tree}
 use Rattle.calculus.specs.Given.{Given}
 use Rattle.calculus.specs.View.{plain}
-use Rattle.calculus.specs.Judge.{codes, keeps, rule-number, back-kept, loop, root, judge}
+use Rattle.calculus.specs.Judge.{codes, keeps, rule-number, ancestor, back-kept, root, judge}
 use Rattle.calculus.specs.Steps.{keeps-leaf}
 use Rattle.calculus.specs.JudgeExact.{judge-is, claim-stage, loops-stage}
 use Rattle.verdict.specs.ScanLaws.{Passed, scan-passes, scan-fails, after, scan-then}
-use Rattle.tree.specs.Owners.{Parented, OwnersFilled, tree-judged}
+use Rattle.tree.specs.Owners.{OwnersFilled, tree-judged}
 use Rattle.tree.specs.TreeStages.{tree-then, accepted-tree}
-use Rattle.loops.specs.Flags.{Noted, Companion, companion-fits, loops-judged}
-use Rattle.loops.specs.LoopStages.{linked-of, back-kept-is, no-leaf}
+use Rattle.tree.specs.Ancestors.{AncestorsTold}
+use Rattle.loops.specs.Paths.{Companion, companion-fits, Linked, loops-judged}
+use Rattle.loops.specs.LoopStages.{back-kept-is}
 use Rattle.kept.specs.Judged.{Judged, codes-is}
 
 -- 37 or 38 by rising node
@@ -49,11 +51,11 @@ judge-stages t ms p =
     ∙ ap (λ (x : Verdict). after (tree-judged p) (pick (root ms (plain p)) x (refused 36 0)))
     (scan-then (keeps t (plain p)) (rule-number (plain p)) (length p) 0 (loops-stage t ms p))
 
--- tables that have passed 20 to 35, with what the walks up read
-pub record TreeReady (ks xs ys : List ℕ) (n : ℕ) (rs ls ss cs : List ℕ) (m : ℕ) (owners : List ℕ) (flags : List Bool) : Type 0 where
+-- tables that have passed 20 to 35, with the numbers that tell the ancestors
+pub record TreeReady (ks xs ys : List ℕ) (n : ℕ) (rs ls ss cs : List ℕ) (m : ℕ) (entries exits : List ℕ) : Type 0 where
   pub judged : Judged ks xs ys n rs ls ss cs m
-  pub parented : Parented owners m
-  pub noted : Noted (proofOf rs ls ss cs m) rs owners flags
+  pub room : (m ≤ length entries) × (m ≤ length exits)
+  pub told : AncestorsTold (proofOf rs ls ss cs m) entries exits
 
 module _ {ks xs ys : List ℕ} {n : ℕ} {rs ls ss cs : List ℕ} {m : ℕ} (J : Judged ks xs ys n rs ls ss cs m) (t : Table) (v : ℕ) (real : v < m) where
   abbrev p : Proof
@@ -99,13 +101,10 @@ pub record Laid (ks xs ys : List ℕ) (n : ℕ) (rs ls ss cs : List ℕ) (m : �
 pub laid-judged : {ks xs ys : List ℕ} {n : ℕ} {rs ls ss cs : List ℕ} {m : ℕ} → Laid ks xs ys n rs ls ss cs m → Tree (proofOf rs ls ss cs m) → Judged ks xs ys n rs ls ss cs m
 laid-judged L T = record { entries = L .entries; columns = L .columns; rising = L .rising; well = L .well; given = L .given; tree = T }
 
-module _ {ks xs ys : List ℕ} {n : ℕ} {rs ls ss cs : List ℕ} {m : ℕ} {owners : List ℕ} {flags : List Bool} (R : TreeReady ks xs ys n rs ls ss cs m owners flags) (t : Table) (v : ℕ) (real : v < m)
-    (leaf : getD rs v 0 ≡ Rule.BACK) {answer good : Bool} (companion : Companion rs ls owners flags v answer good) where
+module _ {ks xs ys : List ℕ} {n : ℕ} {rs ls ss cs : List ℕ} {m : ℕ} {entries exits : List ℕ} (R : TreeReady ks xs ys n rs ls ss cs m entries exits) (t : Table) (v : ℕ) (real : v < m)
+    (leaf : getD rs v 0 ≡ Rule.BACK) {answer : Bool} (companion : Companion rs ls entries exits v answer) where
   fits-is : answer ≡ companion-fits (proofOf rs ls ss cs m) v
-  fits-is = companion .fits (proofOf rs ls ss cs m) (R .noted) (linked-of rs ls ss cs m) (rw proofOf-length real)
-
-  pub leaf-path : good ≡ loop (plain (proofOf rs ls ss cs m)) v
-  leaf-path = companion .loops (proofOf rs ls ss cs m) (R .noted) (linked-of rs ls ss cs m) (rw proofOf-length real) leaf
+  fits-is = companion .fits ss cs m real (R .told)
 
   pub leaf-refused : answer ≡ false → keeps t (plain (proofOf rs ls ss cs m)) v ≡ false
   leaf-refused h = leaf-without (R .judged) t v real leaf (sym fits-is ∙ h)
@@ -116,11 +115,6 @@ module _ {ks xs ys : List ℕ} {n : ℕ} {rs ls ss cs : List ℕ} {m : ℕ} {own
 
   pub leaf-compared : answer ≡ true → keeps t (plain (proofOf rs ls ss cs m)) v ≡ same (codesAt ss cs v) (codesAt ss cs (getD ls (4 * v + 3) 0))
   leaf-compared h = leaf-with (R .judged) t v real leaf (sym fits-is ∙ h) (companion-inside h)
-
--- only a back leaf has a loop path
-pub other-path : {ks xs ys : List ℕ} {n : ℕ} {rs ls ss cs : List ℕ} {m : ℕ} {owners : List ℕ} {flags : List Bool} → TreeReady ks xs ys n rs ls ss cs m owners flags → (v : ℕ) → v < m
-    → (getD rs v 0 ≡ Rule.BACK → ⊥) → true ≡ loop (plain (proofOf rs ls ss cs m)) v
-other-path {rs = rs} {ls = ls} {ss = ss} {cs = cs} {m = m} {owners = owners} {flags = flags} R v real e = sym (no-leaf (proofOf rs ls ss cs m) rs ls owners flags v (R .noted) (linked-of rs ls ss cs m) (rw proofOf-length real) e)
 
 -- the scan of 37 and 38 as a loop walks it
 module _ {ks xs ys : List ℕ} {n : ℕ} {rs ls ss cs : List ℕ} {m : ℕ} (J : Judged ks xs ys n rs ls ss cs m) (t : Table) (v : ℕ) where
@@ -140,14 +134,23 @@ module _ {ks xs ys : List ℕ} {n : ℕ} {rs ls ss cs : List ℕ} {m : ℕ} (J :
       number-is (no e) = number-other J t v real e ∙ sym (other e)
 
 -- and then 39
-module _ (rs ls ss cs : List ℕ) (m : ℕ) (t : Table) where
-  pub nodes-fail : {k q : ℕ} → rules-judged t (proofOf rs ls ss cs m) ≡ refused k q → nodes-judged t (proofOf rs ls ss cs m) ≡ refused k q
-  nodes-fail h = ap (λ (x : Verdict). after x (loops-judged (proofOf rs ls ss cs m))) h
+module _ (t : Table) (p : Proof) where
+  pub nodes-refused : {k q : ℕ} → rules-judged t p ≡ refused k q → nodes-judged t p ≡ refused k q
+  nodes-refused h = rw h refl
 
-  pub nodes-pass : rules-judged t (proofOf rs ls ss cs m) ≡ accepted → nodes-judged t (proofOf rs ls ss cs m) ≡ scan (loop (plain (proofOf rs ls ss cs m))) (λ _. 39) m 0 accepted
-  nodes-pass h =
-      ap (λ (x : Verdict). after x (loops-judged (proofOf rs ls ss cs m))) h
-      ∙ ap (λ (x : ℕ). scan (loop (plain (proofOf rs ls ss cs m))) (λ _. 39) x 0 accepted) (proofOf-length rs ls ss cs m)
+  pub nodes-passed : rules-judged t p ≡ accepted → nodes-judged t p ≡ loops-judged p
+  nodes-passed h = rw h refl
+
+-- where 37 and 38 have passed, each back leaf is linked to an ancestor
+pub rules-linked : (t : Table) (p : Proof) → rules-judged t p ≡ accepted → Linked p
+unfolding back-kept
+rules-linked t p h v real e =
+    let kept = scan-says (keeps t (plain p)) (rule-number (plain p)) (length p) 0 accepted h .0 v (omega arith) (omega arith) in
+    former (ancestor (plain p) (node p v .back) v) _ (sym (keeps-leaf t (plain p) v e) ∙ kept)
+  where
+    former : (a b : Bool) → (a && b) ≡ true → a ≡ true
+    former true b q = refl
+    former false b q = q
 
 -- 36 to 39 by what each stage found
 module _ (t : Table) (ms : List ℕ) (p : Proof) where

@@ -1,38 +1,31 @@
 // Refusals 35 to 39 over tables in plain numbers, in document 01's order: 35; 36; 37 or 38 by rising node; 39 by rising leaf.
 ghost use mathlib.Core.Path.{_≡_};
-ghost use mathlib.Core.Bool.{Bool};
-ghost use Prim.Native.Nat.{ℕ, _+_, _<_, _≤_};
-ghost use lib.ListN.{take};
-ghost use Rattle.verdict.specs.Verdict.{accepted, scan};
+ghost use Prim.Native.Nat.{_<_, _≤_};
+ghost use lib.ListN.{length, take};
 ghost use Rattle.verdict.specs.Shown.{shown};
 ghost use Rattle.formula.specs.Rule.{BACK};
 ghost use Rattle.formula.specs.Plain.{tableOf};
 ghost use Rattle.formula.specs.PlainNodes.{proofOf};
 ghost use Rattle.calculus.specs.View.{plain};
-ghost use Rattle.calculus.specs.Judge.{keeps, loop, judge as judged};
-ghost use Rattle.verdict.specs.ScanLaws.{FirstBad};
+ghost use Rattle.calculus.specs.Judge.{keeps, judge as judged};
 ghost use Rattle.sequents.specs.Placed.{Members};
 ghost use Rattle.kept.specs.Judged.{Judged};
-ghost use Rattle.rules.specs.JudgeStages.{TreeReady, Laid, nodes-judged, tree-rules-judged};
+ghost use Rattle.rules.specs.JudgeStages.{TreeReady, Laid, rules-judged, nodes-judged, tree-rules-judged};
 ghost use Rattle.tree.specs.Owners.{OwnedBy, Parented};
+ghost use Rattle.tree.specs.Spans.{Counted};
 use bits::wide;
 use formula::Rule;
 use kept::kept::kept;
 use loops::companion;
-use loops::fill_flags;
+use loops::judge_loops;
 use sequents::sets::root_is_claim;
 use sequents::sets::same_sequent;
 use tree::fill_owners;
+use tree::spans::fill_spans;
 use verdict::Verdict;
 
-// What is said of a node: it keeps its rule; it is no back leaf, or its loop path is good.
-pub struct Stands {
-    pub kept: bool,
-    pub good: bool,
-}
-
-// Whether node v keeps its rule, back leaves included, and whether its loop path is good.
-fn node_stands(
+// Whether node v keeps its rule, back leaves included.
+fn node_keeps(
     kinds: &[u8; 256],
     a: &[u16; 256],
     b: &[u16; 256],
@@ -42,32 +35,22 @@ fn node_stands(
     starts: &[u16; 1025],
     codes: &[u16],
     nodes: usize,
-    owners: &[u16; 1024],
-    flags: &[bool; 1024],
+    entries: &[u16],
+    exits: &[u16],
     v: usize,
-) -> Stands
-    requires { ⌜ TreeReady (now kinds) (now a) (now b) count (now rules) (now links) (now starts) (now codes) nodes (now owners) (now flags) ×
+) -> bool
+    requires { ⌜ TreeReady (now kinds) (now a) (now b) count (now rules) (now links) (now starts) (now codes) nodes (now entries) (now exits) ×
         (v < nodes) ⌝ }
-    ensures { λ r. ⌜ r .kept ≡ keeps (tableOf (now (kinds .entry)) (now (a .entry)) (now (b .entry)) count)
+    ensures { λ r. ⌜ r ≡ keeps (tableOf (now (kinds .entry)) (now (a .entry)) (now (b .entry)) count)
         (plain (proofOf (now (rules .entry)) (now (links .entry)) (now (starts .entry)) (now (codes .entry)) nodes)) v ⌝ }
-    ensures { λ r. ⌜ r .good ≡ loop (plain (proofOf (now (rules .entry)) (now (links .entry)) (now (starts .entry)) (now (codes .entry)) nodes)) v ⌝ }
 {
     if rules[v] != Rule::BACK {
-        let kept = kept(kinds, a, b, count, rules, links, starts, codes, nodes, v);
-        return Stands { kept, good: true };
+        return kept(kinds, a, b, count, rules, links, starts, codes, nodes, v);
     }
-    let walked = companion(rules, links, owners, flags, v);
-    if !walked.found {
-        return Stands {
-            kept: false,
-            good: walked.good,
-        };
+    if !companion(rules, links, entries, exits, v) {
+        return false;
     }
-    let kept = same_sequent(starts, codes, v, wide(links[4 * v + 3]));
-    Stands {
-        kept,
-        good: walked.good,
-    }
+    same_sequent(starts, codes, v, wide(links[4 * v + 3]))
 }
 
 // The number that a node earns which does not keep its rule.
@@ -80,35 +63,7 @@ fn refusal_of(rule: u8) -> u16
     37
 }
 
-// The first leaf so far whose loop path is not good, or no node.
-fn first_bad(nodes: usize, v: usize, good: bool, bad: usize) -> usize
-    requires { ⌜ v < nodes ⌝ }
-    ensures { λ r. ⌜ ((ok : ℕ → Bool) → good ≡ ok v → FirstBad ok nodes v bad → FirstBad ok nodes (v + 1) r) ⌝ }
-{
-    if bad < nodes {
-        return bad;
-    }
-    if good {
-        return bad;
-    }
-    v
-}
-
-// 39 at the first leaf whose loop path is not good.
-fn judge_loops(nodes: usize, bad: usize) -> Verdict
-    requires { ⌜ nodes ≤ 1024 ⌝ }
-    ensures { λ r. ⌜ ((ok : ℕ → Bool) → FirstBad ok nodes nodes bad → shown r ≡ scan ok (λ _. 39) nodes 0 accepted) ⌝ }
-{
-    if bad < nodes {
-        return Verdict::Refused {
-            number: 39,
-            place: bad as u16,
-        };
-    }
-    Verdict::Accepted
-}
-
-// 37 or 38, by rising node; then 39, by rising leaf. Each leaf is walked up once, and 39 waits until no node has earned 37 or 38.
+// 37 or 38, by rising node.
 fn judge_nodes(
     kinds: &[u8; 256],
     a: &[u16; 256],
@@ -119,17 +74,16 @@ fn judge_nodes(
     starts: &[u16; 1025],
     codes: &[u16],
     nodes: usize,
-    owners: &[u16; 1024],
-    flags: &[bool; 1024],
+    entries: &[u16],
+    exits: &[u16],
 ) -> Verdict
-    requires { ⌜ TreeReady (now kinds) (now a) (now b) count (now rules) (now links) (now starts) (now codes) nodes (now owners) (now flags) ⌝ }
-    ensures { λ r. ⌜ shown r ≡ nodes-judged (tableOf (now (kinds .entry)) (now (a .entry)) (now (b .entry)) count)
+    requires { ⌜ TreeReady (now kinds) (now a) (now b) count (now rules) (now links) (now starts) (now codes) nodes (now entries) (now exits) ⌝ }
+    ensures { λ r. ⌜ shown r ≡ rules-judged (tableOf (now (kinds .entry)) (now (a .entry)) (now (b .entry)) count)
         (proofOf (now (rules .entry)) (now (links .entry)) (now (starts .entry)) (now (codes .entry)) nodes) ⌝ }
 {
-    let mut bad = nodes;
     let mut v: usize = 0;
     while v < nodes {
-        let stands = node_stands(
+        if !node_keeps(
             kinds,
             a,
             b,
@@ -139,20 +93,67 @@ fn judge_nodes(
             starts,
             codes,
             nodes,
-            owners,
-            flags,
+            entries,
+            exits,
             v,
-        );
-        if !stands.kept {
+        ) {
             return Verdict::Refused {
                 number: refusal_of(rules[v]),
                 place: v as u16,
             };
         }
-        bad = first_bad(nodes, v, stands.good, bad);
         v += 1;
     }
-    judge_loops(nodes, bad)
+    Verdict::Accepted
+}
+
+// 37 to 39 over a tree whose owners are known, in two tables that count each node once: they hold the numbers that tell the ancestors,
+// and once no node has earned 37 or 38, what tells the loop paths.
+fn judge_rules(
+    kinds: &[u8; 256],
+    a: &[u16; 256],
+    b: &[u16; 256],
+    count: usize,
+    rules: &[u8; 1024],
+    links: &[u16; 4096],
+    starts: &[u16; 1025],
+    codes: &[u16],
+    nodes: usize,
+    owners: &[u16],
+    entries: &mut [u16],
+    exits: &mut [u16],
+) -> Verdict
+    requires { ⌜ Judged (now kinds) (now a) (now b) count (now rules) (now links) (now starts) (now codes) nodes × (1 ≤ nodes) × (nodes ≤ length (now owners)) ⌝ }
+    requires { ⌜ Parented (now owners) nodes × OwnedBy (now rules) (now links) nodes nodes (now owners) × Counted (now owners) nodes nodes (now entries) (now exits) ⌝ }
+    ensures { λ r. ⌜ shown r ≡ nodes-judged (tableOf (now (kinds .entry)) (now (a .entry)) (now (b .entry)) count)
+        (proofOf (now (rules .entry)) (now (links .entry)) (now (starts .entry)) (now (codes .entry)) nodes) ⌝ }
+{
+    fill_spans(owners, nodes, entries, exits);
+    match judge_nodes(
+        kinds,
+        a,
+        b,
+        count,
+        rules,
+        links,
+        starts,
+        codes,
+        nodes,
+        entries,
+        exits,
+    ) {
+        Verdict::Accepted => judge_loops(
+            rules,
+            links,
+            starts,
+            codes,
+            nodes,
+            owners,
+            entries,
+            exits,
+        ),
+        Verdict::Refused { number, place } => Verdict::Refused { number, place },
+    }
 }
 
 // 36 to 39 over a tree whose owners are known.
@@ -182,9 +183,9 @@ fn judge_tree(
             place: 0,
         };
     }
-    let mut flags = [false; 1024];
-    fill_flags(rules, starts, codes, nodes, &mut flags);
-    judge_nodes(
+    let mut entries = [0u16; 1024];
+    let mut exits = [1u16; 1024];
+    judge_rules(
         kinds,
         a,
         b,
@@ -195,7 +196,8 @@ fn judge_tree(
         codes,
         nodes,
         owners,
-        &flags,
+        &mut entries,
+        &mut exits,
     )
 }
 

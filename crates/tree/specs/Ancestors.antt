@@ -73,13 +73,12 @@ module _ (p : Proof) (owners : List ℕ) (R : Parents p owners) (entries exits :
             rw (lt-ltb (getD entries c 0) (getD entries w 0) i, lt-ltb (getD entries w 0) (getD exits c 0) (omega arith)) refl
         go false L = fails-holds (and-tells (ltb-tells (getD entries c 0) (getD entries w 0)) (ltb-tells (getD entries w 0) (getD exits c 0))) (λ (i, j). L .outside refl (getD entries w 0) (omega arith) j (omega arith) (omega (arith, S .some w real)))
 
--- of every proof with these parents: v is a node below c where its entry lies in the span of c
-abbrev pub AncestorsTold : List ℕ → ℕ → List ℕ → List ℕ → Type 0
-AncestorsTold owners n entries exits = (p : Proof) → length p ≡ n → Owned p n owners → (c v : ℕ) → c < v → v < n → spanned entries exits c v ≡ ancestor (plain p) c v
+-- v is below c where its entry lies in the span of c
+pub record AncestorsTold (p : Proof) (entries exits : List ℕ) : Type 0 where
+  pub tells : (c v : ℕ) → c < v → v < length p → spanned entries exits c v ≡ ancestor (plain p) c v
 
-pub spans-tell : (owners : List ℕ) (n : ℕ) (entries exits : List ℕ) → Parented owners n → Spans owners n entries exits → AncestorsTold owners n entries exits
-spans-tell owners n entries exits P S p size O c v h real =
-    ancestor-is p owners (record { owned = rw size O; parented = rw size P }) entries exits (rw size S) c v h (rw size real)
+pub spans-tell : (owners : List ℕ) (n : ℕ) (entries exits : List ℕ) → Parented owners n → Spans owners n entries exits → (p : Proof) → length p ≡ n → Owned p n owners → AncestorsTold p entries exits
+spans-tell owners n entries exits P S p size O = record { tells = ancestor-is p owners (record { owned = rw size O; parented = rw size P }) entries exits (rw size S) }
 
 -- what has no larger number is no descendant
 pub not-below : (p : Proof) (c v : ℕ) → v ≤ c → ancestor (plain p) c v ≡ false

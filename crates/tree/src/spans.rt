@@ -3,7 +3,8 @@
 ghost use mathlib.Core.Path.{_≡_};
 ghost use Prim.Native.Nat.{ℕ, _<_, _≤_};
 ghost use lib.ListN.{length};
-ghost use Rattle.tree.specs.Owners.{Parented};
+ghost use Rattle.formula.specs.Nodes.{Proof};
+ghost use Rattle.tree.specs.Owners.{Owned, Parented};
 ghost use Rattle.tree.specs.Spans.{Counted, spanned};
 ghost use Rattle.tree.specs.Ancestors.{AncestorsTold};
 use bits::wide;
@@ -28,7 +29,7 @@ fn count_nodes(owners: &[u16], nodes: usize, offsets: &mut [u16], sizes: &mut [u
 fn number_nodes(owners: &[u16], nodes: usize, entries: &mut [u16], exits: &mut [u16])
     requires { ⌜ (1 ≤ nodes) × (nodes ≤ 1024) × (nodes ≤ length (now owners)) × Parented (now owners) nodes ⌝ }
     requires { ⌜ Counted (now owners) nodes 1 (now entries) (now exits) ⌝ }
-    ensures { λ r. ⌜ AncestorsTold (now (owners .entry)) nodes (now (entries .exit)) (now (exits .exit)) ⌝ }
+    ensures { λ r. ⌜ ((p : Proof) → length p ≡ nodes → Owned p nodes (now (owners .entry)) → AncestorsTold p (now (entries .exit)) (now (exits .exit))) ⌝ }
 {
     let mut v: usize = 1;
     while v < nodes {
@@ -43,7 +44,7 @@ fn number_nodes(owners: &[u16], nodes: usize, entries: &mut [u16], exits: &mut [
 pub fn fill_spans(owners: &[u16], nodes: usize, entries: &mut [u16], exits: &mut [u16])
     requires { ⌜ (1 ≤ nodes) × (nodes ≤ 1024) × (nodes ≤ length (now owners)) × Parented (now owners) nodes ⌝ }
     requires { ⌜ Counted (now owners) nodes nodes (now entries) (now exits) ⌝ }
-    ensures { λ r. ⌜ AncestorsTold (now (owners .entry)) nodes (now (entries .exit)) (now (exits .exit)) ⌝ }
+    ensures { λ r. ⌜ ((p : Proof) → length p ≡ nodes → Owned p nodes (now (owners .entry)) → AncestorsTold p (now (entries .exit)) (now (exits .exit))) ⌝ }
 {
     count_nodes(owners, nodes, entries, exits);
     number_nodes(owners, nodes, entries, exits);

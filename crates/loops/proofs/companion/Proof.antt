@@ -1,10 +1,9 @@
--- a link that is found lies below the leaf, so the index is good
-use mathlib.Core.Path.{sym}
+-- a link that is told by its numbers lies below the leaf, so the index is good
+use mathlib.Core.Path.{sym, _∙_}
 use mathlib.Core.Bool.{false≢true}
-use native.Mathlib.Omega.{arith}
 use borrow.Author.Needs.{needs}
 use borrow.Author.Tests.{not-true, not-false}
-use Rattle.loops.specs.LoopStages.{no-ancestor, some-ancestor, leaf-loop}
+use Rattle.loops.specs.LoopStages.{link-below, no-ancestor, some-ancestor}
 use Rattle.loops.proofs.companion.Statement.{statement}
 use Rattle.loops.proofs.companion.Tie as tie
 
@@ -17,30 +16,35 @@ add-wide c = search needs
 mul-wide-2 : tie.Need-mul-wide-2
 mul-wide-2 c = search needs
 
-element-copy-out-wide : tie.Need-element-copy-out-wide
-element-copy-out-wide c = search needs
+shared-slice-read-wide : tie.Need-shared-slice-read-wide
+shared-slice-read-wide c = search needs
 
 wide-requires : tie.Need-wide-requires
 wide-requires c κs = search needs
 
-walk-requires : tie.Need-walk-requires
-walk-requires c κs = search needs
-
 returns : tie.Need-returns
 returns c = record {
   above = λ e. absurd (false≢true e);
-  fits = λ p N L real. sym (no-ancestor p _ _ _ _ _ N L real _ _ _ (c .before .before .before .wide .ensures) (c .before .before .walk .ensures) (not-true _ (c .if1 .taken)));
-  loops = λ p N L real leaf. sym (leaf-loop p _ _ _ _ _ N L real _ _ _ (c .before .before .before .wide .ensures) (c .before .before .walk .ensures) leaf);
+  fits = λ ss cs n h A. sym (link-below _ _ ss cs n _ h (rw (c .before .wide .ensures) at (c .if1 .taken)));
 }
 
-element-copy-out-t17 : tie.Need-element-copy-out-t17
-element-copy-out-t17 c = omega (arith, c .before .before .walk .ensures .above (not-false _ (c .if1 .left)))
+is-spanned-requires : tie.Need-is-spanned-requires
+is-spanned-requires c κs = search needs
 
 returns-2 : tie.Need-returns-2
 returns-2 c = record {
-  above = λ _. rw (← c .before .before .before .before .wide .ensures) (c .before .before .before .walk .ensures .above (not-false _ (c .before .if1 .left)));
-  fits = λ p N L real. sym (some-ancestor p _ _ _ _ _ N L real _ _ _ (c .before .before .before .before .wide .ensures) (c .before .before .before .walk .ensures) (not-false _ (c .before .if1 .left)));
-  loops = λ p N L real leaf. sym (leaf-loop p _ _ _ _ _ N L real _ _ _ (c .before .before .before .before .wide .ensures) (c .before .before .before .walk .ensures) leaf);
+  above = λ e. absurd (false≢true e);
+  fits = λ ss cs n h A. sym (no-ancestor _ _ ss cs n _ h _ _ A (rw (c .before .before .before .wide .ensures) at (c .before .before .if1 .left)) (rw (c .before .before .before .wide .ensures) at (sym (c .before .is-spanned .ensures) ∙ not-true _ (c .if2 .taken))));
+}
+
+shared-slice-read-result : tie.Need-shared-slice-read-result
+shared-slice-read-result c = search needs
+
+returns-3 : tie.Need-returns-3
+returns-3 c = record {
+  above = λ _. rw (← c .before .before .before .before .wide .ensures) (c .before .before .before .if1 .left);
+  fits = λ ss cs n h A.
+      sym (rw (c .before .before .before .before .wide .ensures) (some-ancestor _ _ ss cs n _ h _ _ A (rw (c .before .before .before .before .wide .ensures) at (c .before .before .before .if1 .left)) (rw (c .before .before .before .before .wide .ensures) at (sym (c .before .before .is-spanned .ensures) ∙ not-false _ (c .before .if2 .left)))));
 }
 
 pub companion-spec : {M : Type 1} → statement M
@@ -50,9 +54,10 @@ companion-spec =
     mul-wide
     add-wide
     mul-wide-2
-    element-copy-out-wide
+    shared-slice-read-wide
     wide-requires
-    walk-requires
     returns
-    element-copy-out-t17
-    returns-2)
+    is-spanned-requires
+    returns-2
+    shared-slice-read-result
+    returns-3)

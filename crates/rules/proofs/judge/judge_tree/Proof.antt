@@ -1,10 +1,11 @@
--- 36, then each node
+-- 36, then the rules
 use mathlib.Core.Path.{_≡_, sym, _∙_}
 use mathlib.Core.Bool.{true}
 use mathlib.Core.List.{List}
 use Prim.Native.Nat.{ℕ}
 use native.Mathlib.Omega.{arith}
-use lib.ListN.{take}
+use lib.ListN.{take, length-replicate, getD-replicate}
+use borrow.Author.Needs.{needs}
 use borrow.Author.Tests.{not-true, not-false}
 use Rattle.formula.specs.Table.{Table}
 use Rattle.formula.specs.Plain.{tableOf}
@@ -13,7 +14,7 @@ use Rattle.formula.specs.PlainNodes.{proofOf}
 use Rattle.calculus.specs.View.{plain}
 use Rattle.calculus.specs.Judge.{root}
 use Rattle.kept.specs.Judged.{placed}
-use Rattle.loops.specs.LoopStages.{noted-of}
+use Rattle.tree.specs.SpanLaws.{none-counted}
 use Rattle.rules.specs.JudgeStages.{other-root, claim-root}
 use Rattle.rules.proofs.judge.judge_tree.Statement.{statement}
 use Rattle.rules.proofs.judge.judge_tree.Tie as tie
@@ -28,37 +29,49 @@ proof s = proofOf (s .args .rules .now) (s .args .links .now) (s .args .starts .
 abbrev claim : tie.Start → List ℕ
 claim s = take (s .args .listed) (s .args .members .now)
 
-rooted : (c : tie.Else1) → root (claim (c .before .before .before .before)) (plain (proof (c .before .before .before .before))) ≡ true
+rooted : (c : tie.Else1) → root (claim (c .before .before .before)) (plain (proof (c .before .before .before))) ≡ true
 rooted c =
-    let s = c .before .before .before .before in
+    let s = c .before .before .before in
     sym (c .before .root-is-claim .ensures (s .args .rules .now) (s .args .links .now) (s .args .nodes) (s .pre .1 .0 .1)) ∙ not-false _ (c .if1 .left)
 
 root-is-claim-requires : tie.Need-root-is-claim-requires
-root-is-claim-requires c κs = (c .before .before .pre .1 .0 .0, placed (c .before .before .pre .0) 0 (c .before .before .pre .1 .0 .1))
+root-is-claim-requires c κs = (c .before .pre .1 .0 .0, placed (c .before .pre .0) 0 (c .before .pre .1 .0 .1))
 
 returns : tie.Need-returns
 returns c =
-    let s = c .before .before .before .before in
+    let s = c .before .before .before in
     sym (other-root (table s) (claim s) (proof s) (sym (c .before .root-is-claim .ensures (s .args .rules .now) (s .args .links .now) (s .args .nodes) (s .pre .1 .0 .1)) ∙ not-true _ (c .if1 .taken)))
 
-fill-flags-requires : tie.Need-fill-flags-requires
-fill-flags-requires c κs =
-    let J = c .before .before .before .before .before .pre .0 in
-    (J .columns .few, λ v h. omega (arith, J .rising v h .1, J .columns .codes))
+slice-aggregate-judge-rules : tie.Need-slice-aggregate-judge-rules
+slice-aggregate-judge-rules c = search needs
 
-judge-nodes-requires : tie.Need-judge-nodes-requires
-judge-nodes-requires c κs = record {
-  judged = c .before .before .before .before .before .before .before .pre .0;
-  parented = c .before .before .before .before .before .before .before .pre .1 .1 .0;
-  noted = noted-of _ _ _ _ _ _ _ (c .before .before .before .before .before .before .before .pre .1 .1 .1 _ _) (c .before .fill-flags .ensures _);
-}
+slice-aggregate-judge-rules-2 : tie.Need-slice-aggregate-judge-rules-2
+slice-aggregate-judge-rules-2 c = search needs
+
+judge-rules-requires : tie.Need-judge-rules-requires
+judge-rules-requires c κs =
+    let start = c .before .before .before .before .before .before in
+    let J = start .pre .0 in (
+      (J, start .pre .1 .0 .1, omega (arith, J .columns .few)),
+      (
+        start .pre .1 .1 .0,
+        start .pre .1 .1 .1,
+        none-counted _ _ _ _ (omega (arith, J .columns .few, length-replicate {A = ℕ} 1024 0)) (omega (arith, J .columns .few, length-replicate {A = ℕ} 1024 1)) (getD-replicate 1024 0 0 0 (omega arith)) (λ w h. getD-replicate 1024 w 1 0 (omega (arith, J .columns .few))),
+      ),
+    )
 
 returns-2 : tie.Need-returns-2
 returns-2 c =
-    let s = c .before .before .before .before .before .before .before .before in
-    c .judge-nodes .ensures ∙ sym (claim-root (table s) (claim s) (proof s) (rooted (c .before .before .before .before)))
+    let s = c .before .before .before .before .before .before .before .before .before in
+    c .before .before .judge-rules .ensures ∙ sym (claim-root (table s) (claim s) (proof s) (rooted (c .before .before .before .before .before .before)))
 
 pub judge-tree-spec : {M : Type 1} → statement M
 judge-tree-spec =
     tie.close
-    (tie.spec root-is-claim-requires returns fill-flags-requires judge-nodes-requires returns-2)
+    (tie.spec
+    root-is-claim-requires
+    returns
+    slice-aggregate-judge-rules
+    slice-aggregate-judge-rules-2
+    judge-rules-requires
+    returns-2)

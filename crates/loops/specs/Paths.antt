@@ -1,0 +1,74 @@
+-- what the code keeps of loop paths, and what that tells
+use mathlib.Core.Path.{_≡_}
+use mathlib.Core.Bool.{Bool, true, not, _&&_}
+use mathlib.Core.List.{List}
+use Prim.Native.Nat.{ℕ, _+_, _*_, _<_, _≤_}
+use lib.Dec.{eqb, ltb, leb}
+use lib.ListN.{length, getD}
+use Rattle.verdict.specs.Tests.{choose, any, member}
+use Rattle.verdict.specs.Verdict.{Verdict, accepted, scan}
+use Rattle.formula.specs.Rule
+use Rattle.formula.specs.Codes.{focusOf}
+use Rattle.formula.specs.Nodes.{Proof, node}
+use Rattle.formula.specs.PlainNodes.{proofOf}
+use Rattle.calculus.specs.View.{plain}
+use Rattle.calculus.specs.Judge.{ancestor, on-loop, good-path, loop}
+use Rattle.tree.specs.Owners.{Parented}
+use Rattle.tree.specs.Spans.{up}
+use Rattle.tree.specs.Climbs.{path}
+use Rattle.tree.specs.Ancestors.{AncestorsTold}
+
+abbrev pub in-focus : ℕ → Bool
+in-focus c = eqb (focusOf c) 1
+
+-- a box, and a node that may not lie on a loop path
+abbrev pub box : Proof → ℕ → Bool
+box p v = eqb (node p v .rule) Rule.BOX
+
+abbrev pub barred : Proof → ℕ → Bool
+barred p v = not (on-loop (plain p) v)
+
+-- on a path from c down to w a node is marked just when the table's number at w lies above c
+pub record Nearest (p : Proof) (marked : ℕ → Bool) (v : ℕ) (table : List ℕ) : Type 0 where
+  pub most : (w : ℕ) → w < v → getD table w 0 ≤ w + 1
+  pub tells : (c w : ℕ) → w < v → member (path p c w) c ≡ true → any marked (path p c w) ≡ ltb c (getD table w 0)
+
+-- one more than the nearest marked node at or above v, 0 if there is none: from that of v's parent
+abbrev pub nearest-at : List ℕ → List ℕ → ℕ → Bool → ℕ
+nearest-at owners table v marked = choose marked (v + 1) (choose (eqb v 0) 0 (getD table (up owners v) 0))
+
+-- no barred node from c down to v, and a box
+abbrev pub clear : List ℕ → List ℕ → ℕ → ℕ → Bool
+clear bars boxes c v = leb (getD bars v 0) c && ltb c (getD boxes v 0)
+
+-- the columns of n nodes, with their parents
+pub record Tabled (rs ss cs : List ℕ) (n : ℕ) (owners : List ℕ) : Type 0 where
+  pub few : n ≤ 1024
+  pub room : (n ≤ length rs) × (n < length ss) × (n ≤ length owners)
+  pub within : (v : ℕ) → v < n → getD ss (v + 1) 0 ≤ length cs
+  pub parented : Parented owners n
+
+-- the tables tell the path down to each node from each of its ancestors
+pub record PathsTold (p : Proof) (bars boxes : List ℕ) : Type 0 where
+  pub path-is : (c v : ℕ) → v < length p → ancestor (plain p) c v ≡ true → clear bars boxes c v ≡ good-path (plain p) (path p c v)
+
+-- what a back leaf's link must be, but for the sequents
+abbrev pub companion-fits : Proof → ℕ → Bool
+companion-fits p v = ancestor (plain p) (node p v .back) v && eqb (node p (node p v .back) .rule) Rule.D
+
+-- what the code says of the link of v, of every proof whose ancestors the numbers tell
+pub record Companion (rs ls entries exits : List ℕ) (v : ℕ) (answer : Bool) : Type 0 where
+  pub above : answer ≡ true → getD ls (4 * v + 3) 0 < v
+  pub fits : (ss cs : List ℕ) (n : ℕ) → v < n → AncestorsTold (proofOf rs ls ss cs n) entries exits → answer ≡ companion-fits (proofOf rs ls ss cs n) v
+
+-- what refusal 38 has ensured before 39
+abbrev pub Linked : Proof → Type 0
+Linked p = (v : ℕ) → v < length p → node p v .rule ≡ Rule.BACK → ancestor (plain p) (node p v .back) v ≡ true
+
+-- so the tables tell the loop path of each back leaf
+pub record LeavesTold (p : Proof) (bars boxes : List ℕ) : Type 0 where
+  pub leaf-is : (v : ℕ) → v < length p → node p v .rule ≡ Rule.BACK → clear bars boxes (node p v .back) v ≡ good-path (plain p) (path p (node p v .back) v)
+
+-- refusal 39: by rising leaf
+abbrev pub loops-judged : Proof → Verdict
+loops-judged p = scan (loop (plain p)) (λ _. 39) (length p) 0 accepted

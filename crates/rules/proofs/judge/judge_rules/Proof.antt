@@ -1,0 +1,90 @@
+-- 37 and 38, and if no node earns one, 39
+use mathlib.Core.Path.{_≡_, sym, _∙_}
+use native.Mathlib.Omega.{arith}
+use borrow.Author.Needs.{needs}
+use Rattle.verdict.specs.Verdict.{accepted}
+use Rattle.formula.specs.Table.{Table}
+use Rattle.formula.specs.Plain.{tableOf}
+use Rattle.formula.specs.Nodes.{Proof}
+use Rattle.formula.specs.PlainNodes.{proofOf, proofOf-length}
+use Rattle.rules.specs.JudgeStages.{rules-judged, rules-linked, nodes-passed, nodes-refused}
+use Rattle.rules.proofs.judge.judge_rules.Statement.{statement}
+use Rattle.rules.proofs.judge.judge_rules.Tie as tie
+
+-- the tables that the function is lent
+abbrev table : tie.Start → Table
+table s = tableOf (s .args .kinds .now) (s .args .a .now) (s .args .b .now) (s .args .count)
+
+abbrev proof : tie.Start → Proof
+proof s = proofOf (s .args .rules .now) (s .args .links .now) (s .args .starts .now) (s .args .codes .now) (s .args .nodes)
+
+passed : (c : tie.After-enum-told) → rules-judged (table (c .before .before .before .before .before .before .before .before .before .before .before .before .before .before .before .before)) (proof (c .before .before .before .before .before .before .before .before .before .before .before .before .before .before .before .before)) ≡ accepted
+passed c = sym (rw (c .enum-told .given .1) at (c .before .before .judge-nodes .ensures))
+
+fill-spans-requires : tie.Need-fill-spans-requires
+fill-spans-requires c κs = let start = c .before .before .before .before .before .before in ((start .pre .0 .1, start .pre .0 .0 .nodes, start .pre .0 .2, start .pre .1 .0), start .pre .1 .2)
+
+judge-nodes-requires : tie.Need-judge-nodes-requires
+judge-nodes-requires c κs =
+    let start = c .before .before .before .before .before .before .before .before .before .before .before .before .before in
+    record {
+      judged = start .pre .0 .0;
+      room = (omega (arith, start .pre .1 .2 .room), omega (arith, start .pre .1 .2 .room));
+      told = c .before .before .before .before .before .before .fill-spans .ensures _ (proofOf-length _ _ _ _ _) (start .pre .1 .1 _ _);
+    }
+
+enum-told : tie.Need-enum-told
+enum-told c = search needs
+
+judge-loops-requires : tie.Need-judge-loops-requires
+judge-loops-requires c κs =
+    let start = c .before .before .before .before .before .before .before .before .before .before .before .before .before .before .before .before .before .before .before .before .before in
+    let J = start .pre .0 .0 in (
+      (
+        record { few = J .nodes; room = (omega (arith, J .nodes), omega (arith, J .nodes), start .pre .0 .2); within = λ v h. omega (arith, J .rising v h .1, J .codes); parented = start .pre .1 .0 },
+        omega (arith, start .pre .1 .2 .room),
+        omega (arith, start .pre .1 .2 .room),
+      ),
+      (omega (arith, J .nodes), start .pre .1 .1 _ _, rules-linked (table start) (proof start) (passed (c .before .before .before .before .before))),
+    )
+
+enum-known-number : tie.Need-enum-known-number
+enum-known-number c = search needs
+
+same-length : tie.Need-same-length
+same-length c = search needs
+
+same-length-2 : tie.Need-same-length-2
+same-length-2 c = search needs
+
+returns : tie.Need-returns
+returns c =
+    let start = c .before .before .before .before .before .before .before .before .before .before .before .before .before .before .before .before .before .before .before .before .before .before .before .before .before .before in
+    c .before .before .before .before .judge-loops .ensures ∙ sym (nodes-passed (table start) (proof start) (passed (c .before .before .before .before .before .before .before .before .before .before)))
+
+same-length-3 : tie.Need-same-length-3
+same-length-3 c = search needs
+
+same-length-4 : tie.Need-same-length-4
+same-length-4 c = search needs
+
+returns-2 : tie.Need-returns-2
+returns-2 c =
+    let start = c .before .before .before .before .before .before .before .before .before .before .before .before .before .before .before .before .before in
+    sym (nodes-refused (table start) (proof start) (sym (rw (c .before .number .given .1) at (c .before .before .before .judge-nodes .ensures))))
+
+pub judge-rules-spec : {M : Type 1} → statement M
+judge-rules-spec =
+    tie.close
+    (tie.spec
+    fill-spans-requires
+    judge-nodes-requires
+    enum-told
+    judge-loops-requires
+    enum-known-number
+    same-length
+    same-length-2
+    returns
+    same-length-3
+    same-length-4
+    returns-2)
