@@ -12,17 +12,16 @@ use Rattle.verdict.specs.declared.Verdict.the-variants.{Accepted}
 use Rattle.verdict.specs.VerdictLaws.{scan-says}
 use Rattle.verdict.specs.Tests.{same}
 use Rattle.formula.specs.Rule
-use Rattle.formula.specs.Table.{Table}
+use Rattle.formula.specs.Claim.{Claim, Derivation}
 use Rattle.formula.specs.Plain.{tableOf}
 use Rattle.formula.specs.Nodes.{Node, Proof, node}
 use Rattle.formula.specs.NodeColumns.{Columns}
 use Rattle.formula.specs.PlainNodes.{codesAt, proofOf, proofOf-length, proofOf-node}
 use Rattle.conditions.specs.WellFormed.{WellFormed}
 use Rattle.calculus.specs.Tree.{Tree}
-use Rattle.calculus.specs.Given.{Given}
 use Rattle.calculus.specs.View.{plain}
-use Rattle.calculus.specs.Judge.{codes, keeps, rule-number, ancestor, back-kept, root, judge}
-use Rattle.calculus.specs.Steps.{keeps-leaf}
+use Rattle.calculus.specs.Judge.{codes, step-kept, keeps, rule-number, ancestor, back-kept, root, judge}
+use Rattle.calculus.specs.Steps.{keeps-leaf, keeps-other}
 use Rattle.calculus.specs.JudgeExact.{judge-is, claim-stage, loops-stage}
 use Rattle.verdict.specs.ScanLaws.{Passed, scan-passes, scan-fails, after, scan-then}
 use Rattle.tree.specs.Owners.{OwnersFilled, tree-judged}
@@ -30,26 +29,27 @@ use Rattle.tree.specs.TreeStages.{tree-then, accepted-tree}
 use Rattle.tree.specs.Ancestors.{AncestorsTold}
 use Rattle.loops.specs.Paths.{Companion, companion-fits, Linked, loops-judged}
 use Rattle.loops.specs.LoopStages.{back-kept-is}
+use Rattle.sequents.specs.Placed.{Entries}
 use Rattle.kept.specs.Judged.{Judged, codes-is}
 
 -- 37 or 38 by rising node
-abbrev pub rules-judged : Table → Proof → Verdict
-rules-judged t p = scan (keeps t (plain p)) (rule-number (plain p)) (length p) 0 accepted
+abbrev pub rules-judged : Claim → Proof → Verdict
+rules-judged c p = scan (keeps c (plain p)) (rule-number (plain p)) (length p) 0 accepted
 
 -- those, and then 39 by rising leaf
-abbrev pub nodes-judged : Table → Proof → Verdict
-nodes-judged t p = after (rules-judged t p) (loops-judged p)
+abbrev pub nodes-judged : Claim → Proof → Verdict
+nodes-judged c p = after (rules-judged c p) (loops-judged p)
 
 -- 36, then those
-abbrev pub tree-rules-judged : Table → List ℕ → Proof → Verdict
-tree-rules-judged t ms p = pick (root ms (plain p)) (nodes-judged t p) (refused 36 0)
+abbrev pub tree-rules-judged : Claim → Proof → Verdict
+tree-rules-judged c p = pick (root c (plain p)) (nodes-judged c p) (refused 36 0)
 
-pub judge-stages : (t : Table) (ms : List ℕ) (p : Proof) → judge t ms p ≡ after (tree-judged p) (tree-rules-judged t ms p)
-judge-stages t ms p =
-    judge-is t ms p
-    ∙ tree-then p (claim-stage t ms p)
-    ∙ ap (λ (x : Verdict). after (tree-judged p) (pick (root ms (plain p)) x (refused 36 0)))
-    (scan-then (keeps t (plain p)) (rule-number (plain p)) (length p) 0 (loops-stage t ms p))
+pub judge-stages : (c : Claim) (d : Derivation) → judge c d ≡ after (tree-judged (d .nodes)) (tree-rules-judged c (d .nodes))
+judge-stages c d =
+    judge-is c d
+    ∙ tree-then (d .nodes) (claim-stage c d)
+    ∙ ap (λ (x : Verdict). after (tree-judged (d .nodes)) (pick (root c (plain (d .nodes))) x (refused 36 0)))
+    (scan-then (keeps c (plain (d .nodes))) (rule-number (plain (d .nodes))) (length (d .nodes)) 0 (loops-stage c d))
 
 -- tables that have passed 20 to 35, with the numbers that tell the ancestors
 pub record TreeReady (ks xs ys : List ℕ) (n : ℕ) (rs ls ss cs : List ℕ) (m : ℕ) (entries exits : List ℕ) : Type 0 where
@@ -57,7 +57,7 @@ pub record TreeReady (ks xs ys : List ℕ) (n : ℕ) (rs ls ss cs : List ℕ) (m
   pub room : (m ≤ length entries) × (m ≤ length exits)
   pub told : AncestorsTold (proofOf rs ls ss cs m) entries exits
 
-module _ {ks xs ys : List ℕ} {n : ℕ} {rs ls ss cs : List ℕ} {m : ℕ} (J : Judged ks xs ys n rs ls ss cs m) (t : Table) (v : ℕ) (real : v < m) where
+module _ {ks xs ys : List ℕ} {n : ℕ} {rs ls ss cs : List ℕ} {m : ℕ} (J : Judged ks xs ys n rs ls ss cs m) (c : Claim) (v : ℕ) (real : v < m) where
   abbrev p : Proof
   p = proofOf rs ls ss cs m
 
@@ -68,17 +68,21 @@ module _ {ks xs ys : List ℕ} {n : ℕ} {rs ls ss cs : List ℕ} {m : ℕ} (J :
   back-is = ap (λ (x : Node). x .back) (proofOf-node rs ls ss cs m v real)
 
   -- a back leaf keeps its rule when its companion fits and has its sequent
-  pub leaf-keeps : getD rs v 0 ≡ Rule.BACK → keeps t (plain p) v ≡ (companion-fits p v && same (codes (plain p) v) (codes (plain p) (node p v .back)))
-  leaf-keeps e = keeps-leaf t (plain p) v (rule-is ∙ e) ∙ back-kept-is t p v
+  pub leaf-keeps : getD rs v 0 ≡ Rule.BACK → keeps c (plain p) v ≡ (companion-fits p v && same (codes (plain p) v) (codes (plain p) (node p v .back)))
+  leaf-keeps e = keeps-leaf c (plain p) v (rule-is ∙ e) ∙ back-kept-is (c .entries) p v
 
-  pub leaf-without : getD rs v 0 ≡ Rule.BACK → companion-fits p v ≡ false → keeps t (plain p) v ≡ false
+  pub leaf-without : getD rs v 0 ≡ Rule.BACK → companion-fits p v ≡ false → keeps c (plain p) v ≡ false
   leaf-without e h = leaf-keeps e ∙ rw h refl
 
   pub leaf-with : getD rs v 0 ≡ Rule.BACK → companion-fits p v ≡ true → getD ls (4 * v + 3) 0 < m
-      → keeps t (plain p) v ≡ same (codesAt ss cs v) (codesAt ss cs (getD ls (4 * v + 3) 0))
+      → keeps c (plain p) v ≡ same (codesAt ss cs v) (codesAt ss cs (getD ls (4 * v + 3) 0))
   leaf-with e h l =
       leaf-keeps e
       ∙ rw (h, codes-is J v real) (ap (λ (w : ℕ). same (codesAt ss cs v) (codes (plain p) w)) back-is ∙ ap (same (codesAt ss cs v)) (codes-is J (getD ls (4 * v + 3) 0) l))
+
+  -- any other node keeps it when it keeps what it owes its children
+  pub other-keeps : (getD rs v 0 ≡ Rule.BACK → ⊥) → step-kept (c .entries) (plain p) v ≡ keeps c (plain p) v
+  other-keeps n = sym (keeps-other c (plain p) v (λ e. n (sym rule-is ∙ e)))
 
   -- the number that a node earns
   pub number-leaf : getD rs v 0 ≡ Rule.BACK → rule-number (plain p) v ≡ 38
@@ -96,76 +100,76 @@ pub record Laid (ks xs ys : List ℕ) (n : ℕ) (rs ls ss cs : List ℕ) (m : �
   pub columns : Columns m rs ls ss cs
   pub rising : (v : ℕ) → v < m → (getD ss v 0 ≤ getD ss (v + 1) 0) × (getD ss (v + 1) 0 ≤ 24 * m)
   pub well : WellFormed (tableOf ks xs ys n)
-  pub given : Given (tableOf ks xs ys n) (proofOf rs ls ss cs m)
+  pub members : (v : ℕ) → v < m → Entries n (codesAt ss cs v)
 
 pub laid-judged : {ks xs ys : List ℕ} {n : ℕ} {rs ls ss cs : List ℕ} {m : ℕ} → Laid ks xs ys n rs ls ss cs m → Tree (proofOf rs ls ss cs m) → Judged ks xs ys n rs ls ss cs m
-laid-judged L T = record { entries = L .entries; columns = L .columns; rising = L .rising; well = L .well; given = L .given; tree = T }
+laid-judged L T = record { entries = L .entries; columns = L .columns; rising = L .rising; well = L .well; members = L .members; tree = T }
 
-module _ {ks xs ys : List ℕ} {n : ℕ} {rs ls ss cs : List ℕ} {m : ℕ} {entries exits : List ℕ} (R : TreeReady ks xs ys n rs ls ss cs m entries exits) (t : Table) (v : ℕ) (real : v < m)
+module _ {ks xs ys : List ℕ} {n : ℕ} {rs ls ss cs : List ℕ} {m : ℕ} {entries exits : List ℕ} (R : TreeReady ks xs ys n rs ls ss cs m entries exits) (c : Claim) (v : ℕ) (real : v < m)
     (leaf : getD rs v 0 ≡ Rule.BACK) {answer : Bool} (companion : Companion rs ls entries exits v answer) where
   fits-is : answer ≡ companion-fits (proofOf rs ls ss cs m) v
   fits-is = companion .fits ss cs m real (R .told)
 
-  pub leaf-refused : answer ≡ false → keeps t (plain (proofOf rs ls ss cs m)) v ≡ false
-  leaf-refused h = leaf-without (R .judged) t v real leaf (sym fits-is ∙ h)
+  pub leaf-refused : answer ≡ false → keeps c (plain (proofOf rs ls ss cs m)) v ≡ false
+  leaf-refused h = leaf-without (R .judged) c v real leaf (sym fits-is ∙ h)
 
   -- the companion lies above the leaf, so it is a node
   pub companion-inside : answer ≡ true → getD ls (4 * v + 3) 0 < m
   companion-inside h = omega (arith, companion .above h)
 
-  pub leaf-compared : answer ≡ true → keeps t (plain (proofOf rs ls ss cs m)) v ≡ same (codesAt ss cs v) (codesAt ss cs (getD ls (4 * v + 3) 0))
-  leaf-compared h = leaf-with (R .judged) t v real leaf (sym fits-is ∙ h) (companion-inside h)
+  pub leaf-compared : answer ≡ true → keeps c (plain (proofOf rs ls ss cs m)) v ≡ same (codesAt ss cs v) (codesAt ss cs (getD ls (4 * v + 3) 0))
+  leaf-compared h = leaf-with (R .judged) c v real leaf (sym fits-is ∙ h) (companion-inside h)
 
 -- the scan of 37 and 38 as a loop walks it
-module _ {ks xs ys : List ℕ} {n : ℕ} {rs ls ss cs : List ℕ} {m : ℕ} (J : Judged ks xs ys n rs ls ss cs m) (t : Table) (v : ℕ) where
-  pub rules-pass : m ≤ v → Passed (keeps t (plain (proofOf rs ls ss cs m))) v → rules-judged t (proofOf rs ls ss cs m) ≡ accepted
+module _ {ks xs ys : List ℕ} {n : ℕ} {rs ls ss cs : List ℕ} {m : ℕ} (J : Judged ks xs ys n rs ls ss cs m) (c : Claim) (v : ℕ) where
+  pub rules-pass : m ≤ v → Passed (keeps c (plain (proofOf rs ls ss cs m))) v → rules-judged c (proofOf rs ls ss cs m) ≡ accepted
   rules-pass h f = scan-passes _ (rule-number (plain (proofOf rs ls ss cs m))) _ accepted (λ w l. f w (omega (arith, proofOf-length rs ls ss cs m)))
 
   -- the number by the rule
   pub rules-fail : (number : ℕ) → (getD rs v 0 ≡ Rule.BACK → number ≡ 38) → ((getD rs v 0 ≡ Rule.BACK → ⊥) → number ≡ 37)
-      → v < m → Passed (keeps t (plain (proofOf rs ls ss cs m))) v → keeps t (plain (proofOf rs ls ss cs m)) v ≡ false
-      → rules-judged t (proofOf rs ls ss cs m) ≡ refused number v
+      → v < m → Passed (keeps c (plain (proofOf rs ls ss cs m))) v → keeps c (plain (proofOf rs ls ss cs m)) v ≡ false
+      → rules-judged c (proofOf rs ls ss cs m) ≡ refused number v
   rules-fail number leaf other real f bad =
       scan-fails _ (rule-number (plain (proofOf rs ls ss cs m))) _ accepted v (omega (arith, proofOf-length rs ls ss cs m)) f bad
       ∙ ap (λ (k : ℕ). refused k v) (number-is (ℕ-discrete (getD rs v 0) Rule.BACK))
     where
       number-is : Dec (getD rs v 0 ≡ Rule.BACK) → rule-number (plain (proofOf rs ls ss cs m)) v ≡ number
-      number-is (yes e) = number-leaf J t v real e ∙ sym (leaf e)
-      number-is (no e) = number-other J t v real e ∙ sym (other e)
+      number-is (yes e) = number-leaf J c v real e ∙ sym (leaf e)
+      number-is (no e) = number-other J c v real e ∙ sym (other e)
 
 -- and then 39
-module _ (t : Table) (p : Proof) where
-  pub nodes-refused : {k q : ℕ} → rules-judged t p ≡ refused k q → nodes-judged t p ≡ refused k q
+module _ (c : Claim) (p : Proof) where
+  pub nodes-refused : {k q : ℕ} → rules-judged c p ≡ refused k q → nodes-judged c p ≡ refused k q
   nodes-refused h = rw h refl
 
-  pub nodes-passed : rules-judged t p ≡ accepted → nodes-judged t p ≡ loops-judged p
+  pub nodes-passed : rules-judged c p ≡ accepted → nodes-judged c p ≡ loops-judged p
   nodes-passed h = rw h refl
 
 -- where 37 and 38 have passed, each back leaf is linked to an ancestor
-pub rules-linked : (t : Table) (p : Proof) → rules-judged t p ≡ accepted → Linked p
+pub rules-linked : (c : Claim) (p : Proof) → rules-judged c p ≡ accepted → Linked p
 unfolding back-kept
-rules-linked t p h v real e =
-    let kept = scan-says (keeps t (plain p)) (rule-number (plain p)) (length p) 0 accepted h .0 v (omega arith) (omega arith) in
-    former (ancestor (plain p) (node p v .back) v) _ (sym (keeps-leaf t (plain p) v e) ∙ kept)
+rules-linked c p h v real e =
+    let kept = scan-says (keeps c (plain p)) (rule-number (plain p)) (length p) 0 accepted h .0 v (omega arith) (omega arith) in
+    former (ancestor (plain p) (node p v .back) v) _ (sym (keeps-leaf c (plain p) v e) ∙ kept)
   where
     former : (a b : Bool) → (a && b) ≡ true → a ≡ true
     former true b q = refl
     former false b q = q
 
 -- 36 to 39 by what each stage found
-module _ (t : Table) (ms : List ℕ) (p : Proof) where
-  pub other-root : root ms (plain p) ≡ false → tree-rules-judged t ms p ≡ refused 36 0
+module _ (c : Claim) (d : Derivation) where
+  pub other-root : root c (plain (d .nodes)) ≡ false → tree-rules-judged c (d .nodes) ≡ refused 36 0
   other-root h = rw h refl
 
-  pub claim-root : root ms (plain p) ≡ true → tree-rules-judged t ms p ≡ nodes-judged t p
+  pub claim-root : root c (plain (d .nodes)) ≡ true → tree-rules-judged c (d .nodes) ≡ nodes-judged c (d .nodes)
   claim-root h = rw h refl
 
   -- 35 first
-  pub tree-bad : {k q : ℕ} → tree-judged p ≡ refused k q → judge t ms p ≡ refused k q
-  tree-bad r = judge-stages t ms p ∙ rw r refl
+  pub tree-bad : {k q : ℕ} → tree-judged (d .nodes) ≡ refused k q → judge c d ≡ refused k q
+  tree-bad r = judge-stages c d ∙ rw r refl
 
-  pub tree-good : tree-judged p ≡ accepted → judge t ms p ≡ tree-rules-judged t ms p
-  tree-good r = judge-stages t ms p ∙ rw r refl
+  pub tree-good : tree-judged (d .nodes) ≡ accepted → judge c d ≡ tree-rules-judged c (d .nodes)
+  tree-good r = judge-stages c d ∙ rw r refl
 
 -- what an accepted tree gives to the stages after it
 module _ {rs ls : List ℕ} {m : ℕ} {owners : List ℕ} (filled : OwnersFilled tree-judged rs ls m Accepted owners) where

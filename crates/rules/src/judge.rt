@@ -1,10 +1,11 @@
 // Refusals 35 to 39 over tables in plain numbers, in document 01's order: 35; 36; 37 or 38 by rising node; 39 by rising leaf.
 ghost use mathlib.Core.Path.{_≡_};
-ghost use Prim.Native.Nat.{_<_, _≤_};
-ghost use lib.ListN.{length, take};
+ghost use mathlib.Core.List.{List};
+ghost use Prim.Native.Nat.{ℕ, _<_, _≤_};
+ghost use lib.ListN.{length};
 ghost use Rattle.verdict.specs.Shown.{shown};
 ghost use Rattle.formula.specs.Rule.{BACK};
-ghost use Rattle.formula.specs.Plain.{tableOf};
+ghost use Rattle.formula.specs.Held.{heldClaim, heldProof};
 ghost use Rattle.formula.specs.PlainNodes.{proofOf};
 ghost use Rattle.calculus.specs.View.{plain};
 ghost use Rattle.calculus.specs.Judge.{keeps, judge as judged};
@@ -41,8 +42,8 @@ fn node_keeps(
 ) -> bool
     requires { ⌜ TreeReady (now kinds) (now a) (now b) count (now rules) (now links) (now starts) (now codes) nodes (now entries) (now exits) ×
         (v < nodes) ⌝ }
-    ensures { λ r. ⌜ r ≡ keeps (tableOf (now (kinds .entry)) (now (a .entry)) (now (b .entry)) count)
-        (plain (proofOf (now (rules .entry)) (now (links .entry)) (now (starts .entry)) (now (codes .entry)) nodes)) v ⌝ }
+    ensures { λ r. ⌜ ((ms : List ℕ) (k : ℕ) → r ≡ keeps (heldClaim (now (kinds .entry)) (now (a .entry)) (now (b .entry)) count ms k)
+        (plain (proofOf (now (rules .entry)) (now (links .entry)) (now (starts .entry)) (now (codes .entry)) nodes)) v) ⌝ }
 {
     if rules[v] != Rule::BACK {
         return kept(kinds, a, b, count, rules, links, starts, codes, nodes, v);
@@ -78,8 +79,8 @@ fn judge_nodes(
     exits: &[u16],
 ) -> Verdict
     requires { ⌜ TreeReady (now kinds) (now a) (now b) count (now rules) (now links) (now starts) (now codes) nodes (now entries) (now exits) ⌝ }
-    ensures { λ r. ⌜ shown r ≡ rules-judged (tableOf (now (kinds .entry)) (now (a .entry)) (now (b .entry)) count)
-        (proofOf (now (rules .entry)) (now (links .entry)) (now (starts .entry)) (now (codes .entry)) nodes) ⌝ }
+    ensures { λ r. ⌜ ((ms : List ℕ) (k : ℕ) → shown r ≡ rules-judged (heldClaim (now (kinds .entry)) (now (a .entry)) (now (b .entry)) count ms k)
+        (proofOf (now (rules .entry)) (now (links .entry)) (now (starts .entry)) (now (codes .entry)) nodes)) ⌝ }
 {
     let mut v: usize = 0;
     while v < nodes {
@@ -125,8 +126,8 @@ fn judge_rules(
 ) -> Verdict
     requires { ⌜ Judged (now kinds) (now a) (now b) count (now rules) (now links) (now starts) (now codes) nodes × (1 ≤ nodes) × (nodes ≤ length (now owners)) ⌝ }
     requires { ⌜ Parented (now owners) nodes × OwnedBy (now rules) (now links) nodes nodes (now owners) × Counted (now owners) nodes nodes (now entries) (now exits) ⌝ }
-    ensures { λ r. ⌜ shown r ≡ nodes-judged (tableOf (now (kinds .entry)) (now (a .entry)) (now (b .entry)) count)
-        (proofOf (now (rules .entry)) (now (links .entry)) (now (starts .entry)) (now (codes .entry)) nodes) ⌝ }
+    ensures { λ r. ⌜ ((ms : List ℕ) (k : ℕ) → shown r ≡ nodes-judged (heldClaim (now (kinds .entry)) (now (a .entry)) (now (b .entry)) count ms k)
+        (proofOf (now (rules .entry)) (now (links .entry)) (now (starts .entry)) (now (codes .entry)) nodes)) ⌝ }
 {
     fill_spans(owners, nodes, entries, exits);
     match judge_nodes(
@@ -174,8 +175,8 @@ fn judge_tree(
     requires { ⌜ Judged (now kinds) (now a) (now b) count (now rules) (now links) (now starts) (now codes) nodes ⌝ }
     requires { ⌜ Members (now members) listed × (1 ≤ nodes) ⌝ }
     requires { ⌜ Parented (now owners) nodes × OwnedBy (now rules) (now links) nodes nodes (now owners) ⌝ }
-    ensures { λ r. ⌜ shown r ≡ tree-rules-judged (tableOf (now (kinds .entry)) (now (a .entry)) (now (b .entry)) count)
-        (take listed (now (members .entry))) (proofOf (now (rules .entry)) (now (links .entry)) (now (starts .entry)) (now (codes .entry)) nodes) ⌝ }
+    ensures { λ r. ⌜ shown r ≡ tree-rules-judged (heldClaim (now (kinds .entry)) (now (a .entry)) (now (b .entry)) count (now (members .entry)) listed)
+        (proofOf (now (rules .entry)) (now (links .entry)) (now (starts .entry)) (now (codes .entry)) nodes) ⌝ }
 {
     if !root_is_claim(members, listed, starts, codes) {
         return Verdict::Refused {
@@ -217,8 +218,8 @@ pub fn judge(
 ) -> Verdict
     requires { ⌜ Laid (now kinds) (now a) (now b) count (now rules) (now links) (now starts) (now codes) nodes ⌝ }
     requires { ⌜ Members (now members) listed ⌝ }
-    ensures { λ r. ⌜ shown r ≡ judged (tableOf (now (kinds .entry)) (now (a .entry)) (now (b .entry)) count) (take listed (now (members .entry)))
-        (proofOf (now (rules .entry)) (now (links .entry)) (now (starts .entry)) (now (codes .entry)) nodes) ⌝ }
+    ensures { λ r. ⌜ shown r ≡ judged (heldClaim (now (kinds .entry)) (now (a .entry)) (now (b .entry)) count (now (members .entry)) listed)
+        (heldProof (now (rules .entry)) (now (links .entry)) (now (starts .entry)) (now (codes .entry)) nodes) ⌝ }
 {
     let mut owners = [0u16; 1024];
     match fill_owners(rules, links, nodes, &mut owners) {
