@@ -1,40 +1,16 @@
 -- bits of the words that the code makes
 use mathlib.Core.Path.{_≡_, refl, ap, _∙_, sym}
-use mathlib.Core.Bool.{Bool, true, false, not, _||_, _&&_}
-use Prim.Native.Nat.{ℕ, zero, suc, _+_, _*_, _-_, _/_, _%_, _^_, _<_, _≤_}
+use mathlib.Core.Bool.{not}
+use Prim.Native.Nat.{ℕ, zero, suc, _+_, _/_, _%_, _^_, _<_, _≤_}
 use native.Mathlib.Omega.{arith}
-use lib.Dec.{eqb, lit<}
-use lib.Pow.{shl-exact, shr-shr}
-use lib.Bits.{bitAnd, bitOr, and-mask, or-zero-r}
-use Rattle.bits.specs.Bits.{one, digit, bit, or-bit, one-bit}
+use lib.Dec.{eqb}
+use lib.Pow.{shr-shr}
+use lib.Bits.{bitAnd, and-mask}
+use Rattle.bits.specs.Bits.{digit, bit}
 
 -- the digit that the code reads: (w >> s) & 1
 pub read-digit : (w s : ℕ) → bitAnd (w / 2 ^ s) 1 ≡ digit w s
 read-digit w s = and-mask (w / 2 ^ s) 1
-
-and-true : (b : Bool) → (b && true) ≡ b
-and-true true = refl
-and-true false = refl
-
-and-false : (b : Bool) → (b && false) ≡ false
-and-false true = refl
-and-false false = refl
-
-or-false : (b : Bool) → (b || false) ≡ b
-or-false true = refl
-or-false false = refl
-
--- what `w | (bit << s)` makes of a word of 64 bits
-pub put-bit : (w s k : ℕ) (holds : Bool) → s < 64 → bit (bitOr w (one holds * 2 ^ s % 2 ^ 64)) k ≡ (bit w k || (eqb k s && holds))
-put-bit w s k true h =
-    ap (λ (n : ℕ). bit (bitOr w n) k) (shl-exact 1 s 64 (lit< tt) (omega arith))
-    ∙ or-bit w (1 * 2 ^ s) k
-    ∙ ap (λ (b : Bool). bit w k || b) (one-bit s k ∙ sym (and-true (eqb k s)))
-put-bit w s k false h =
-    let none : 0 * 2 ^ s ≡ 0 = omega arith in
-    ap (λ (n : ℕ). bit (bitOr w (n % 2 ^ 64)) k) none
-    ∙ ap (λ (n : ℕ). bit n k) (or-zero-r w)
-    ∙ sym (ap (λ (b : Bool). bit w k || b) (and-false (eqb k s)) ∙ or-false (bit w k))
 
 -- a number is known by its bits
 digit-next : (v k : ℕ) → digit v (suc k) ≡ digit (v / 2) k

@@ -1,8 +1,8 @@
--- the word of a set of states, by its bits: one state more at a time, and by the words of a row and of a set
-use mathlib.Core.Path.{_≡_, refl, ap, _∙_, sym, subst}
+-- the word of a set of states, by its bits, and what a test of the words of a row and of a set tells
+use mathlib.Core.Path.{_≡_, refl, ap, _∙_, sym}
 use mathlib.Core.List.{List}
 use mathlib.Core.Bool.{Bool, true, false, not, _||_, _&&_}
-use Prim.Native.Nat.{ℕ, _+_, _<_, _≤_}
+use Prim.Native.Nat.{ℕ, _<_, _≤_}
 use native.Mathlib.Decide.{decLt, ℕ-discrete}
 use native.Mathlib.Omega.{arith}
 use lib.Dec.{eqb, ltb}
@@ -48,34 +48,6 @@ by-bits n A w h past = is-word n A w (λ k. go k (decLt k n))
 
 pub word-same : (n : ℕ) (A B : StateSet) → SameStates n A B → word n A ≡ word n B
 word-same n A B h = by-bits n B (word n A) (λ s l. word-inside n A s l ∙ h s l) (word-past n A)
-
--- a word whose bits grow by one state at a time
-pub word-none : (A : StateSet) → IsWord 0 A 0
-word-none A k = no-bit k ∙ sym (rw (le-ltb k 0 (omega arith)) refl)
-
-or-false : (b : Bool) → (b || false) ≡ b
-or-false true = refl
-or-false false = refl
-
-pub word-next : (A : StateSet) (s r q : ℕ) (holds : Bool) → IsWord s A r → ((k : ℕ) → bit q k ≡ (bit r k || (eqb k s && holds))) → holds ≡ A s
-    → IsWord (s + 1) A q
-word-next A s r q holds m f h k = go (ℕ-discrete k s)
-  where
-    at-s : bit r s ≡ false
-    at-s = m s ∙ rw (le-ltb s s (omega arith)) refl
-
-    -- away from s one more state changes no test
-    ltb-more : (k ≡ s → ⊥) → ltb k (s + 1) ≡ ltb k s
-    ltb-more ne = at (decLt k s)
-      where
-        at : Dec (k < s) → ltb k (s + 1) ≡ ltb k s
-        at (yes l) = lt-ltb k (s + 1) (omega arith) ∙ sym (lt-ltb k s l)
-        at (no l) = le-ltb k (s + 1) (omega arith) ∙ sym (le-ltb k s (omega arith))
-
-    go : Dec (k ≡ s) → bit q k ≡ (ltb k (s + 1) && A k)
-    go (yes e) = subst (λ (n : ℕ). bit q n ≡ (ltb n (s + 1) && A n)) (sym e)
-        (f s ∙ rw (at-s, eq-eqb s s refl, lt-ltb s (s + 1) (omega arith)) h)
-    go (no ne) = f k ∙ rw (ne-eqb k s ne, ltb-more ne) (or-false (bit r k) ∙ m k)
 
 -- the tests that the code makes of a state's row x of successors, which are states, and a word w
 module _ (n x w : ℕ) (inside : (u : ℕ) → n ≤ u → bit x u ≡ false) where

@@ -25,7 +25,7 @@ digit-next a w k h =
     ∙ ap (λ (n : ℕ). n % 2) (sym (shr-shr (a + 2 * w) 1 k))
     ∙ ap (λ (n : ℕ). n / 2 ^ k % 2) half
 
-one-small : (b : Bool) → one b < 2
+pub one-small : (b : Bool) → one b < 2
 one-small true = omega arith
 one-small false = omega arith
 

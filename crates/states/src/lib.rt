@@ -1,7 +1,7 @@
 // Sets of states as 64-bit words, bit s for state s: all states, those with a letter, the successors of each, and the modal steps.
 ghost use mathlib.Core.Path.{_≡_};
 ghost use mathlib.Core.Bool.{_||_, _&&_, not};
-ghost use Prim.Native.Nat.{ℕ, _<_, _≤_};
+ghost use Prim.Native.Nat.{_+_, _*_, _^_, _<_, _≤_};
 ghost use lib.Dec.{eqb};
 ghost use lib.ListN.{getD};
 ghost use Rattle.meaning.specs.Truth.{some, every};
@@ -11,21 +11,22 @@ ghost use Rattle.bits.specs.Bits.{one, digit, bit};
 ghost use Rattle.model.specs.DescribedLaws.{cell};
 ghost use Rattle.states.specs.Words.{word};
 ghost use Rattle.states.specs.StateWords.{Inside};
+ghost use Rattle.states.specs.TopDown.{byteFrom};
 ghost use Rattle.states.specs.PlainModel.{RowWords};
 
 // The bit that a truth value contributes to a word.
 fn bit_of(holds: bool) -> u64
-    ensures { λ r. ⌜ r ≡ one holds ⌝ }
+    ensures { λ r. ⌜ (r ≡ one holds) × (r ≤ 1) ⌝ }
 {
     if holds { 1 } else { 0 }
 }
 
-// The word with bit s set where the state is in.
-fn put_bit(w: u64, s: usize, holds: bool) -> u64
-    requires { ⌜ s < 64 ⌝ }
-    ensures { λ r. ⌜ ((k : ℕ) → bit r k ≡ (bit w k || (eqb k s && holds))) ⌝ }
+// One state more, below those of w: it has bit 0, and theirs move up.
+fn push(w: u64, holds: bool) -> u64
+    requires { ⌜ w < 2 ^ 63 ⌝ }
+    ensures { λ r. ⌜ r ≡ one holds + 2 * w ⌝ }
 {
-    w | (bit_of(holds) << s)
+    w * 2 + bit_of(holds)
 }
 
 // All states of a model that has n.
@@ -33,13 +34,10 @@ pub fn all_states(n: usize) -> u64
     requires { ⌜ n ≤ 64 ⌝ }
     ensures { λ r. ⌜ r ≡ word n (start nu) ⌝ }
 {
-    let mut r: u64 = 0;
-    let mut s: usize = 0;
-    while s < n {
-        r = put_bit(r, s, true);
-        s += 1;
+    if n < 64 {
+        return (1u64 << n) - 1;
     }
-    r
+    18446744073709551615
 }
 
 // The states whose mask has the digit at p: 1 for the letter, 0 for its negation.
@@ -48,12 +46,27 @@ pub fn letter_word(masks: &[u32; 64], n: usize, p: u16, wanted: u32) -> u64
     ensures { λ r. ⌜ r ≡ word n (λ s. eqb (digit (getD (now (masks .entry)) s 0) p) wanted) ⌝ }
 {
     let mut r: u64 = 0;
-    let mut s: usize = 0;
-    while s < n {
-        r = put_bit(r, s, (masks[s] >> p) & 1 == wanted);
-        s += 1;
+    let mut s = n;
+    while 0 < s {
+        s -= 1;
+        r = push(r, (masks[s] >> p) & 1 == wanted);
     }
     r
+}
+
+// The marks of the eight states from u on, as a byte: a sum of weights, since eight marks are then compared at once.
+fn eight(marks: &[[u8; 64]; 64], s: usize, u: usize) -> u8
+    requires { ⌜ (s < 64) × (u ≤ 56) ⌝ }
+    ensures { λ r. ⌜ r ≡ byteFrom (λ k. eqb (cell (now (marks .entry)) s k) 1) u ⌝ }
+{
+    bits::if_set(marks[s][u] == 1, 1)
+        + bits::if_set(marks[s][u + 1] == 1, 2)
+        + bits::if_set(marks[s][u + 2] == 1, 4)
+        + bits::if_set(marks[s][u + 3] == 1, 8)
+        + bits::if_set(marks[s][u + 4] == 1, 16)
+        + bits::if_set(marks[s][u + 5] == 1, 32)
+        + bits::if_set(marks[s][u + 6] == 1, 64)
+        + bits::if_set(marks[s][u + 7] == 1, 128)
 }
 
 // The successors of state s.
@@ -62,12 +75,12 @@ fn row_word(marks: &[[u8; 64]; 64], n: usize, s: usize) -> u64
     ensures { λ r. ⌜ r ≡ word n (λ u. eqb (cell (now (marks .entry)) s u) 1) ⌝ }
 {
     let mut r: u64 = 0;
-    let mut u: usize = 0;
-    while u < n {
-        r = put_bit(r, u, marks[s][u] == 1);
-        u += 1;
+    let mut u: usize = 64;
+    while 0 < u {
+        u -= 8;
+        r = r * 256 + eight(marks, s, u) as u64;
     }
-    r
+    r & all_states(n)
 }
 
 // The successors of each state, made once: a modal step is then 64 operations.
@@ -90,10 +103,10 @@ pub fn diamond_word(rows: &[u64; 64], n: usize, w: u64) -> u64
     ensures { λ r. ⌜ r ≡ word n (λ s. some n (λ u. bit (getD (now (rows .entry)) s 0) u && bit w u)) ⌝ }
 {
     let mut r: u64 = 0;
-    let mut s: usize = 0;
-    while s < n {
-        r = put_bit(r, s, rows[s] & w != 0);
-        s += 1;
+    let mut s = n;
+    while 0 < s {
+        s -= 1;
+        r = push(r, rows[s] & w != 0);
     }
     r
 }
@@ -104,10 +117,11 @@ pub fn box_word(rows: &[u64; 64], n: usize, w: u64) -> u64
     ensures { λ r. ⌜ r ≡ word n (λ s. every n (λ u. not (bit (getD (now (rows .entry)) s 0) u) || bit w u)) ⌝ }
 {
     let mut r: u64 = 0;
-    let mut s: usize = 0;
-    while s < n {
-        r = put_bit(r, s, rows[s] & w == rows[s]);
-        s += 1;
+    let mut s = n;
+    while 0 < s {
+        s -= 1;
+        let row = rows[s];
+        r = push(r, row & w == row);
     }
     r
 }

@@ -1,42 +1,30 @@
--- each state below s is in, and no other
-use mathlib.Core.Path.{_≡_, refl}
-use Prim.Native.Nat.{_-_, _≤_}
+-- below 2 ^ n all bits; 64 states fill the word
+use mathlib.Core.Path.{_≡_}
+use Prim.Native.Nat.{ℕ, _*_, _%_, _^_, _<_}
 use native.Mathlib.Omega.{arith}
 use borrow.Author.Needs.{needs}
-use Rattle.formula.specs.Shape.{nu}
-use Rattle.meaning.specs.States.{start}
-use Rattle.states.specs.StateWords.{IsWord, is-word, word-none, word-next}
+use lib.Dec.{lit<}
+use lib.Pow.{pow-pos, shl-exact}
+use Rattle.states.specs.TopDown.{full-word}
 use Rattle.states.proofs.all_states.Statement.{statement}
 use Rattle.states.proofs.all_states.Tie as tie
 
-abbrev Inv-loop : tie.InvT-loop
-Inv-loop n r₀ s₀ r s = (s ≤ n) × IsWord s (start nu) r
+shl-result : tie.Need-shl-result
+shl-result c = search needs
 
-abbrev μ-loop : tie.MeasureT-loop
-μ-loop n r₀ s₀ r s = n - s
+bits : (n : ℕ) → n < 64 → 1 * 2 ^ n % 2 ^ 64 ≡ 1 * 2 ^ n
+bits n h = shl-exact 1 n 64 (lit< tt) (omega arith)
 
-loop-holds : tie.Need-loop-holds Inv-loop μ-loop
-loop-holds c = (omega arith, word-none _)
+sub-result : tie.Need-sub-result
+sub-result c = omega (arith, bits (c .before .args .n) (omega arith), pow-pos (c .before .args .n))
 
-put-bit-requires : tie.Need-put-bit-requires Inv-loop μ-loop
-put-bit-requires c κs = search needs
+returns : tie.Need-returns
+returns c = omega (arith, bits (c .before .args .n) (omega arith), full-word (c .before .args .n))
 
-add-s : tie.Need-add-s Inv-loop μ-loop
-add-s c = search needs
-
-loop-less : tie.Need-loop-less Inv-loop μ-loop
-loop-less c = search needs
-
-loop-again : tie.Need-loop-again Inv-loop μ-loop
-unfolding start
-loop-again c = (omega arith, word-next _ _ _ _ _ (c .before .before .loop .inv .1) (c .put-bit .ensures) refl)
-
-returns : tie.Need-returns Inv-loop μ-loop
-returns c =
-    let e : c .before .loop .s ≡ c .before .before .args .n = omega arith in
-    is-word _ _ _ (rw e at (c .before .loop .inv .1))
+returns-2 : tie.Need-returns-2
+returns-2 c =
+    let all : c .before .args .n ≡ 64 = omega arith in
+    rw all (omega (arith, full-word 64))
 
 pub all-states-spec : {M : Type 1} → statement M
-all-states-spec =
-    tie.close
-    (tie.spec Inv-loop μ-loop loop-holds put-bit-requires add-s loop-less loop-again returns)
+all-states-spec = tie.close (tie.spec shl-result sub-result returns returns-2)

@@ -1,48 +1,48 @@
--- each state below s that has a successor in w is in, and no other
-use mathlib.Core.Path.{_≡_}
-use Prim.Native.Nat.{_-_, _≤_}
+-- the states from s on that have a successor in w
+use mathlib.Core.Bool.{_&&_}
+use Prim.Native.Nat.{_-_}
 use native.Mathlib.Omega.{arith}
 use borrow.Author.Needs.{needs}
 use lib.ListN.{getD}
-use Rattle.states.specs.StateWords.{IsWord, is-word, word-none, word-next, diamond-test}
-use mathlib.Core.Bool.{_&&_}
 use Rattle.meaning.specs.Truth.{some}
 use Rattle.bits.specs.Bits.{bit}
+use Rattle.states.specs.StateWords.{diamond-test}
+use Rattle.states.specs.TopDown.{Upper, upper-none, upper-small, upper-one, upper-whole}
 use Rattle.states.proofs.diamond_word.Statement.{statement}
 use Rattle.states.proofs.diamond_word.Tie as tie
 
 abbrev Inv-loop : tie.InvT-loop
-Inv-loop rows n w r₀ s₀ r s = (s ≤ n) × IsWord s (λ k. some n (λ u. bit (getD rows k 0) u && bit w u)) r
+Inv-loop rows n w r₀ s₀ r s = Upper n (λ k. some n (λ u. bit (getD rows k 0) u && bit w u)) s r
 
 abbrev μ-loop : tie.MeasureT-loop
-μ-loop rows n w r₀ s₀ r s = n - s
+μ-loop rows n w r₀ s₀ r s = s
 
 loop-holds : tie.Need-loop-holds Inv-loop μ-loop
-loop-holds c = (omega arith, word-none _)
+loop-holds c = upper-none
 
-mul-put-bit : tie.Need-mul-put-bit Inv-loop μ-loop
-mul-put-bit c = search needs
+sub-s : tie.Need-sub-s Inv-loop μ-loop
+sub-s c = search needs
 
-element-copy-out-put-bit : tie.Need-element-copy-out-put-bit Inv-loop μ-loop
-element-copy-out-put-bit c = search needs
+mul-push : tie.Need-mul-push Inv-loop μ-loop
+mul-push c = search needs
 
-put-bit-requires : tie.Need-put-bit-requires Inv-loop μ-loop
-put-bit-requires c κs = search needs
+element-copy-out-push : tie.Need-element-copy-out-push Inv-loop μ-loop
+element-copy-out-push c = search needs
 
-add-s : tie.Need-add-s Inv-loop μ-loop
-add-s c = search needs
+push-requires : tie.Need-push-requires Inv-loop μ-loop
+push-requires c κs = upper-small (c .before .before .loop .inv) 1 64 (omega arith) (omega arith)
 
 loop-less : tie.Need-loop-less Inv-loop μ-loop
 loop-less c = search needs
 
 loop-again : tie.Need-loop-again Inv-loop μ-loop
 loop-again c =
-    (omega arith, word-next _ _ _ _ _ (c .before .before .before .loop .inv .1) (c .put-bit .ensures) (diamond-test (c .before .before .before .before .args .n) _ (c .before .before .before .before .args .w) (λ u h. c .before .before .before .before .pre .1 (c .before .before .before .loop .s) u (omega arith) h)))
+    upper-one (c .before .before .before .loop .inv) _ _ (omega arith)
+    (diamond-test _ _ (c .before .before .before .before .args .w) (λ u h. c .before .before .before .before .pre .1 (c .before .before .before .loop .s - 1) u (omega arith) h))
+    (c .push .ensures)
 
 returns : tie.Need-returns Inv-loop μ-loop
-returns c =
-    let e : c .before .loop .s ≡ c .before .before .args .n = omega arith in
-    is-word _ _ _ (rw e at (c .before .loop .inv .1))
+returns c = upper-whole (c .before .loop .inv) (omega arith)
 
 pub diamond-word-spec : {M : Type 1} → statement M
 diamond-word-spec =
@@ -51,10 +51,10 @@ diamond-word-spec =
     Inv-loop
     μ-loop
     loop-holds
-    mul-put-bit
-    element-copy-out-put-bit
-    put-bit-requires
-    add-s
+    sub-s
+    mul-push
+    element-copy-out-push
+    push-requires
     loop-less
     loop-again
     returns)

@@ -1,48 +1,51 @@
--- each state below u that is marked is in, and no other
-use mathlib.Core.Path.{_≡_, refl}
-use Prim.Native.Nat.{_-_, _≤_}
+-- the states from u on that are marked
+use mathlib.Core.Path.{_≡_}
+use Prim.Native.Nat.{_%_}
 use native.Mathlib.Omega.{arith}
 use borrow.Author.Needs.{needs}
 use lib.Dec.{eqb}
-use Rattle.states.specs.StateWords.{IsWord, is-word, word-none, word-next}
 use Rattle.model.specs.DescribedLaws.{cell}
+use Rattle.states.specs.TopDown.{Upper, upper-none, upper-small, byte-small, upper-eight, upper-whole, word-cut}
 use Rattle.states.proofs.row_word.Statement.{statement}
 use Rattle.states.proofs.row_word.Tie as tie
 
 abbrev Inv-loop : tie.InvT-loop
-Inv-loop marks n s r₀ u₀ r u = (u ≤ n) × IsWord u (λ k. eqb (cell marks s k) 1) r
+Inv-loop marks n s r₀ u₀ r u = (u % 8 ≡ 0) × Upper 64 (λ k. eqb (cell marks s k) 1) u r
 
 abbrev μ-loop : tie.MeasureT-loop
-μ-loop marks n s r₀ u₀ r u = n - u
+μ-loop marks n s r₀ u₀ r u = u
 
 loop-holds : tie.Need-loop-holds Inv-loop μ-loop
-loop-holds c = (omega arith, word-none _)
+loop-holds c = (omega arith, upper-none)
 
-mul-put-bit : tie.Need-mul-put-bit Inv-loop μ-loop
-mul-put-bit c = search needs
+sub-u : tie.Need-sub-u Inv-loop μ-loop
+sub-u c = omega arith
 
-index-1-put-bit : tie.Need-index-1-put-bit Inv-loop μ-loop
-index-1-put-bit c = search needs
+mul-r : tie.Need-mul-r Inv-loop μ-loop
+mul-r c = omega (arith, upper-small (c .before .loop .inv .1) 8 64 (omega arith) (omega arith))
 
-index-2-put-bit : tie.Need-index-2-put-bit Inv-loop μ-loop
-index-2-put-bit c = search needs
+eight-requires : tie.Need-eight-requires Inv-loop μ-loop
+eight-requires c κs = search needs
 
-put-bit-requires : tie.Need-put-bit-requires Inv-loop μ-loop
-put-bit-requires c κs = search needs
+cast-r : tie.Need-cast-r Inv-loop μ-loop
+cast-r c = omega (arith, byte-small (c .before .before .loop .inv .1) (c .eight .ensures))
 
-add-u : tie.Need-add-u Inv-loop μ-loop
-add-u c = search needs
+add-r : tie.Need-add-r Inv-loop μ-loop
+add-r c =
+    let U = c .before .before .loop .inv .1 in
+    omega (arith, upper-small U 8 64 (omega arith) (omega arith), byte-small U (c .eight .ensures))
 
 loop-less : tie.Need-loop-less Inv-loop μ-loop
 loop-less c = search needs
 
 loop-again : tie.Need-loop-again Inv-loop μ-loop
-loop-again c = (omega arith, word-next _ _ _ _ _ (c .before .before .before .loop .inv .1) (c .put-bit .ensures) refl)
+loop-again c = (omega arith, upper-eight (c .before .before .loop .inv .1) (c .eight .ensures) (omega arith))
+
+all-states-requires : tie.Need-all-states-requires Inv-loop μ-loop
+all-states-requires c κs = search needs
 
 returns : tie.Need-returns Inv-loop μ-loop
-returns c =
-    let e : c .before .loop .u ≡ c .before .before .args .n = omega arith in
-    is-word _ _ _ (rw e at (c .before .loop .inv .1))
+returns c = rw (c .all-states .ensures, upper-whole (c .before .before .loop .inv .1) (omega arith)) (word-cut 64 _ _ (omega arith))
 
 pub row-word-spec : {M : Type 1} → statement M
 row-word-spec =
@@ -51,11 +54,12 @@ row-word-spec =
     Inv-loop
     μ-loop
     loop-holds
-    mul-put-bit
-    index-1-put-bit
-    index-2-put-bit
-    put-bit-requires
-    add-u
+    sub-u
+    mul-r
+    eight-requires
+    cast-r
+    add-r
     loop-less
     loop-again
+    all-states-requires
     returns)
