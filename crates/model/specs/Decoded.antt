@@ -3,16 +3,16 @@ use mathlib.Core.Path.{_≡_, refl, sym, ap, _∙_}
 use mathlib.Core.Logic.{_≢_}
 use mathlib.Core.List.{List, [], _∷_, _++_}
 use mathlib.Core.Bool.{Bool, true, false, _||_}
-use Prim.Native.Nat.{ℕ, _+_, _<_}
+use Prim.Native.Nat.{ℕ, _+_, _<_, _≤_}
 use native.Mathlib.Decide.{decLt}
 use native.Mathlib.Omega.{arith}
 use lib.Dec.{eqb}
-use lib.ListN.{length, set, replicate, length-append, List·getD-append, List·getD-eq-default}
+use lib.ListN.{length, getD, set, replicate, length-append, List·getD-append, List·getD-eq-default}
 use lib.Seq.{getD-at}
 use borrow.Author.Tests.{eq-eqb, ne-eqb}
 use Rattle.verdict.specs.Verdict.{accepted}
 use Rattle.verdict.specs.VerdictLaws.{accepted-not-refused}
-use Rattle.verdict.specs.Lists.{valuesFrom}
+use Rattle.verdict.specs.Lists.{valuesFrom, valuesFrom-at}
 use Rattle.verdict.specs.Tests.{any, member}
 use Rattle.encoding.specs.File.{Reading, refused, good}
 use Rattle.encoding.specs.Outcome.{verdictOf}
@@ -105,6 +105,12 @@ module _ {A : Type 0} (f : State → A) where
       other j n (no l) =
           List·getD-eq-default (m ++ (x ∷ [])) blank (omega (arith, length-append m (x ∷ [])))
           ∙ sym (List·getD-eq-default m blank (omega arith))
+
+  pub stored-past : (m : List State) (d : A) (i : ℕ) → length m ≤ i → i < 64 → getD (stored m) i d ≡ f blank
+  unfolding stored
+  stored-past m d i l h =
+      valuesFrom-at (λ s. f (state m s)) d 0 64 i h
+      ∙ ap f (List·getD-eq-default m blank (omega arith))
 
 -- the masks and the successor table are stored so
 pub masks-stored : (m : List State) → maskTable m ≡ stored (λ s. s .mask) m

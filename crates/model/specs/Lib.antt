@@ -14,6 +14,7 @@ pub mod DescribedLaws
 -- the program's steps over a file
 pub mod HeaderSteps
 pub mod StateSteps
+pub mod SuccessorsRise
 -- what a good file decodes to
 pub mod Values
 pub mod Decoded

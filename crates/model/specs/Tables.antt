@@ -7,7 +7,7 @@ use lib.ListN.{length, getD, set, replicate}
 use Rattle.model.specs.ModelFile.{State}
 use Rattle.model.specs.Described.{successorTable}
 use Rattle.model.specs.HeaderSteps.{InModel, HeaderRead}
-use Rattle.model.specs.Decoded.{GoodModel, statesOf, maskTable, marksOf, marks-none, stored, stored-none, stored-more, masks-stored, marks-stored}
+use Rattle.model.specs.Decoded.{GoodModel, statesOf, maskTable, marksOf, marks-none, stored, stored-none, stored-more, stored-past, masks-stored, marks-stored}
 use Rattle.model.specs.Decoding.{HeaderThere, SuccessorsAt, successorsAt, Decoding, good-counts, good-many, decoding-begins, decoding-ends, decoding-steps, header-there, successors-there}
 
 abbrev masksOf : List State → List ℕ
@@ -47,6 +47,12 @@ module _ (s : List ℕ) (g : GoodModel s) where
 
       pub next-there : HeaderThere s at
       next-there = header-there s g (t .decoding) more
+
+      pub next-unmarked : getD marks i [] ≡ marksOf []
+      next-unmarked =
+          let many = t .decoding .walking .many in
+          ap (λ (l : List (List ℕ)). getD l i []) (t .marked)
+          ∙ stored-past (λ s. marksOf (s .successors)) (t .read) [] i (omega arith) (omega (arith, good-counts s g, more))
 
       module _ {mask k o : ℕ} (w : HeaderRead s at mask k o) where
         pub next-successors : SuccessorsAt s o k

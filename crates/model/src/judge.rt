@@ -1,5 +1,6 @@
 // The first pass over a model file: the first fault in the order of its bytes. Nothing is written.
 ghost use mathlib.Core.Path.{_≡_};
+ghost use mathlib.Core.Bool.{true};
 ghost use Prim.Native.Nat.{_+_, _≤_};
 ghost use lib.ListN.{length, drop};
 ghost use Rattle.verdict.specs.Shown.{shown};
@@ -8,6 +9,7 @@ ghost use Rattle.encoding.specs.Outcome.{verdictOf};
 ghost use Rattle.model.specs.ReadModel.{successors, state, readModel};
 ghost use Rattle.model.specs.HeaderSteps.{InModel};
 ghost use Rattle.model.specs.StateSteps.{Finds, statesFrom};
+ghost use Rattle.model.specs.SuccessorsRise.{SuccessorsStand};
 use super::FIRST_STATE;
 use super::ModelFault;
 use super::OPENING;
@@ -20,6 +22,27 @@ use verdict::Verdict;
 enum Step {
     Next(usize),
     Stop { number: u16, place: u16 },
+}
+
+// Whether so many successors are there, rise, and are states, by one test for each. Where it says no, the next function says why.
+fn successors_fit(bytes: &[u8], from: usize, count: usize, states: usize) -> bool
+    requires { ⌜ (InModel (now bytes) from) × (states ≤ 64) ⌝ }
+    ensures { λ r. ⌜ (r ≡ true → SuccessorsStand (now (bytes .entry)) from count states) ⌝ }
+{
+    if bytes.len() - from < count {
+        return false;
+    }
+    let mut least: usize = 0;
+    let mut i: usize = 0;
+    while i < count {
+        let successor = bytes[from + i] as usize;
+        if successor < least {
+            return false;
+        }
+        least = successor + 1;
+        i += 1;
+    }
+    least <= states
 }
 
 // So many successors, each a state and above the one before.
@@ -67,7 +90,12 @@ fn state_step(bytes: &[u8], at: usize, states: usize) -> Step
             mask: _,
             count,
             next,
-        } => successors_step(bytes, next, count, states),
+        } => {
+            if successors_fit(bytes, next, count, states) {
+                return Step::Next(next + count);
+            }
+            successors_step(bytes, next, count, states)
+        }
     }
 }
 

@@ -1,5 +1,6 @@
 // The second pass, over a file that the first found good: the letter masks and the successor table.
 ghost use mathlib.Core.Path.{_≡_};
+ghost use mathlib.Core.List.{[]};
 ghost use Prim.Native.Nat.{_+_};
 ghost use lib.ListN.{length};
 ghost use Rattle.encoding.specs.Encode.{Counts};
@@ -41,19 +42,17 @@ fn known_header(bytes: &[u8], at: usize) -> Known
     }
 }
 
-// 64 marks: 1 for a listed successor, else 0.
-fn marks_at(bytes: &[u8], list: usize, count: usize) -> [u8; 64]
-    requires { ⌜ SuccessorsAt (now bytes) list count ⌝ }
-    ensures { λ r. ⌜ r ≡ marksOf (successorsAt (now (bytes .entry)) list count) ⌝ }
+// In a row with no mark: 1 for each listed successor.
+fn put_marks(bytes: &[u8], list: usize, count: usize, marks: &mut [u8; 64])
+    requires { ⌜ (SuccessorsAt (now bytes) list count) × (now marks ≡ marksOf []) ⌝ }
+    ensures { λ _. ⌜ now (marks .exit) ≡ marksOf (successorsAt (now (bytes .entry)) list count) ⌝ }
 {
-    let mut marks = [0u8; 64];
     let mut i: usize = 0;
     while i < count {
         let successor = bytes[list + i] as usize;
         marks[successor] = 1;
         i += 1;
     }
-    marks
 }
 
 // The number of states.
@@ -78,7 +77,7 @@ pub fn decode_model(bytes: &[u8], masks: &mut [u32; 64]) -> [[u8; 64]; 64]
         let header = known_header(bytes, at);
         let list = header.list;
         masks[i] = header.mask;
-        marks[i] = marks_at(bytes, list, header.count);
+        put_marks(bytes, list, header.count, &mut marks[i]);
         at = list + header.count;
         i += 1;
     }

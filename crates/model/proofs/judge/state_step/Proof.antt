@@ -1,12 +1,13 @@
 -- a state is its header and its successors
 use mathlib.Core.Path.{_≡_, subst}
 use mathlib.Core.List.{List}
-use Prim.Native.Nat.{ℕ}
+use Prim.Native.Nat.{ℕ, _+_}
 use native.Mathlib.Omega.{arith}
-use Rattle.model.specs.HeaderSteps.{HeaderTells}
+use Rattle.model.specs.HeaderSteps.{InModel, HeaderTells}
 use Rattle.model.specs.StateSteps.{state-stops, finds-state}
 use Rattle.model.specs.declared.header.Header.{Header}
 use Rattle.model.specs.declared.header.Header.the-variants.{Read, Refused}
+use Rattle.model.specs.declared.judge.Step.the-variants.{Next}
 use borrow.Author.Needs.{needs}
 use Rattle.model.proofs.judge.state_step.Statement.{statement}
 use Rattle.model.proofs.judge.state_step.Tie as tie
@@ -37,20 +38,34 @@ module _ (c : tie.After-header-at) where
 read : (c : tie.After-count) → HeaderTells (file (c .before .before)) (here (c .before .before)) (Read (c .count .given .0 .0) (c .count .given .0 .1 .0) (c .count .given .0 .1 .1 .0))
 read c = told (c .before .before) (Read (c .count .given .0 .0) (c .count .given .0 .1 .0) (c .count .given .0 .1 .1 .0)) (c .count .given .1)
 
-successors-step-requires : tie.Need-successors-step-requires
-successors-step-requires c κs =
-    let w = read (c .before) .1 in
-    (record { within = w .inside; low = omega (arith, w .near) }, omega arith)
+after : (c : tie.After-count) → InModel (file (c .before .before)) (c .count .given .0 .1 .1 .0)
+after c = let w = read c .1 in record { within = w .inside; low = omega (arith, w .near) }
+
+successors-fit-requires : tie.Need-successors-fit-requires
+successors-fit-requires c κs = (after (c .before), omega arith)
+
+add-t11 : tie.Need-add-t11
+add-t11 c = omega (arith, c .before .successors-fit .ensures (c .if1 .taken) .1 .inside)
 
 returns : tie.Need-returns
 returns c =
     let p = c .before .before .before in
-    state-stops (size p) (file p) (here p) (told p (Refused (c .before .number .given .0 .0) (c .before .number .given .0 .1 .0)) (c .before .number .given .1))
+    let q = p .before .before in
+    finds-state (size q) (file q) (here q) (read p .1) (Next (p .count .given .0 .1 .1 .0 + p .count .given .0 .1 .0)) (c .before .successors-fit .ensures (c .if1 .taken))
+
+successors-step-requires : tie.Need-successors-step-requires
+successors-step-requires c κs = (after (c .before .before .before), omega arith)
 
 returns-2 : tie.Need-returns-2
 returns-2 c =
+    let p = c .before .before .before in
+    state-stops (size p) (file p) (here p) (told p (Refused (c .before .number .given .0 .0) (c .before .number .given .0 .1 .0)) (c .before .number .given .1))
+
+returns-3 : tie.Need-returns-3
+returns-3 c =
     let p = c .before .before .before .before in
-    finds-state (size p) (file p) (here p) (read (c .before .before) .1) (c .successors-step .result) (c .successors-step .ensures)
+    let q = p .before .before in
+    finds-state (size q) (file q) (here q) (read p .1) (c .successors-step .result) (c .successors-step .ensures)
 
 pub state-step-spec : {M : Type 1} → statement M
 state-step-spec =
@@ -59,6 +74,9 @@ state-step-spec =
     header-at-requires
     enum-known-number
     enum-known-count
-    successors-step-requires
+    successors-fit-requires
+    add-t11
     returns
-    returns-2)
+    successors-step-requires
+    returns-2
+    returns-3)

@@ -6,7 +6,7 @@ use native.Mathlib.Omega.{arith}
 use lib.ListN.{length}
 use Rattle.model.specs.Decoded.{GoodModel, statesOf}
 use Rattle.model.specs.Decoding.{SuccessorsAt}
-use Rattle.model.specs.Tables.{Tabled, tabled-begins, tabled-ends, tabled-steps, next-placed, next-there, next-successors}
+use Rattle.model.specs.Tables.{Tabled, tabled-begins, tabled-ends, tabled-steps, next-placed, next-there, next-unmarked, next-successors}
 use Rattle.model.proofs.tables.decode_model.Statement.{statement}
 use Rattle.model.proofs.tables.decode_model.Tie as tie
 
@@ -48,19 +48,21 @@ mul-masks c = search needs
 element-write-masks : tie.Need-element-write-masks Inv-loop μ-loop
 element-write-masks c = search needs
 
-marks-at-requires : tie.Need-marks-at-requires Inv-loop μ-loop
-marks-at-requires c κs = listed c
+mul-put-marks : tie.Need-mul-put-marks Inv-loop μ-loop
+mul-put-marks c = search needs
 
-mul-marks : tie.Need-mul-marks Inv-loop μ-loop
-mul-marks c = search needs
+index-1-put-marks : tie.Need-index-1-put-marks Inv-loop μ-loop
+index-1-put-marks c = search needs
 
-array-set-from-marks : tie.Need-array-set-from-marks Inv-loop μ-loop
-array-set-from-marks c = search needs
+put-marks-requires : tie.Need-put-marks-requires Inv-loop μ-loop
+put-marks-requires c κs =
+    let turn = c .before .before in
+    (listed (c .before), next-unmarked (file turn) (good turn) (tabled turn) (more turn))
 
 add-at : tie.Need-add-at Inv-loop μ-loop
 add-at c =
-    let turn = c .before .before .before in
-    omega (arith, listed (c .before .before) .room, turn .before .before .before .before .before .good .0)
+    let turn = c .before .before .before .before in
+    omega (arith, listed (c .before .before .before) .room, turn .before .before .before .before .before .good .0)
 
 add-i : tie.Need-add-i Inv-loop μ-loop
 add-i c = search needs
@@ -70,9 +72,9 @@ loop-less c = search needs
 
 loop-again : tie.Need-loop-again Inv-loop μ-loop
 loop-again c =
-    let turn = c .before .before .before in
-    let stepped = tabled-steps (file turn) (good turn) (tabled turn) (more turn) (c .before .before .known-header .ensures) in
-    (omega arith, rw (← (c .before .marks-at .ensures)) at stepped)
+    let turn = c .before .before .before .before in
+    let stepped = tabled-steps (file turn) (good turn) (tabled turn) (more turn) (c .before .before .before .known-header .ensures) in
+    (omega arith, rw (← (c .before .put-marks .ensures)) at stepped)
 
 returns : tie.Need-returns Inv-loop μ-loop
 returns c =
@@ -90,9 +92,9 @@ decode-model-spec =
     known-header-requires
     mul-masks
     element-write-masks
-    marks-at-requires
-    mul-marks
-    array-set-from-marks
+    mul-put-marks
+    index-1-put-marks
+    put-marks-requires
     add-at
     add-i
     loop-less
