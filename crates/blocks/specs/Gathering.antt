@@ -10,9 +10,9 @@ use Rattle.formula.specs.Shape.{Shape, leaf, two, step, fix, name, Fix, shape, 
 use Rattle.conditions.specs.Free.{Free, named, inside}
 use Rattle.conditions.specs.WellFormed.{WellFormed}
 use Rattle.conditions.specs.WellFormedLaws.{free-fix}
-use Rattle.blocks.specs.FormedLaws.{reads-either}
+use Rattle.forming.specs.FormedLaws.{reads-either}
 use Rattle.blocks.specs.Iteration.{Block}
-use Rattle.blocks.specs.Counting.{Within, count, count-less, count-most, measure, measure-less, measure-same}
+use Rattle.entry_sets.specs.Counting.{Within, count, count-less, count-most, measure, measure-less, measure-same}
 
 module _ (t : Table) where
   -- the fixpoint that e is, if it is one, and those free in it are of one kind

@@ -10,12 +10,12 @@ use lib.ListN.{length, getD}
 use borrow.Author.Tests.{eqb-true}
 use Rattle.meaning.specs.Truth.{or-true}
 use Rattle.formula.specs.Shape.{shape, Operand}
-use Rattle.blocks.specs.FormedLaws.{operand-reads}
-use Rattle.blocks.specs.Counting.{Within}
+use Rattle.forming.specs.FormedLaws.{operand-reads}
+use Rattle.entry_sets.specs.Counting.{Within}
 use Rattle.blocks.specs.Gathering.{Grown}
-use Rattle.blocks.specs.Sets.{inSet, Inserted, inserted-old, inserted-new}
-use Rattle.blocks.specs.Claim.{tableFrom, Claim}
-use Rattle.blocks.specs.Operands.{reads-kind, operand-name, a-operand, b-operand}
+use Rattle.entry_sets.specs.Sets.{inSet, Inserted, inserted-old, inserted-new}
+use Rattle.forming.specs.Claim.{tableFrom, Claim}
+use Rattle.dependencies.specs.Operands.{reads-kind, operand-name, a-operand, b-operand}
 
 -- c is met, if it is neither settled nor in the block
 pub record Meets (ds bs ms : List ℕ) (c : ℕ) (ns : List ℕ) : Type 0 where

@@ -12,9 +12,9 @@ use Rattle.meaning.specs.States.{Model, StateSet, SameStates, start}
 use Rattle.meaning.specs.StateLaws.{same-sym, same-trans, Toward, toward-bounded, toward-both, start-first}
 use Rattle.meaning.specs.Bounds.{sum, sum-mono, sum-back}
 use Rattle.meaning.specs.Meaning.{own}
-use Rattle.blocks.specs.TowardLaws.{toward-trans, same-toward}
-use Rattle.blocks.specs.Settled.{formed, Closes, closes-own}
-use Rattle.blocks.specs.FormedLaws.{Reads, operand-reads, formed-same, formed-toward, formed-own}
+use Rattle.forming.specs.TowardLaws.{toward-trans, same-toward}
+use Rattle.forming.specs.Settled.{formed, Closes, closes-own}
+use Rattle.forming.specs.FormedLaws.{Reads, operand-reads, formed-same, formed-toward, formed-own}
 
 -- b says which entries are in the block and done which are settled: what an entry of the block reads is in it or settled, and its fixpoints are of one kind
 pub record Block (t : Table) (σ : Fix) (done b : ℕ → Bool) : Type 0 where

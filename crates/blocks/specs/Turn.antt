@@ -22,14 +22,15 @@ use Rattle.states.specs.WordLaws.{word-inside, word-past}
 use Rattle.states.specs.BitLaws.{bits-same}
 use Rattle.states.specs.StateWords.{setsOf, by-bits}
 use Rattle.states.specs.PlainModel.{rowModel}
-use Rattle.blocks.specs.Settled.{formed}
+use Rattle.forming.specs.Settled.{formed}
 use Rattle.blocks.specs.Iteration.{Block, Moving, Rests, left, moving-begin, moving-formed, onward, rests-woken, rests-same, moving-end, left-down, left-less}
-use Rattle.blocks.specs.Counting.{Within, count, count-less, measure, measure-less, measure-same}
-use Rattle.blocks.specs.Sets.{inSet, in-below, past-words, Removed, removed-less, removed-rest}
-use Rattle.blocks.specs.Users.{Users, Woken}
-use Rattle.blocks.specs.Claim.{tableFrom, Claim}
-use Rattle.blocks.specs.Ready.{Ready, ready-again, formedWord}
-use Rattle.blocks.specs.Operands.{fixOf}
+use Rattle.entry_sets.specs.Counting.{Within, count, count-less, measure, measure-less, measure-same}
+use Rattle.entry_sets.specs.Sets.{inSet, in-below, past-words, Removed, removed-less, removed-rest}
+use Rattle.dependencies.specs.Users.{Users}
+use Rattle.blocks.specs.Waking.{Woken}
+use Rattle.forming.specs.Claim.{tableFrom, Claim}
+use Rattle.forming.specs.Ready.{Ready, ready-again, formedWord}
+use Rattle.dependencies.specs.Operands.{fixOf}
 
 -- the start of a kind's fixpoints
 unfoldable pub startWord : ℕ → ℕ → ℕ

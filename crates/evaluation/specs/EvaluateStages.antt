@@ -28,7 +28,7 @@ use Rattle.model.specs.ModelExact.{good-model}
 use Rattle.model.specs.Decoded.{GoodModel, statesOf, good-states, maskTable}
 use Rattle.states.specs.Words.{words}
 use Rattle.states.specs.PlainModel.{plainModel, wordsIn, plain-described}
-use Rattle.blocks.specs.Claim.{Given}
+use Rattle.forming.specs.Claim.{Given}
 use Rattle.reader.specs.Files.{andThen, readFormed, besideClaim}
 use Rattle.reader.specs.FilesLaws.{refused-reading}
 use Rattle.reader.specs.FilesExact.{formed-exactly}

@@ -6,7 +6,7 @@ ghost use lib.ListN.{length};
 ghost use Rattle.formula.specs.Plain.{tableOf};
 ghost use Rattle.claims.specs.ClaimEntries.{EntryArrays};
 ghost use Rattle.model.specs.ReadModel.{readModel};
-ghost use Rattle.blocks.specs.Claim.{Given};
+ghost use Rattle.forming.specs.Claim.{Given};
 ghost use Rattle.demands.specs.Evaluate.{inModel, evaluated};
 ghost use Rattle.evaluation.specs.EvaluateFiles.{EvaluatedFiles, Staged, refusal, afterModel};
 use claims::ClaimRead;

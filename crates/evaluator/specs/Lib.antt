@@ -1,1 +1,1 @@
-pub mod Evaluated
+pub mod Swept

@@ -1,160 +1,18 @@
-// The evaluator: the word of every entry of a claim in a model. What it writes is defined in the crate states (specs/Words), why its
-// iteration is right in the crate blocks (specs/Iteration and specs/Gathering).
+// The evaluator: the word of every entry of a claim in a model. What it writes is defined in the crate states (specs/Words).
 ghost use mathlib.Core.Path.{_≡_};
-ghost use Prim.Native.Nat.{_+_, _<_, _≤_};
+ghost use Prim.Native.Nat.{_≤_};
 ghost use lib.ListN.{length, getD};
 ghost use Rattle.states.specs.PlainModel.{wordsIn};
 ghost use Rattle.states.specs.Fill.{Filled};
-ghost use Rattle.blocks.specs.Claim.{tableFrom, Claim, Given};
-ghost use Rattle.evaluator.specs.Evaluated.{Prepared, Known, Standing, Evaluated, Swept};
+ghost use Rattle.forming.specs.Claim.{tableFrom, Claim, Given};
+ghost use Rattle.settling.specs.Evaluated.{Prepared, Standing};
+ghost use Rattle.evaluator.specs.Swept.{Swept};
 ghost use Rattle.verdict.specs.Lists.{written};
 ghost use Rattle.formula.specs.Plain.{tableOf};
-use bits::wide;
-use blocks::begin;
-use blocks::find_tops;
-use blocks::find_users;
-use blocks::grow;
-use blocks::needs_rounds;
-use blocks::sets::has;
-use blocks::sets::join;
-use blocks::sets::lowest;
-use blocks::sets::remove;
-use blocks::settle_entry;
-use blocks::start_word;
-use blocks::turn;
-use formula::Kind;
+use dependencies::find_tops;
+use dependencies::find_users;
+use settling::eval_entry;
 use states::row_words;
-
-// Settles an entry whose free names are settled.
-fn eval_entry(
-    kinds: &[u8],
-    a: &[u16],
-    b: &[u16],
-    tops: &[u16; 256],
-    users: &[u64; 1024],
-    words: &mut [u64; 256],
-    done: &mut [u64; 4],
-    rows: &[u64; 64],
-    masks: &[u32; 64],
-    size: usize,
-    e: usize,
-)
-    requires { ⌜ Standing (now kinds) (now a) (now b) (now masks) (now rows) size (now words) (now done) ⌝ }
-    requires { ⌜ Prepared (now kinds) (now a) (now b) (now tops) (now users) ⌝ }
-    requires { ⌜ (e < length (now kinds)) × Known (now kinds) (now a) (now b) (now done) e ⌝ }
-    ensures { λ _. ⌜ Evaluated (now (kinds .entry)) (now (a .entry)) (now (b .entry)) (now (masks .entry)) (now (rows .entry)) size e
-        (now (done .entry)) (now (words .exit)) (now (done .exit)) ⌝ }
-{
-    if has(done, e) {
-        return;
-    }
-    if needs_rounds(kinds, a, tops, e) {
-        iterate(kinds, a, b, tops, users, words, done, rows, masks, size, e);
-        return;
-    }
-    let kind = kinds[e];
-    if kind < Kind::OR {
-        settle_entry(kinds, a, b, words, done, rows, masks, size, e);
-        return;
-    }
-    if kind == Kind::NAME {
-        settle_entry(kinds, a, b, words, done, rows, masks, size, e);
-        return;
-    }
-    eval_entry(
-        kinds,
-        a,
-        b,
-        tops,
-        users,
-        words,
-        done,
-        rows,
-        masks,
-        size,
-        wide(a[e]),
-    );
-    if kind < Kind::DIAMOND {
-        eval_entry(
-            kinds,
-            a,
-            b,
-            tops,
-            users,
-            words,
-            done,
-            rows,
-            masks,
-            size,
-            wide(b[e]),
-        );
-        settle_entry(kinds, a, b, words, done, rows, masks, size, e);
-        return;
-    }
-    settle_entry(kinds, a, b, words, done, rows, masks, size, e);
-}
-
-// Settles a fixpoint whose free names are settled, with its block: itself, and what is reached from it by operands that have a free name
-// and are not settled. Whatever is met and has no free name is evaluated. Then the block's words go from the start until each is formed
-// of the others.
-fn iterate(
-    kinds: &[u8],
-    a: &[u16],
-    b: &[u16],
-    tops: &[u16; 256],
-    users: &[u64; 1024],
-    words: &mut [u64; 256],
-    done: &mut [u64; 4],
-    rows: &[u64; 64],
-    masks: &[u32; 64],
-    size: usize,
-    x: usize,
-)
-    requires { ⌜ Standing (now kinds) (now a) (now b) (now masks) (now rows) size (now words) (now done) ⌝ }
-    requires { ⌜ Prepared (now kinds) (now a) (now b) (now tops) (now users) ⌝ }
-    requires { ⌜ (x < length (now kinds)) × Known (now kinds) (now a) (now b) (now done) x × (7 < getD (now kinds) x 0) × (getD (now kinds) x 0 < 10)
-        ⌝ }
-    ensures { λ _. ⌜ Evaluated (now (kinds .entry)) (now (a .entry)) (now (b .entry)) (now (masks .entry)) (now (rows .entry)) size x
-        (now (done .entry)) (now (words .exit)) (now (done .exit)) ⌝ }
-{
-    let mut block = [0u64; 4];
-    let mut met = [0u64; 4];
-    grow(kinds, a, b, done, &mut block, &mut met, x);
-    let mut c = lowest(&met);
-    while c < 256 {
-        remove(&mut met, c);
-        if tops[c] != 0 {
-            grow(kinds, a, b, done, &mut block, &mut met, c);
-        } else {
-            if needs_rounds(kinds, a, tops, c) {
-                iterate(kinds, a, b, tops, users, words, done, rows, masks, size, c);
-            } else {
-                eval_entry(kinds, a, b, tops, users, words, done, rows, masks, size, c);
-            }
-        }
-        c = lowest(&met);
-    }
-    begin(words, &block, start_word(kinds[x], size));
-    let mut waiting = block;
-    let mut e = lowest(&waiting);
-    while e < 256 {
-        turn(
-            kinds,
-            a,
-            b,
-            words,
-            rows,
-            masks,
-            users,
-            &block,
-            &mut waiting,
-            size,
-            e,
-        );
-        e = lowest(&waiting);
-    }
-    join(done, &block);
-}
 
 // Every entry, from the highest down: its free names lie above it and are settled.
 fn eval_all(

@@ -1,8 +1,8 @@
 -- by the kind: its operands are met
 use mathlib.Core.Path.{refl, _∙_}
 use native.Mathlib.Omega.{arith}
-use Rattle.blocks.specs.Claim.{a-entry, b-below}
-use Rattle.blocks.specs.Operands.{few-kinds}
+use Rattle.forming.specs.Claim.{a-entry, b-below}
+use Rattle.dependencies.specs.Operands.{few-kinds}
 use Rattle.blocks.specs.Growing.{grown-name, grown-one, grown-two}
 use borrow.Author.Needs.{needs}
 use Rattle.blocks.proofs.grow.Statement.{statement}

@@ -3,7 +3,7 @@ use mathlib.Core.Path.{_≡_, refl}
 use native.Mathlib.Omega.{arith}
 use Prim.Native.Nat.{_-_, _≤_}
 use Rattle.states.specs.Fill.{Filled, filled-none, filled-set}
-use Rattle.blocks.specs.Users.{wokenWord, woken-word, woken}
+use Rattle.blocks.specs.Waking.{wokenWord, woken-word, woken}
 use borrow.Author.Needs.{needs}
 use Rattle.blocks.proofs.wake.Statement.{statement}
 use Rattle.blocks.proofs.wake.Tie as tie

@@ -3,7 +3,7 @@ use mathlib.Core.Path.{_≡_, refl}
 use native.Mathlib.Omega.{arith}
 use Prim.Native.Nat.{_≤_}
 use lib.ListN.{length}
-use Rattle.evaluator.specs.Evaluated.{Swept, swept-none, swept-known, swept-next}
+use Rattle.evaluator.specs.Swept.{Swept, swept-none, swept-known, swept-next}
 use borrow.Author.Needs.{needs}
 use Rattle.evaluator.proofs.eval_all.Statement.{statement}
 use Rattle.evaluator.proofs.eval_all.Tie as tie

@@ -1,8 +1,8 @@
 -- the first entries are a claim, and their words stand in front of what was there before
 use mathlib.Core.Path.{sym, _∙_}
 use lib.Seq.{length-take-le}
-use Rattle.blocks.specs.Claim.{first-claim}
-use Rattle.evaluator.specs.Evaluated.{first-written}
+use Rattle.forming.specs.Claim.{first-claim}
+use Rattle.evaluator.specs.Swept.{first-written}
 use borrow.Author.Needs.{needs}
 use Rattle.evaluator.proofs.evaluate.Statement.{statement}
 use Rattle.evaluator.proofs.evaluate.Tie as tie

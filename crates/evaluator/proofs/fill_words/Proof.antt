@@ -3,9 +3,9 @@ use mathlib.Core.Path.{refl, _∙_}
 use native.Mathlib.Omega.{arith}
 use Prim.Native.Nat.{ℕ}
 use lib.ListN.{length-replicate}
-use Rattle.blocks.specs.Claim.{tableFrom}
+use Rattle.forming.specs.Claim.{tableFrom}
 use Rattle.states.specs.PlainModel.{rows-inside, rows-words}
-use Rattle.evaluator.specs.Evaluated.{standing-first, every-word}
+use Rattle.evaluator.specs.Swept.{standing-first, every-word}
 use borrow.Author.Needs.{needs}
 use Rattle.evaluator.proofs.fill_words.Statement.{statement}
 use Rattle.evaluator.proofs.fill_words.Tie as tie

@@ -1,0 +1,3 @@
+-- sets of entries, and the measure of a loop over one
+pub mod Counting
+pub mod Sets

@@ -1,0 +1,198 @@
+-- a set of numbers in words of 64 bits: number c is bit c % 64 of word c / 64
+use mathlib.Core.Path.{_≡_, refl, ap, _∙_, sym}
+use mathlib.Core.List.{List}
+use mathlib.Core.Bool.{Bool, true, false, not, _||_, _&&_}
+use Prim.Native.Nat.{ℕ, zero, suc, _+_, _*_, _/_, _%_, _^_, _<_, _≤_}
+use native.Mathlib.Nat.{pow-suc}
+use native.Mathlib.Decide.{decLt, ℕ-discrete}
+use native.Mathlib.Omega.{arith}
+use lib.Dec.{eqb}
+use lib.Pow.{shr-shr}
+use lib.Count.{trailingZeros, under, trailing-le}
+use lib.Bits.{bitAnd, bitOr, bitXor, and-mask}
+use lib.ListN.{length, getD, set, replicate, List·getD-eq-default}
+use lib.Seq.{getD-set-same, getD-set-other}
+use borrow.Author.Tests.{eq-eqb, ne-eqb}
+use mathlib.Core.Logic.{_⊎_, inl, inr}
+use Rattle.meaning.specs.Truth.{true-or}
+use Rattle.entry_sets.specs.Counting.{Within}
+use Rattle.bits.specs.Bits.{bit, or-bit, less-bit, shift-bit, no-bit}
+use Rattle.states.specs.Fill.{Filled, zeros-at}
+
+unfoldable pub inSet : List ℕ → ℕ → Bool
+inSet w c = bit (getD w (c / 64) 0) (c % 64)
+
+-- the test that the code makes
+pub in-word : (w : List ℕ) (c : ℕ) → eqb (bitAnd (getD w (c / 64) 0 / 2 ^ (c % 64)) 1) 1 ≡ inSet w c
+unfolding inSet bit
+in-word w c = ap (λ (n : ℕ). eqb n 1) (and-mask (getD w (c / 64) 0 / 2 ^ (c % 64)) 1)
+
+pub none-in : (n c : ℕ) → inSet (replicate n 0) c ≡ false
+unfolding inSet
+none-in n c = ap (λ (x : ℕ). bit x (c % 64)) (zeros-at n (c / 64)) ∙ no-bit (c % 64)
+
+-- one word anew: where its bits change by f at the number's bit, the set changes by f at the number
+changed : (f : Bool → Bool → Bool) → ((b : Bool) → f b false ≡ b)
+    → (w : List ℕ) (c x : ℕ) → c / 64 < length w
+    → ((k : ℕ) → bit x k ≡ f (bit (getD w (c / 64) 0) k) (eqb k (c % 64)))
+    → (d : ℕ) → inSet (set w (c / 64) x) d ≡ f (inSet w d) (eqb d c)
+unfolding inSet
+changed f keeps w c x h b d = go (ℕ-discrete (d / 64) (c / 64)) (ℕ-discrete d c)
+  where
+    go : Dec (d / 64 ≡ c / 64) → Dec (d ≡ c) → bit (getD (set w (c / 64) x) (d / 64) 0) (d % 64) ≡ f (bit (getD w (d / 64) 0) (d % 64)) (eqb d c)
+    go (yes e) (yes q) = rw (e, getD-set-same w (c / 64) x 0 h, b (d % 64), eq-eqb d c q, eq-eqb (d % 64) (c % 64) (ap (λ (n : ℕ). n % 64) q)) refl
+    go (yes e) (no n) = rw (e, getD-set-same w (c / 64) x 0 h, b (d % 64), ne-eqb d c n, ne-eqb (d % 64) (c % 64) (λ q. n (omega arith))) refl
+    go (no n) (yes q) = absurd (n (ap (λ (m : ℕ). m / 64) q))
+    go (no n) (no m) = rw (getD-set-other w (c / 64) (d / 64) x 0 n, ne-eqb d c m) (sym (keeps _))
+
+or-false : (b : Bool) → (b || false) ≡ b
+or-false true = refl
+or-false false = refl
+
+and-true : (b : Bool) → (b && true) ≡ b
+and-true true = refl
+and-true false = refl
+
+module _ (w : List ℕ) (c : ℕ) (h : c / 64 < length w) where
+  pub in-inserted : (d : ℕ) → inSet (set w (c / 64) (bitOr (getD w (c / 64) 0) (1 * 2 ^ (c % 64) % 2 ^ 64))) d ≡ (inSet w d || eqb d c)
+  in-inserted = changed (λ a b. a || b) or-false w c _ h
+      (λ k. or-bit _ (1 * 2 ^ (c % 64) % 2 ^ 64) k ∙ ap (λ (b : Bool). bit (getD w (c / 64) 0) k || b) (shift-bit (c % 64) k (omega arith)))
+
+  pub in-removed : (d : ℕ) → inSet (set w (c / 64) (bitXor (getD w (c / 64) 0) (bitAnd (getD w (c / 64) 0) (1 * 2 ^ (c % 64) % 2 ^ 64)))) d ≡ (inSet w d && not (eqb d c))
+  in-removed = changed (λ a b. a && not b) and-true w c _ h
+      (λ k. less-bit _ (1 * 2 ^ (c % 64) % 2 ^ 64) k ∙ ap (λ (b : Bool). bit (getD w (c / 64) 0) k && not b) (shift-bit (c % 64) k (omega arith)))
+
+-- no number of 256 or more is in four words
+pub past-words : (w : List ℕ) → length w ≡ 4 → (c : ℕ) → 256 ≤ c → inSet w c ≡ false
+unfolding inSet
+past-words w s c h = ap (λ (x : ℕ). bit x (c % 64)) (List·getD-eq-default w 0 (omega arith)) ∙ no-bit (c % 64)
+
+pub in-below : (w : List ℕ) → length w ≡ 4 → (c : ℕ) → inSet w c ≡ true → c < 256
+in-below w s c i = go (decLt c 256)
+  where
+    go : Dec (c < 256) → c < 256
+    go (yes l) = l
+    go (no l) = let z : _≡_ {A = Bool} false true = sym (past-words w s c (omega arith)) ∙ i in let y : _≡_ {A = ℕ} 0 1 = cc in absurd (omega arith)
+
+-- bit k of word i
+pub place : (w : List ℕ) (i k : ℕ) → k < 64 → inSet w (64 * i + k) ≡ bit (getD w i 0) k
+unfolding inSet
+place w i k h =
+    let word : (64 * i + k) / 64 ≡ i = omega arith in
+    let rest : (64 * i + k) % 64 ≡ k = omega arith in
+    rw (word, rest) refl
+
+-- four words anew, by their bits
+pub by-words : (w v : List ℕ) (f : ℕ → ℕ) → Filled f w 4 v → length w ≡ 4 → (p : ℕ → Bool) → ((c : ℕ) → c < 256 → bit (f (c / 64)) (c % 64) ≡ p c)
+    → (c : ℕ) → c < 256 → inSet v c ≡ p c
+unfolding inSet
+by-words w v f F l p h c m = ap (λ (x : ℕ). bit x (c % 64)) (F .below (c / 64) (omega arith)) ∙ h c m
+
+half : (q : ℕ) (t : ℕ) → q / 2 ^ suc t ≡ q / 2 / 2 ^ t
+half q t = ap (λ (m : ℕ). q / 2 ^ m) (omega arith) ∙ sym (shr-shr q 1 t)
+
+-- the trailing zeros of a number lead to a bit
+trailing-digit : (d q : ℕ) → 0 < q → q < 2 ^ d → q / 2 ^ trailingZeros d q % 2 ≡ 1
+unfolding trailingZeros
+trailing-digit zero q h k = absurd (omega arith)
+trailing-digit (suc d) q h k = go (q % 2) refl (λ (e : q % 2 ≡ 0). trailing-digit d (q / 2) (omega arith) (omega (arith, pow-suc 2 d)))
+  where
+    go : (r : ℕ) → q % 2 ≡ r → (q % 2 ≡ 0 → q / 2 / 2 ^ trailingZeros d (q / 2) % 2 ≡ 1) → q / 2 ^ under r (trailingZeros d (q / 2)) % 2 ≡ 1
+    go zero e ih = ap (λ (x : ℕ). x % 2) (half q (trailingZeros d (q / 2))) ∙ ih e
+    go (suc r) e ih = omega arith
+
+pub trailing-bit : (q : ℕ) → (q ≡ 0 → ⊥) → q < 2 ^ 64 → bit q (trailingZeros 64 q) ≡ true
+unfolding bit
+trailing-bit q n h = eq-eqb _ 1 (trailing-digit 64 q (omega (arith, n)) h)
+
+pub trailing-small : (q : ℕ) → (q ≡ 0 → ⊥) → q < 2 ^ 64 → trailingZeros 64 q < 64
+trailing-small q n h = go (decLt (trailingZeros 64 q) 64)
+  where
+    go : Dec (trailingZeros 64 q < 64) → trailingZeros 64 q < 64
+    go (yes l) = l
+    go (no l) =
+        let t : trailingZeros 64 q ≡ 64 = omega (arith, trailing-le 64 q) in
+        let z : q / 2 ^ 64 % 2 ≡ 1 = rw t at (trailing-digit 64 q (omega (arith, n)) h) in
+        absurd (omega (arith, z, h))
+
+-- a number of the set, or one past all if it has none
+pub record Lowest (w : List ℕ) (r : ℕ) : Type 0 where
+  pub found : r < 256 → inSet w r ≡ true
+  pub none : 256 ≤ r → (c : ℕ) → inSet w c ≡ false
+
+module _ (w : List ℕ) (i k : ℕ) (l : k < 64) (b : bit (getD w i 0) k ≡ true) where
+  pub lowest-found : i < 4 → (r : ℕ) → r ≡ 64 * i + k → Lowest w r
+  lowest-found h r q = record { found = λ _. ap (inSet w) q ∙ place w i k l ∙ b; none = λ m. absurd (omega (arith, q)) }
+
+pub lowest-none : (w : List ℕ) → length w ≡ 4 → getD w 0 0 ≡ 0 → getD w 1 0 ≡ 0 → getD w 2 0 ≡ 0 → getD w 3 0 ≡ 0 → Lowest w 256
+unfolding inSet
+lowest-none w s p q r t = record { found = λ m. absurd (omega arith); none = λ _ c. go c (decLt c 256) }
+  where
+    zero-word : (i : ℕ) → i < 4 → getD w i 0 ≡ 0
+    zero-word i h = at (ℕ-discrete i 0) (ℕ-discrete i 1) (ℕ-discrete i 2)
+      where
+        at : Dec (i ≡ 0) → Dec (i ≡ 1) → Dec (i ≡ 2) → getD w i 0 ≡ 0
+        at (yes e) y z = ap (λ (j : ℕ). getD w j 0) e ∙ p
+        at (no x) (yes e) z = ap (λ (j : ℕ). getD w j 0) e ∙ q
+        at (no x) (no y) (yes e) = ap (λ (j : ℕ). getD w j 0) e ∙ r
+        at (no x) (no y) (no z) = let e : i ≡ 3 = omega arith in ap (λ (j : ℕ). getD w j 0) e ∙ t
+
+    go : (c : ℕ) → Dec (c < 256) → bit (getD w (c / 64) 0) (c % 64) ≡ false
+    go c (yes l) = ap (λ (x : ℕ). bit x (c % 64)) (zero-word (c / 64) (omega arith)) ∙ no-bit (c % 64)
+    go c (no l) = past-words w s c (omega arith)
+
+-- a number more
+pub record Inserted (w : List ℕ) (k : ℕ) (v : List ℕ) : Type 0 where
+  pub long : length v ≡ length w
+  pub tells : (d : ℕ) → inSet v d ≡ (inSet w d || eqb d k)
+
+pub inserted-old : {w v : List ℕ} {k : ℕ} → Inserted w k v → Within (inSet w) (inSet v)
+inserted-old {w} {v} {k} I d i = I .tells d ∙ true-or (inSet w d) (eqb d k) (inl i)
+
+pub inserted-new : {w v : List ℕ} {k : ℕ} → Inserted w k v → inSet v k ≡ true
+inserted-new {w} {v} {k} I = I .tells k ∙ true-or (inSet w k) (eqb k k) (inr (eq-eqb k k refl))
+
+-- a number less
+pub record Removed (w : List ℕ) (k : ℕ) (v : List ℕ) : Type 0 where
+  pub long : length v ≡ length w
+  pub tells : (d : ℕ) → inSet v d ≡ (inSet w d && not (eqb d k))
+
+module _ {w v : List ℕ} {k : ℕ} (R : Removed w k v) where
+  pub removed-less : (d : ℕ) → inSet v d ≡ true → (inSet w d ≡ true) × (d ≡ k → ⊥)
+  removed-less d i = go (inSet w d) (ℕ-discrete d k) (sym (R .tells d) ∙ i)
+    where
+      go : (b : Bool) → Dec (d ≡ k) → (b && not (eqb d k)) ≡ true → (b ≡ true) × (d ≡ k → ⊥)
+      go b (yes q) h = let z : (b && false) ≡ true = rw (eq-eqb d k q) at h in absurd (no b z)
+        where
+          no : (b : Bool) → (b && false) ≡ true → ⊥
+          no true z = let y : _≡_ {A = ℕ} 0 1 = cc in omega arith
+          no false z = let y : _≡_ {A = ℕ} 0 1 = cc in omega arith
+      go true (no n) h = (refl, n)
+      go false (no n) h = let y : _≡_ {A = ℕ} 0 1 = cc in absurd (omega arith)
+
+  pub removed-rest : (d : ℕ) → inSet w d ≡ true → (d ≡ k) ⊎ (inSet v d ≡ true)
+  removed-rest d i = go (ℕ-discrete d k)
+    where
+      go : Dec (d ≡ k) → (d ≡ k) ⊎ (inSet v d ≡ true)
+      go (yes q) = inl q
+      go (no n) = inr (R .tells d ∙ rw (i, ne-eqb d k n) refl)
+
+-- the numbers of two sets, word by word
+unfoldable pub joinedWord : List ℕ → List ℕ → ℕ → ℕ
+joinedWord ds bs i = bitOr (getD ds i 0) (getD bs i 0)
+
+pub record Joined (ds bs es : List ℕ) : Type 0 where
+  pub long : length es ≡ 4
+  pub both : (c : ℕ) → c < 256 → inSet es c ≡ (inSet ds c || inSet bs c)
+
+pub joined : (ds bs es : List ℕ) → length ds ≡ 4 → Filled (joinedWord ds bs) ds 4 es → Joined ds bs es
+unfolding joinedWord inSet
+joined ds bs es l F =
+    record {
+      long = F .long ∙ l;
+      both = by-words ds es (joinedWord ds bs) F l _ (λ c h. or-bit (getD ds (c / 64) 0) (getD bs (c / 64) 0) (c % 64));
+    }
+
+pub joined-word : (ds bs : List ℕ) (i : ℕ) (es : List ℕ) → Filled (joinedWord ds bs) ds i es → bitOr (getD es i 0) (getD bs i 0) ≡ joinedWord ds bs i
+unfolding joinedWord
+joined-word ds bs i es F = ap (λ (x : ℕ). bitOr x (getD bs i 0)) (F .above i (omega arith))

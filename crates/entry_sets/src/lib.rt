@@ -1,0 +1,69 @@
+// Sets of entries, by number: number k is bit k % 64 of word k / 64.
+ghost use mathlib.Core.Path.{_≡_};
+ghost use mathlib.Core.Bool.{true};
+ghost use Prim.Native.Nat.{_*_, _<_};
+ghost use lib.ListN.{length};
+ghost use Rattle.bits.specs.Bits.{bit};
+ghost use Rattle.entry_sets.specs.Sets.{inSet, Inserted, Removed, Joined, Lowest};
+
+pub fn has(set: &[u64; 4], k: usize) -> bool
+    requires { ⌜ k < 256 ⌝ }
+    ensures { λ r. ⌜ r ≡ inSet (now (set .entry)) k ⌝ }
+{
+    (set[k / 64] >> (k % 64)) & 1 == 1
+}
+
+pub fn insert(set: &mut [u64], k: usize)
+    requires { ⌜ k < 64 * length (now set) ⌝ }
+    ensures { λ _. ⌜ Inserted (now (set .entry)) k (now (set .exit)) ⌝ }
+{
+    let i = k / 64;
+    set[i] = set[i] | (1u64 << (k % 64));
+}
+
+pub fn remove(set: &mut [u64; 4], k: usize)
+    requires { ⌜ (k < 256) × (length (now set) ≡ 4) ⌝ }
+    ensures { λ _. ⌜ Removed (now (set .entry)) k (now (set .exit)) ⌝ }
+{
+    let i = k / 64;
+    let w = set[i];
+    set[i] = w ^ (w & (1u64 << (k % 64)));
+}
+
+pub fn join(set: &mut [u64; 4], more: &[u64; 4])
+    requires { ⌜ length (now set) ≡ 4 ⌝ }
+    ensures { λ _. ⌜ Joined (now (set .entry)) (now (more .entry)) (now (set .exit)) ⌝ }
+{
+    let mut i: usize = 0;
+    while i < 4 {
+        set[i] = set[i] | more[i];
+        i += 1;
+    }
+}
+
+fn first(w: u64) -> usize
+    requires { ⌜ (w ≡ 0 → ⊥) ⌝ }
+    ensures { λ r. ⌜ (r < 64) × (bit w r ≡ true) ⌝ }
+{
+    u64::trailing_zeros(w) as usize
+}
+
+// The lowest number in a set, 256 if it has none.
+pub fn lowest(set: &[u64; 4]) -> usize
+    requires { ⌜ length (now set) ≡ 4 ⌝ }
+    ensures { λ r. ⌜ Lowest (now (set .entry)) r ⌝ }
+{
+    if set[0] != 0 {
+        return first(set[0]);
+    }
+    if set[1] != 0 {
+        return 64 + first(set[1]);
+    }
+    if set[2] != 0 {
+        return 128 + first(set[2]);
+    }
+    if set[3] != 0 {
+        return 192 + first(set[3]);
+    }
+    256
+}

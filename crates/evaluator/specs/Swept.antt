@@ -1,0 +1,85 @@
+-- the sweep over the entries, from the highest down, and what it writes
+use mathlib.Core.Path.{_≡_, refl, sym, ap, _∙_}
+use mathlib.Core.List.{List, _++_}
+use mathlib.Core.Bool.{true, false≢true}
+use Prim.Native.Nat.{ℕ, _+_, _<_, _≤_}
+use native.Mathlib.Omega.{arith}
+use native.Mathlib.Decide.{ℕ-discrete}
+use lib.ListN.{length, getD, take, drop, replicate, length-replicate}
+use lib.Seq.{ext-getD}
+use Rattle.verdict.specs.Lists.{written}
+use Rattle.formula.specs.Table.{Table}
+use Rattle.formula.specs.Plain.{tableOf, tableOf-length}
+use Rattle.conditions.specs.WellFormedLaws.{free-in}
+use Rattle.meaning.specs.States.{Model}
+use Rattle.meaning.specs.Meaning.{own}
+use Rattle.bits.specs.Bits.{bit, no-bit}
+use Rattle.states.specs.Words.{words}
+use Rattle.states.specs.WordLaws.{words-length, words-at}
+use Rattle.states.specs.StateWords.{Inside, by-bits}
+use Rattle.states.specs.PlainModel.{plainModel, wordsIn, rowModel}
+use Rattle.states.specs.Fill.{Filled, zeros-at}
+use Rattle.entry_sets.specs.Sets.{inSet, none-in}
+use Rattle.forming.specs.Claim.{tableFrom, Claim, Given, first-entries, claim-length}
+use Rattle.settling.specs.Evaluated.{Known, Standing, Evaluated}
+
+module _ (ks xs ys masks rows : List ℕ) (size : ℕ) where
+  abbrev M : Model
+  M = rowModel masks rows size
+
+  abbrev t : Table
+  t = tableFrom ks xs ys
+
+  -- the entries from p on are settled
+  pub record Swept (p : ℕ) (ws ds : List ℕ) : Type 0 where
+    pub standing : Standing ks xs ys masks rows size ws ds
+    pub settled : (e : ℕ) → p ≤ e → e < length ks → inSet ds e ≡ true
+
+  pub swept-known : (p : ℕ) (ws ds : List ℕ) → Swept p ws ds → (e : ℕ) → p ≡ e + 1 → Known ks xs ys ds e
+  swept-known p ws ds S e q y f =
+      let wf = S .standing .ready .claim .formed .well in
+      S .settled y (let m = wf .free-above e y f in omega (arith, m, q)) (let m = free-in t wf f in omega (arith, m, claim-length ks xs ys))
+
+  pub swept-next : (p : ℕ) (ws ds vs es : List ℕ) → Swept p ws ds → (e : ℕ) → p ≡ e + 1 → Evaluated ks xs ys masks rows size e ds vs es → Swept e vs es
+  swept-next p ws ds vs es S e q E = record { standing = E .standing; settled = λ c h l. go c h l (ℕ-discrete c e) }
+    where
+      go : (c : ℕ) → e ≤ c → c < length ks → Dec (c ≡ e) → inSet es c ≡ true
+      go c h l (yes z) = ap (inSet es) z ∙ E .settled
+      go c h l (no n) = E .more c (S .settled c (omega (arith, q, n)) l)
+
+  pub swept-none : (ws ds : List ℕ) → Standing ks xs ys masks rows size ws ds → Swept (length ks) ws ds
+  swept-none ws ds S = record { standing = S; settled = λ e h l. absurd (omega arith) }
+
+  -- at first no entry is settled
+  pub standing-first : Claim ks xs ys → size ≤ 64 → Inside size 64 rows → Standing ks xs ys masks rows size (replicate 256 0) (replicate 4 0)
+  standing-first C h I =
+      record {
+        ready = record {
+          claim = C;
+          states = h;
+          rows-inside = I;
+          words-there = length-replicate {A = ℕ} 256 0;
+          words-inside = λ e s k m. ap (λ (w : ℕ). bit w s) (zeros-at 256 e) ∙ no-bit s;
+        };
+        done-there = length-replicate {A = ℕ} 4 0;
+        good = λ e d. absurd (false≢true (sym (none-in 4 e) ∙ d));
+      }
+
+  -- in the end every entry is
+  pub every-word : (ws ds : List ℕ) → Swept 0 ws ds → (zs vs : List ℕ) → length zs ≡ length ks → Filled (λ e. getD ws e 0) zs (length zs) vs → vs ≡ words M t
+  every-word ws ds S zs vs q F =
+      let n = claim-length ks xs ys in
+      let m : length vs ≡ length ks = F .long ∙ q in
+      ext-getD 0 vs (words M t) (m ∙ sym (words-length M t ∙ n))
+      (λ e h. let l : e < length ks = omega (arith, m) in
+      F .below e (omega (arith, q))
+      ∙ by-bits size (own M t e) (getD ws e 0) (S .standing .good e (S .settled e (omega arith) l)) (λ s k. S .standing .ready .words-inside e s l k)
+      ∙ sym (words-at M t e (omega (arith, n))))
+
+-- the words of the first n entries, and what was there before unchanged beyond them
+pub first-written : {ks xs ys : List ℕ} {n : ℕ} {ws : List ℕ} → Given ks xs ys n ws → (masks : List ℕ) (marks : List (List ℕ)) (size : ℕ) (vs : List ℕ)
+    → vs ≡ wordsIn masks marks size (tableFrom (take n ks) (take n xs) (take n ys)) → vs ++ drop n ws ≡ written (wordsIn masks marks size (tableOf ks xs ys n)) ws
+first-written {ks} {xs} {ys} {n} {ws} G masks marks size vs q =
+    let e : vs ≡ wordsIn masks marks size (tableOf ks xs ys n) = q ∙ ap (wordsIn masks marks size) (first-entries G) in
+    let l : length vs ≡ n = ap length e ∙ words-length (plainModel masks marks size) (tableOf ks xs ys n) ∙ tableOf-length ks xs ys n in
+    ap (λ (k : ℕ). vs ++ drop k ws) (sym l) ∙ ap (λ (z : List ℕ). z ++ drop (length z) ws) e
