@@ -12,7 +12,7 @@ use Rattle.conditions.specs.WellFormed.{WellFormed}
 use Rattle.conditions.specs.WellFormedLaws.{free-fix}
 use Rattle.forming.specs.FormedLaws.{reads-either}
 use Rattle.blocks.specs.Iteration.{Block}
-use Rattle.entry_sets.specs.Counting.{Within, count, count-less, count-most, measure, measure-less, measure-same}
+use Rattle.entry_sets.specs.Counting.{Within, count, count-less, count-most, count-some, measure, measure-less, measure-same}
 
 module _ (t : Table) where
   -- the fixpoint that e is, if it is one, and those free in it are of one kind
@@ -152,13 +152,13 @@ module _ (t : Table) (wf : WellFormed t) where
           kept d (inr (inl k)) = ⊎-elim (λ p. inr (inr (subst⁻¹ (λ (u : ℕ). done′ u ≡ true) p s))) (λ r. inr (inl r)) (rest d k)
 
       -- either way the loop comes nearer to its end: fewer numbers outside the block, or as many and fewer met
-      pub grown-nearer : c < 256 → (b′ m′ : ℕ → Bool) → Grown t done b l c b′ m′ → measure (256 - count 256 b′) m′ < measure (256 - count 256 b) m
+      pub grown-nearer : c < 256 → (b′ m′ : ℕ → Bool) → Grown t done b l c b′ m′ → measure 256 (256 - count 256 b′) m′ < measure 256 (256 - count 256 b) m
       grown-nearer k b′ m′ N =
           let h = count-less 256 b b′ (N .block-old) c k (G .apart c i) (N .joined) in
-          measure-less (256 - count 256 b′) (256 - count 256 b) m′ m (omega (arith, h, count-most 256 b′))
+          measure-less 256 (256 - count 256 b′) (256 - count 256 b) m′ m (omega (arith, h, count-most 256 b′)) (count-most 256 m′) (count-some 256 m c k i)
 
-      pub settled-nearer : c < 256 → measure (256 - count 256 b) l < measure (256 - count 256 b) m
-      settled-nearer k = measure-same _ _ l m (omega arith) (count-less 256 l m (λ d j. less d j .0) c k (gone (l c) refl) i)
+      pub settled-nearer : c < 256 → measure 256 (256 - count 256 b) l < measure 256 (256 - count 256 b) m
+      settled-nearer k = measure-same 256 _ _ l m (omega arith) (count-less 256 l m (λ d j. less d j .0) c k (gone (l c) refl) i)
         where
           gone : (j : Bool) → l c ≡ j → l c ≡ false
           gone false j = j

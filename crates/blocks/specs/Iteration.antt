@@ -2,7 +2,7 @@
 use mathlib.Core.Path.{_≡_, refl, sym, ap, _∙_, subst, subst⁻¹}
 use mathlib.Core.Bool.{Bool, true, false, cond, true≢false}
 use mathlib.Core.Logic.{_⊎_, inl, inr}
-use Prim.Native.Nat.{ℕ, _-_, _<_, _≤_}
+use Prim.Native.Nat.{ℕ, _*_, _-_, _<_, _≤_}
 use native.Mathlib.Omega.{arith}
 use native.Mathlib.Decide.{decLe, ℕ-discrete}
 use Rattle.formula.specs.Table.{Table}
@@ -12,6 +12,8 @@ use Rattle.meaning.specs.States.{Model, StateSet, SameStates, start}
 use Rattle.meaning.specs.StateLaws.{same-sym, same-trans, Toward, toward-bounded, toward-both, start-first}
 use Rattle.meaning.specs.Bounds.{sum, sum-mono, sum-back}
 use Rattle.meaning.specs.Meaning.{own}
+use Rattle.bits.specs.Bits.{one}
+use Rattle.entry_sets.specs.Counting.{count, count-times}
 use Rattle.forming.specs.TowardLaws.{toward-trans, same-toward}
 use Rattle.forming.specs.Settled.{formed, Closes, closes-own}
 use Rattle.forming.specs.FormedLaws.{Reads, operand-reads, formed-same, formed-toward, formed-own}
@@ -38,6 +40,15 @@ module _ (M : Model) (t : Table) (σ : Fix) (done b : ℕ → Bool) where
 
   unfoldable pub left : ℕ → (ℕ → StateSet) → ℕ
   left n W = sum n (leftAt W)
+
+  -- at most every state for each set
+  pub left-most : (n : ℕ) (W : ℕ → StateSet) → left n W ≤ M .size * count n b
+  unfolding left leftAt
+  left-most n W = omega (arith, sum-mono n (leftAt W) (λ e. M .size * one (b e)) (λ e l. most e (b e) refl), count-times n (M .size) b)
+    where
+      most : (e : ℕ) (i : Bool) → b e ≡ i → cond i (M .size - toward-bounded (M .size) σ .weight (W e)) 0 ≤ M .size * one i
+      most e true q = omega arith
+      most e false q = omega arith
 
 module _ (M : Model) (t : Table) (wf : WellFormed t) (σ : Fix) (done b : ℕ → Bool) (K : Block t σ done b) where
   -- by where a set that is read stands

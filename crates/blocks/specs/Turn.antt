@@ -4,6 +4,7 @@ use mathlib.Core.List.{List}
 use mathlib.Core.Bool.{Bool, true, false, _||_, _&&_, true≢false, false≢true}
 use mathlib.Core.Logic.{_⊎_, inl, inr, ⊎-elim}
 use Prim.Native.Nat.{ℕ, _+_, _*_, _<_, _≤_}
+use native.Mathlib.Nat.{mul-add, mul-le-mul-left}
 use native.Mathlib.Omega.{arith}
 use native.Mathlib.Decide.{decLt, ℕ-discrete}
 use lib.ListN.{length, getD, set, length-set}
@@ -23,8 +24,8 @@ use Rattle.states.specs.BitLaws.{bits-same}
 use Rattle.states.specs.StateWords.{setsOf, by-bits}
 use Rattle.states.specs.PlainModel.{rowModel}
 use Rattle.forming.specs.Settled.{formed}
-use Rattle.blocks.specs.Iteration.{Block, Moving, Rests, left, moving-begin, moving-formed, onward, rests-woken, rests-same, moving-end, left-down, left-less}
-use Rattle.entry_sets.specs.Counting.{Within, count, count-less, measure, measure-less, measure-same}
+use Rattle.blocks.specs.Iteration.{Block, Moving, Rests, left, left-most, moving-begin, moving-formed, onward, rests-woken, rests-same, moving-end, left-down, left-less}
+use Rattle.entry_sets.specs.Counting.{Within, count, count-mono, count-less, count-some, measure, measure-less, measure-same}
 use Rattle.entry_sets.specs.Sets.{inSet, in-below, past-words, Removed, removed-less, removed-rest}
 use Rattle.dependencies.specs.Users.{Users}
 use Rattle.blocks.specs.Waking.{Woken}
@@ -166,8 +167,16 @@ module _ (ks xs ys masks rows : List ℕ) (size : ℕ) where
     pub waits : Within (inSet qs) (inSet bs)
     pub set-long : length qs ≡ 4
 
+  -- it falls with each turn, so no more words are formed than it is at first
   unfoldable pub ahead : Fix → List ℕ → List ℕ → List ℕ → List ℕ → ℕ
-  ahead σ ds bs ws qs = measure (left M t σ (inSet ds) (inSet bs) 256 (setsOf ws)) (inSet qs)
+  ahead σ ds bs ws qs = measure (count 256 (inSet bs)) (left M t σ (inSet ds) (inSet bs) 256 (setsOf ws)) (inSet qs)
+
+  -- b * (s * b + 1) for a block of b entries, all of which wait, over s states
+  pub ahead-most : (σ : Fix) (ds bs ws : List ℕ) → let b = count 256 (inSet bs) in ahead σ ds bs ws bs ≤ b * (size * b + 1)
+  unfolding ahead measure
+  ahead-most σ ds bs ws =
+      let b : ℕ = count 256 (inSet bs) in
+      omega (arith, mul-le-mul-left b (left-most M t σ (inSet ds) (inSet bs) 256 (setsOf ws)), mul-add b (size * b) 1)
 
   module _ (C : Claim ks xs ys) (σ : Fix) (ds bs : List ℕ) (K : Block t σ (inSet ds) (inSet bs)) (there : (c : ℕ) → inSet bs c ≡ true → c < length ks) where
     wf : WellFormed t
@@ -250,16 +259,17 @@ module _ (ks xs ys masks rows : List ℕ) (size : ℕ) where
           gone P true j = absurd (P e j .1 refl)
 
           quiet : (getD vs e 0 ≡ getD ws e 0) × ((c : ℕ) → inSet rs c ≡ true → (inSet qs c ≡ true) × (c ≡ e → ⊥))
-              → measure (left M t σ (inSet ds) (inSet bs) 256 (setsOf vs)) (inSet rs) < measure (left M t σ (inSet ds) (inSet bs) 256 (setsOf ws)) (inSet qs)
+              → ahead σ ds bs vs rs < ahead σ ds bs ws qs
           quiet z =
-              measure-same _ _ (inSet rs) (inSet qs) (left-down M t wf σ (inSet ds) (inSet bs) K 256 (setsOf ws) (setsOf vs) way)
+              measure-same _ _ _ (inSet rs) (inSet qs) (left-down M t wf σ (inSet ds) (inSet bs) K 256 (setsOf ws) (setsOf vs) way)
               (count-less 256 (inSet rs) (inSet qs) (λ c j. z .1 c j .0) e l (gone (z .1) (inSet rs e) refl) i)
 
           loud : (getD vs e 0 ≡ getD ws e 0 → ⊥) × ((c : ℕ) → c < 256 → inSet bs c ≡ true → inSet us (256 * e + c) ≡ true → inSet rs c ≡ true)
-              → measure (left M t σ (inSet ds) (inSet bs) 256 (setsOf vs)) (inSet rs) < measure (left M t σ (inSet ds) (inSet bs) 256 (setsOf ws)) (inSet qs)
+              → ahead σ ds bs vs rs < ahead σ ds bs ws qs
           loud z =
-              measure-less _ _ (inSet rs) (inSet qs)
+              measure-less _ _ _ (inSet rs) (inSet qs)
               (left-less M t wf σ (inSet ds) (inSet bs) K 256 (setsOf ws) (setsOf vs) way e l in-block (λ s. z .0 (word-back s)))
+              (count-mono 256 (inSet rs) (inSet bs) (iterating-next .waits)) (count-some 256 (inSet qs) e l i)
 
     pub iterating-last : (ws qs : List ℕ) → Iterating σ ds bs ws qs → ((c : ℕ) → inSet qs c ≡ false)
         → (e : ℕ) → (inSet bs e ≡ true) ⊎ (inSet ds e ≡ true) → SameStates size (setsOf ws e) (own M t e)

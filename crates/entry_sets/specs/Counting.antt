@@ -1,7 +1,8 @@
 -- how many numbers below n a test holds for, and the measure of a loop that takes one number of a set a turn
 use mathlib.Core.Path.{_≡_, refl}
-use mathlib.Core.Bool.{Bool, true, false}
-use Prim.Native.Nat.{ℕ, _+_, _*_, _-_, _<_, _≤_}
+use mathlib.Core.Bool.{Bool, true, false, false≢true}
+use Prim.Native.Nat.{ℕ, zero, suc, _+_, _*_, _<_, _≤_}
+use native.Mathlib.Nat.{mul-add, mul-suc, mul-le-mul-left}
 use native.Mathlib.Omega.{arith}
 use native.Mathlib.Decide.{decLe}
 use Rattle.bits.specs.Bits.{one}
@@ -40,14 +41,25 @@ count-less n p q h e l x y = go (decLe (count n q) (count n p))
         let z = sum-back n (λ c. one (p c)) (λ c. one (q c)) (λ c l. one-mono (p c) (q c) (h c)) w e l in
         let k : 1 ≤ 0 = rw (x, y) at z in absurd (omega (arith, k))
 
--- what is left, and then what waits; below 257 of which there are always
-unfoldable pub measure : ℕ → (ℕ → Bool) → ℕ
-measure left waits = 257 * left + count 256 waits
+pub count-some : (n : ℕ) (p : ℕ → Bool) (e : ℕ) → e < n → p e ≡ true → 0 < count n p
+count-some n p e l i = omega (arith, count-less n (λ _. false) p (λ c h. absurd (false≢true h)) e l refl i)
 
-pub measure-less : (m l : ℕ) (p q : ℕ → Bool) → m < l → measure m p < measure l q
-unfolding measure
-measure-less m l p q h = omega (arith, count-most 256 p, h)
+pub count-times : (n k : ℕ) (p : ℕ → Bool) → sum n (λ c. k * one (p c)) ≡ k * count n p
+unfolding count sum
+count-times zero k p = omega arith
+count-times (suc n) k p = omega (arith, count-times n k (λ c. p (suc c)), mul-add k (one (p 0)) (sum n (λ c. one (p (suc c)))))
 
-pub measure-same : (m l : ℕ) (p q : ℕ → Bool) → m ≤ l → count 256 p < count 256 q → measure m p < measure l q
-unfolding measure
-measure-same m l p q h k = omega (arith, h, k)
+-- what is left, and what waits: at most so many as are counted for each that is left
+unfoldable pub measure : ℕ → ℕ → (ℕ → Bool) → ℕ
+measure most left waits = most * left + count 256 waits
+
+module _ (most m l : ℕ) (p q : ℕ → Bool) where
+  -- less is left, and any may wait
+  pub measure-less : m < l → count 256 p ≤ most → 0 < count 256 q → measure most m p < measure most l q
+  unfolding measure
+  measure-less h j k = omega (arith, mul-le-mul-left most h, mul-suc most m)
+
+  -- no more is left, and one less waits
+  pub measure-same : m ≤ l → count 256 p < count 256 q → measure most m p < measure most l q
+  unfolding measure
+  measure-same h k = omega (arith, mul-le-mul-left most h)

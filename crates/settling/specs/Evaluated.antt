@@ -151,7 +151,7 @@ module _ (ks xs ys masks rows : List ℕ) (size : ℕ) where
     pub met-long : length ms ≡ 4
 
   unfoldable pub unmet : List ℕ → List ℕ → ℕ
-  unmet bs ms = measure (256 - count 256 (inSet bs)) (inSet ms)
+  unmet bs ms = measure 256 (256 - count 256 (inSet bs)) (inSet ms)
 
   module _ (x : ℕ) (l : x < length ks) (ds : List ℕ) where
     pub meeting-first : (ws : List ℕ) → Standing ws ds → Known ks xs ys ds x → 7 < getD ks x 0 → getD ks x 0 < 10 → (bs ms : List ℕ)
