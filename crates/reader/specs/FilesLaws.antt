@@ -2,10 +2,12 @@
 use mathlib.Core.Path.{_≡_, refl, sym, ap, _∙_}
 use mathlib.Core.List.{List}
 use Prim.Native.Nat.{ℕ, _<_}
+use native.Mathlib.Omega.{arith}
 use lib.ListN.{length}
 use Rattle.verdict.specs.Verdict as verdicts
 use Rattle.verdict.specs.Verdict.{Verdict, accepted}
 use Rattle.verdict.specs.VerdictLaws.{accepted-not-refused}
+use Rattle.verdict.specs.Shown.{shown}
 use Rattle.encoding.specs.File.{Reading, refused, good}
 use Rattle.encoding.specs.Outcome.{verdictOf, RefusedWith}
 use Rattle.formula.specs.Claim.{Claim, Derivation}
@@ -19,8 +21,11 @@ use Rattle.proofs.specs.ProofParts.{kindClaim}
 use Rattle.proofs.specs.ProofKinds.{by-kinds}
 use Rattle.nodes.specs.ProofDecode.{proofIn, Decodes}
 use Rattle.nodes.specs.ProofGood.{good-decoded}
-use Rattle.reader.specs.Files.{firstly, andThen, formed, readFormed, besideClaim, files}
-use Rattle.reader.specs.Found.{FilesGot}
+use Rattle.reader.specs.Files.{Files, firstly, andThen, formed, readFormed, besideClaim, files}
+use Rattle.reader.specs.Found.{FilesGot, FilesTell, Unread, Tells}
+use Rattle.reader.specs.declared.FilesRead.{FilesRead}
+use Rattle.reader.specs.declared.FilesRead.the-variants.{Read, Refused}
+use Rattle.reader.specs.declared.Found.{Found}
 
 -- what a reading was whose verdict is known
 pub refused-reading : {A : Type 0} (r : Reading A) {n q : ℕ} → verdictOf r ≡ verdicts.refused n q → r ≡ refused n q
@@ -96,3 +101,34 @@ module _ (claim proof : List ℕ) where
         held = g .held;
         nodes = e ∙ sym (ap length (good-decoded (kindClaim ks n) proof (read .was) .same));
       }
+
+-- in an arm that knows which answer it is
+module _ {r : Reading (Files Derivation)} (ks xs ys ms : List ℕ) {w : FilesRead} (t : FilesTell r ks xs ys ms w) where
+  pub files-as-read : {n k m : ℕ} → w ≡ Read n k m → FilesGot r ks xs ys ms n k m
+  files-as-read e = rw e at t
+
+  pub files-as-refused : {n q : ℕ} → w ≡ Refused n q → RefusedWith r n q
+  files-as-refused e = rw e at t
+
+-- what was found, by value
+module _ (r : Reading (Files Derivation)) (f : Found) where
+  pub found-unread : {n q : ℕ} → RefusedWith r n q → Unread n q f → Tells r f
+  found-unread u k = rw (u .was) k
+
+  pub found-read : {ks xs ys ms : List ℕ} {n k m : ℕ} → FilesGot r ks xs ys ms n k m → shown (f .verdict) ≡ accepted → f .entries ≡ n → f .listed ≡ k → f .nodes ≡ m → f .members ≡ ms → Tells r f
+  found-read {ks} {xs} {ys} g v a b c d = rw (g .was) (record {
+    verdict = v;
+    entries = a ∙ sym (tableOf-length ks xs ys _) ∙ ap (λ (c : Claim). length (c .entries)) (g .held .same);
+    nodes = c ∙ g .nodes;
+    members = rw (b, d) (ap (λ (c : Claim). c .members) (g .held .same));
+    few = omega (arith, g .held .members);
+    room = rw (b, d) (g .held .listed);
+  })
+
+-- whatever stands first, when it refuses
+module _ (before : Verdict) (next : Reading (Files Derivation)) (f : Found) where
+  pub first-unread : {n q : ℕ} → before ≡ verdicts.refused n q → Unread n q f → Tells (firstly before next) f
+  first-unread h u = rw h u
+
+  pub first-passed : before ≡ accepted → Tells next f → Tells (firstly before next) f
+  first-passed h d = rw h d

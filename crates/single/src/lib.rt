@@ -1,18 +1,20 @@
 // The first fault of two files, or acceptance: claim, table, proof and rules, in that order, on memory of its own.
 ghost use mathlib.Core.Path.{_≡_};
-ghost use lib.ListN.{take};
+ghost use Prim.Native.Nat.{_≤_};
 ghost use Rattle.verdict.specs.Shown.{shown};
-ghost use Rattle.formula.specs.Plain.{tableOf};
-ghost use Rattle.conditions.specs.WellFormed.{WellFormed};
-ghost use Rattle.demands.specs.Check.{withProof, withTable, answer, verdict};
-ghost use Rattle.single.specs.Compose.{MembersHeld};
-use claims::read_claim;
-use conditions::judge;
-use nodes::read_proof;
+ghost use Rattle.formula.specs.Held.{heldClaim};
+ghost use Rattle.formula.specs.NodeColumns.{Columns};
+ghost use Rattle.calculus.specs.Judge.{judge as judged};
+ghost use Rattle.demands.specs.Check.{verdict};
+ghost use Rattle.laid.specs.Readable.{Readable, proofAt};
+use nodes::decode_proof;
+use reader::FilesRead;
+use reader::read_files;
+use rules::judge::judge;
 use verdict::Verdict;
 
-// 30 to 34: the proof's bytes; then 35 to 39: the rules.
-fn judge_proof_file(
+// 35 to 39 over a proof that was read, in columns with room for its nodes.
+fn judge_in(
     proof: &[u8],
     kinds: &[u8; 256],
     a: &[u16; 256],
@@ -20,46 +22,71 @@ fn judge_proof_file(
     entries: usize,
     members: &[u16; 24],
     listed: usize,
+    nodes: usize,
+    rules: &mut [u8],
+    links: &mut [u16],
+    starts: &mut [u16],
+    codes: &mut [u16],
 ) -> Verdict
-    requires { ⌜ MembersHeld entries (now members) listed × WellFormed (tableOf (now kinds) (now a) (now b) entries) ⌝ }
-    ensures { λ r. ⌜ shown r ≡ answer (withProof (tableOf (now (kinds .entry)) (now (a .entry)) (now (b .entry)) entries)
-        (take listed (now (members .entry))) (now (proof .entry))) ⌝ }
+    requires { ⌜ Readable (now kinds) (now a) (now b) entries (now members) listed (now proof) nodes ×
+        Columns nodes (now rules) (now links) (now starts) (now codes) ⌝ }
+    ensures { λ r. ⌜ shown r ≡ judged (heldClaim (now (kinds .entry)) (now (a .entry)) (now (b .entry)) entries (now (members .entry)) listed)
+        (proofAt (now (proof .entry))) ⌝ }
 {
-    let mut rules = [0u8; 1024];
-    let mut links = [0u16; 4096];
-    let mut starts = [0u16; 1025];
-    let mut codes = [0u16; 24576];
-    let read = read_proof(
+    decode_proof(proof, rules, links, starts, codes);
+    judge(
+        kinds,
+        a,
+        b,
+        entries,
+        members,
+        listed,
+        rules,
+        links,
+        starts,
+        codes,
+        nodes,
+    )
+}
+
+// Room for 32 nodes: a small proof clears no more.
+fn judge_few(
+    proof: &[u8],
+    kinds: &[u8; 256],
+    a: &[u16; 256],
+    b: &[u16; 256],
+    entries: usize,
+    members: &[u16; 24],
+    listed: usize,
+    nodes: usize,
+) -> Verdict
+    requires { ⌜ Readable (now kinds) (now a) (now b) entries (now members) listed (now proof) nodes × (nodes ≤ 32) ⌝ }
+    ensures { λ r. ⌜ shown r ≡ judged (heldClaim (now (kinds .entry)) (now (a .entry)) (now (b .entry)) entries (now (members .entry)) listed)
+        (proofAt (now (proof .entry))) ⌝ }
+{
+    let mut rules = [0u8; 32];
+    let mut links = [0u16; 128];
+    let mut starts = [0u16; 33];
+    let mut codes = [0u16; 768];
+    judge_in(
         proof,
         kinds,
+        a,
+        b,
         entries,
+        members,
+        listed,
+        nodes,
         &mut rules,
         &mut links,
         &mut starts,
         &mut codes,
-    );
-    let verdict = read.verdict;
-    let nodes = read.nodes;
-    match verdict {
-        Verdict::Refused { number, place } => Verdict::Refused { number, place },
-        Verdict::Accepted => rules::judge::judge(
-            kinds,
-            a,
-            b,
-            entries,
-            members,
-            listed,
-            &rules,
-            &links,
-            &starts,
-            &codes,
-            nodes,
-        ),
-    }
+    )
 }
 
-// 20 to 23 over the claim's table, and then the proof.
-fn judge_table(
+// Room for 1,024 nodes. A function that may call itself is not put into its caller, so its 60,000 bytes are no part of the frame that every
+// call takes, also one that refuses at its sixth byte; nobody asks for `again`.
+fn judge_many(
     proof: &[u8],
     kinds: &[u8; 256],
     a: &[u16; 256],
@@ -67,15 +94,34 @@ fn judge_table(
     entries: usize,
     members: &[u16; 24],
     listed: usize,
+    nodes: usize,
+    again: bool,
 ) -> Verdict
-    requires { ⌜ MembersHeld entries (now members) listed ⌝ }
-    ensures { λ r. ⌜ shown r ≡ answer (withTable (tableOf (now (kinds .entry)) (now (a .entry)) (now (b .entry)) entries)
-        (take listed (now (members .entry))) (now (proof .entry))) ⌝ }
+    requires { ⌜ Readable (now kinds) (now a) (now b) entries (now members) listed (now proof) nodes ⌝ }
+    ensures { λ r. ⌜ shown r ≡ judged (heldClaim (now (kinds .entry)) (now (a .entry)) (now (b .entry)) entries (now (members .entry)) listed)
+        (proofAt (now (proof .entry))) ⌝ }
 {
-    match judge(kinds, a, b, entries) {
-        Verdict::Refused { number, place } => Verdict::Refused { number, place },
-        Verdict::Accepted => judge_proof_file(proof, kinds, a, b, entries, members, listed),
+    if again {
+        return judge_many(proof, kinds, a, b, entries, members, listed, nodes, false);
     }
+    let mut rules = [0u8; 1024];
+    let mut links = [0u16; 4096];
+    let mut starts = [0u16; 1025];
+    let mut codes = [0u16; 24576];
+    judge_in(
+        proof,
+        kinds,
+        a,
+        b,
+        entries,
+        members,
+        listed,
+        nodes,
+        &mut rules,
+        &mut links,
+        &mut starts,
+        &mut codes,
+    )
 }
 
 // The first fault of two files, or acceptance.
@@ -86,12 +132,30 @@ pub fn judge_files(claim: &[u8], proof: &[u8]) -> Verdict
     let mut a = [0u16; 256];
     let mut b = [0u16; 256];
     let mut members = [0u16; 24];
-    let read = read_claim(claim, &mut kinds, &mut a, &mut b, &mut members);
-    let verdict = read.verdict;
-    let entries = read.entries;
-    let listed = read.members;
-    match verdict {
-        Verdict::Refused { number, place } => Verdict::Refused { number, place },
-        Verdict::Accepted => judge_table(proof, &kinds, &a, &b, entries, &members, listed),
+    match read_files(claim, proof, &mut kinds, &mut a, &mut b, &mut members) {
+        FilesRead::Refused { number, place } => Verdict::Refused {
+            number: number as u16,
+            place: place as u16,
+        },
+        FilesRead::Read {
+            entries,
+            listed,
+            nodes,
+        } => {
+            if nodes <= 32 {
+                return judge_few(proof, &kinds, &a, &b, entries, &members, listed, nodes);
+            }
+            judge_many(
+                proof,
+                &kinds,
+                &a,
+                &b,
+                entries,
+                &members,
+                listed,
+                nodes,
+                1024 < nodes,
+            )
+        }
     }
 }
