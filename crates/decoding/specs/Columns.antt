@@ -4,21 +4,20 @@ use mathlib.Core.List.{List, []}
 use Prim.Native.Nat.{ℕ, zero, suc, _<_, _≤_}
 use lib.ListN.{length}
 use Rattle.verdict.specs.Lists.{written}
-use Rattle.encoding.specs.File.{Reading}
-use Rattle.formula.specs.Table.{Table}
+use Rattle.encoding.specs.File.{Reading, refused, good}
+use Rattle.formula.specs.Claim.{Claim}
+use Rattle.formula.specs.Plain.{tableOf}
 use Rattle.formula.specs.Nodes.{Proof}
 use Rattle.formula.specs.Records.{nodeRecords, allCodes}
 use Rattle.formula.specs.NodeColumns.{rulesOf, linksOf, startsOf}
-use Rattle.claims.specs.ClaimWalk.{kindsAfter, aAfter, bAfter}
 use Rattle.nodes.specs.ProofDecode.{proofIn, Decodes}
 use Rattle.records.specs.Records.{shownNodes}
 use Rattle.records.specs.declared.Node.{Node}
 
--- what a claim file leaves in the columns of entries: its whole table, or nothing where it is no claim
-pub record ClaimColumns (g : Reading (Table × List ℕ)) (ks₀ xs₀ ys₀ ks xs ys : List ℕ) : Type 0 where
-  pub kinds : ks ≡ kindsAfter g ks₀
-  pub a : xs ≡ aAfter g xs₀
-  pub b : ys ≡ bAfter g ys₀
+-- the columns of entries hold the table of a claim file, and whatever where it is no claim
+abbrev pub ClaimColumns : Reading Claim → List ℕ → List ℕ → List ℕ → Type 0
+ClaimColumns (refused n q) ks xs ys = Unit
+ClaimColumns (good c) ks xs ys = tableOf ks xs ys (length (c .entries)) ≡ c .entries
 
 -- the arrays of nodes
 pub record NodeColumns (rs ls ss : List ℕ) : Type 0 where

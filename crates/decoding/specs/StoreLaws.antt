@@ -1,5 +1,5 @@
 -- what the stores of a claim's entries and of a proof's nodes leave in lent records
-use mathlib.Core.Path.{_≡_, refl, ap, _∙_}
+use mathlib.Core.Path.{_≡_, refl, sym, ap, _∙_}
 use mathlib.Core.List.{List, [], _∷_}
 use Prim.Native.Nat.{ℕ, zero, suc, _+_, _<_, _≤_}
 use native.Mathlib.Nat.{le-of-suc-le-suc}
@@ -9,8 +9,9 @@ use lib.ListN.{length, getD, take, drop, length-append, length-drop}
 use Rattle.verdict.specs.Lists.{valuesFrom, written}
 use Rattle.encoding.specs.File.{Reading, refused, good}
 use Rattle.formula.specs.Table.{Table}
-use Rattle.formula.specs.Plain.{tableOf}
-use Rattle.formula.specs.Columns.{table-of-columns}
+use Rattle.formula.specs.Claim.{Claim}
+use Rattle.formula.specs.Plain.{tableOf, tableOf-length}
+use Rattle.formula.specs.Held.{heldClaim}
 use Rattle.formula.specs.Nodes.{Proof, node}
 use Rattle.formula.specs.PlainNodes.{proofOf}
 use Rattle.formula.specs.Records.{NodeRecord, nodeRecords, allCodes}
@@ -18,6 +19,9 @@ use Rattle.formula.specs.CodeCounts.{few-codes}
 use Rattle.encoding.specs.Places.{wordAt}
 use Rattle.formula.specs.NodeColumns.{start-stands, proof-of-columns}
 use Rattle.claims.specs.ReadClaim.{readClaim}
+use Rattle.claims.specs.ClaimWalk.{ClaimTells}
+use Rattle.claims.specs.declared.ClaimRead.{ClaimRead}
+use Rattle.claims.specs.declared.ClaimRead.the-variants.{Read, Refused}
 use Rattle.nodes.specs.ProofDecode.{wordsAt-length, codesPlace, codeCount, nodeEnd, nodeAt, nodesAt, NodesFit, one-more, proofIn}
 use Rattle.records.specs.Records.{shownEntry, shownNode, shownEntries, shownNodes, entriesOf, nodesOf, CountsFit}
 use Rattle.records.specs.Shown.{map-written, entries-shown, nodes-shown}
@@ -33,18 +37,27 @@ take-values f e (suc n) zero h = absurd (omega arith)
 take-values f e (suc n) (suc k) h = ap (λ (l : List _). f e ∷ l) (take-values f (suc e) n k (le-of-suc-le-suc h))
 
 -- the first entries of the columns are those of the claim's table
-columns-table : (g : Reading (Table × List ℕ)) (n : ℕ) {ks₀ xs₀ ys₀ ks xs ys : List ℕ} → ClaimColumns g ks₀ xs₀ ys₀ ks xs ys → n ≤ length (tableRead g) → tableOf ks xs ys n ≡ take n (tableRead g)
+columns-table : (g : Reading Claim) (n : ℕ) (ks xs ys : List ℕ) → ClaimColumns g ks xs ys → n ≤ length (tableRead g) → tableOf ks xs ys n ≡ take n (tableRead g)
 unfolding tableOf valuesFrom
-columns-table (refused k q) zero c h = refl
-columns-table (refused k q) (suc n) c h = absurd (omega arith)
-columns-table (good t) n {ks₀} {xs₀} {ys₀} c h =
-    rw (c .kinds, c .a, c .b) (take-values _ 0 n (length (t .0)) h ∙ ap (take n) (table-of-columns (t .0) ks₀ xs₀ ys₀))
+columns-table (refused k q) zero ks xs ys c h = refl
+columns-table (refused k q) (suc n) ks xs ys c h = absurd (omega arith)
+columns-table (good t) n ks xs ys c h = take-values _ 0 n (length (t .entries)) h ∙ ap (take n) c
 
-pub claim-stored : (claim : List ℕ) (n : ℕ) (es es′ : List Entry) {ks₀ xs₀ ys₀ ks xs ys : List ℕ} → ClaimColumns (readClaim claim) ks₀ xs₀ ys₀ ks xs ys → n ≤ length (tableIn claim) → es′ ≡ written (entriesOf ks xs ys n) es
+-- whatever the walk over the claim answered
+pub columns-held : (r : Reading Claim) (ks xs ys ms : List ℕ) (w : ClaimRead) → ClaimTells r ks xs ys ms w → ClaimColumns r ks xs ys
+columns-held r ks xs ys ms (Read n k) g = rw (g .was) (go (g .held .same))
+  where
+    go : heldClaim ks xs ys n ms k ≡ g .claim → tableOf ks xs ys (length (g .claim .entries)) ≡ g .claim .entries
+    go e =
+        let t : tableOf ks xs ys n ≡ g .claim .entries = ap (λ (c : Claim). c .entries) e in
+        ap (tableOf ks xs ys) (sym (ap length t) ∙ tableOf-length ks xs ys n) ∙ t
+columns-held r ks xs ys ms (Refused n q) u = rw (u .was) tt
+
+pub claim-stored : (claim : List ℕ) (n : ℕ) (es es′ : List Entry) (ks xs ys : List ℕ) → ClaimColumns (readClaim claim) ks xs ys → n ≤ length (tableIn claim) → es′ ≡ written (entriesOf ks xs ys n) es
     → shownEntries es′ ≡ written (take n (tableIn claim)) (shownEntries es)
 unfolding tableIn
-claim-stored claim n es es′ {ks = ks} {xs = xs} {ys = ys} c h e =
-    ap shownEntries e ∙ map-written shownEntry (entriesOf ks xs ys n) es ∙ ap (λ (t : Table). written t (shownEntries es)) (entries-shown ks xs ys n ∙ columns-table (readClaim claim) n c h)
+claim-stored claim n es es′ ks xs ys c h e =
+    ap shownEntries e ∙ map-written shownEntry (entriesOf ks xs ys n) es ∙ ap (λ (t : Table). written t (shownEntries es)) (entries-shown ks xs ys n ∙ columns-table (readClaim claim) n ks xs ys c h)
 
 -- ---- nodes
 -- every node of a file that decodes has at most 24 codes

@@ -18,8 +18,7 @@ use records::store_nodes;
 // The table of a claim in columns.
 fn claim_columns(claim: &[u8], kinds: &mut [u8; 256], a: &mut [u16; 256], b: &mut [u16; 256])
     requires { ⌜ EntryArrays (now kinds) (now a) (now b) ⌝ }
-    ensures { λ _. ⌜ ClaimColumns (readClaim (now (claim .entry))) (now (kinds .entry)) (now (a .entry)) (now (b .entry)) (now (kinds .exit))
-        (now (a .exit)) (now (b .exit)) ⌝ }
+    ensures { λ _. ⌜ ClaimColumns (readClaim (now (claim .entry))) (now (kinds .exit)) (now (a .exit)) (now (b .exit)) ⌝ }
 {
     let mut members = [0u16; 24];
     read_claim(claim, kinds, a, b, &mut members);

@@ -27,7 +27,7 @@ use Rattle.kept.specs.Fixpoint.{fixpoint-kept}
 pub record Judged (ks xs ys : List ℕ) (n : ℕ) (rs ls ss cs : List ℕ) (m : ℕ) : Type 0 where
   pub entries : n ≤ 256
   pub columns : Columns m rs ls ss cs
-  pub rising : (v : ℕ) → v < m → (getD ss v 0 ≤ getD ss (v + 1) 0) × (getD ss (v + 1) 0 ≤ 24 * m)
+  pub rising : (v : ℕ) → v < m → (getD ss v 0 ≤ getD ss (v + 1) 0) × (getD ss (v + 1) 0 ≤ length cs)
   pub well : WellFormed (tableOf ks xs ys n)
   pub members : (v : ℕ) → v < m → Entries n (codesAt ss cs v)
   pub tree : Tree (proofOf rs ls ss cs m)
@@ -63,7 +63,7 @@ module _ {ks xs ys : List ℕ} {n : ℕ} {rs ls ss cs : List ℕ} {m : ℕ} (J :
     room = omega (arith, J .columns .starts);
     span = record {
       order = J .rising v real .0;
-      long = omega (arith, J .rising v real .1, J .columns .codes);
+      long = J .rising v real .1;
       small = λ c e. omega (arith, J .members v real c e, J .entries);
     };
   }

@@ -84,12 +84,12 @@ module _ {ks xs ys : List ℕ} {n : ℕ} {ms : List ℕ} {k : ℕ} {s : List ℕ
   -- columns that hold the file's nodes, their codes one after the other
   module _ {rs ls ss cs : List ℕ} (columns : Columns m rs ls ss cs) (same : proofOf rs ls ss cs m ≡ proofIn s)
       (starts : (v : ℕ) → v ≤ m → getD ss v 0 ≡ length (allCodes (take v (proofIn s)))) where
-    rising : (v : ℕ) → v < m → (getD ss v 0 ≤ getD ss (v + 1) 0) × (getD ss (v + 1) 0 ≤ 24 * m)
+    rising : (v : ℕ) → v < m → (getD ss v 0 ≤ getD ss (v + 1) 0) × (getD ss (v + 1) 0 ≤ length cs)
     rising v l =
         let here = starts v (omega arith) in
         let next = starts (v + 1) (omega arith) in
         let more : length (allCodes (take v (proofIn s))) ≤ length (allCodes (take (v + 1) (proofIn s))) = rw add-one (more-codes (proofIn s) v) in
-        (omega (arith, here, next, more), omega (arith, next, few-codes (proofIn s) (codes-few (r .file)) (v + 1)))
+        (omega (arith, here, next, more), omega (arith, next, few-codes (proofIn s) (codes-few (r .file)) (v + 1), columns .codes))
 
     inside : (v : ℕ) → v < m → Entries n (codesAt ss cs v)
     inside v l x h =

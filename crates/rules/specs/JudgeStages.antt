@@ -98,7 +98,7 @@ pub record Laid (ks xs ys : List ℕ) (n : ℕ) (rs ls ss cs : List ℕ) (m : �
   pub entries : n ≤ 256
   pub some : 1 ≤ m
   pub columns : Columns m rs ls ss cs
-  pub rising : (v : ℕ) → v < m → (getD ss v 0 ≤ getD ss (v + 1) 0) × (getD ss (v + 1) 0 ≤ 24 * m)
+  pub rising : (v : ℕ) → v < m → (getD ss v 0 ≤ getD ss (v + 1) 0) × (getD ss (v + 1) 0 ≤ length cs)
   pub well : WellFormed (tableOf ks xs ys n)
   pub members : (v : ℕ) → v < m → Entries n (codesAt ss cs v)
 

@@ -4,7 +4,7 @@ use mathlib.Core.List.{List, [], _∷_, _++_, append-assoc}
 use Prim.Native.Nat.{ℕ, zero, suc, _+_, _<_, _≤_}
 use native.Mathlib.Nat.{le-of-suc-le-suc}
 use native.Mathlib.Omega.{arith}
-use lib.ListN.{length, getD, take, drop, length-map, length-drop, take-append-drop}
+use lib.ListN.{length, getD, take, drop, replicate, length-map, length-drop, length-append, length-replicate, take-append-drop}
 use lib.Seq.{length-take-le, take-add, take-append-seam, drop-append-seam}
 use Rattle.verdict.specs.Verdict as verdicts
 use Rattle.verdict.specs.Verdict.{Verdict, accepted}
@@ -17,7 +17,7 @@ use Rattle.formula.specs.PlainNodes.{proofOf}
 use Rattle.formula.specs.Records.{NodeRecord, nodeRecords, allCodes}
 use Rattle.calculus.specs.Given.{Given}
 use Rattle.calculus.specs.Judge.{judge}
-use Rattle.records.specs.Records.{shownNode, firstEntries, firstNodes, startColumn, total, EntriesLoaded, NodesLoaded}
+use Rattle.records.specs.Records.{shownNode, firstEntries, firstNodes, ruleColumn, linkColumn, startColumn, total, EntriesLoaded, NodesLoaded}
 use Rattle.records.specs.Shown.{loaded-table, loaded-proof}
 use Rattle.records.specs.declared.Entry.{Entry}
 use Rattle.records.specs.declared.Node.{Node}
@@ -83,6 +83,13 @@ take-all (x ∷ l) = ap (λ (r : List _). x ∷ r) (take-all l)
 first-many : (vs : List Node) (m : ℕ) → m ≤ length vs → length (firstNodes vs m) ≡ m
 first-many vs m h = length-map (take m vs) shownNode ∙ length-take-le m vs h
 
+long : (new old : List ℕ) → length old ≤ length (written new old)
+long new old = omega (arith, length-append new (drop (length new) old), length-drop (length new) old)
+
+-- room for 1,024 nodes
+pub cleared : (1024 ≤ length {A = ℕ} (replicate 1024 0)) × (4096 ≤ length {A = ℕ} (replicate 4096 0)) × (1024 < length {A = ℕ} (replicate 1025 0))
+cleared = (omega (arith, length-replicate {A = ℕ} 1024 0), omega (arith, length-replicate {A = ℕ} 4096 0), omega (arith, length-replicate {A = ℕ} 1025 0))
+
 -- ---- columns that were loaded from records
 module _ {f : Found} {vs : List Node} {cs : List ℕ} (fits : FitsNodes f vs cs) {rs₀ ls₀ ss₀ rs ls ss : List ℕ} (loaded : NodesLoaded vs (f .nodes) rs₀ ls₀ ss₀ rs ls ss) where
   abbrev here : List NodeRecord
@@ -94,23 +101,29 @@ module _ {f : Found} {vs : List Node} {cs : List ℕ} (fits : FitsNodes f vs cs)
       ap (λ (l : List ℕ). proofOf rs ls ss l (f .nodes)) (sym (standing-codes here cs enough))
       ∙ loaded-proof vs (f .nodes) (standing here cs) cs (sym (standing-records here cs enough)) (standing-length here cs ∙ first-many vs (f .nodes) (fits .there)) loaded
 
-  rising : (v : ℕ) → v < f .nodes → (getD ss v 0 ≤ getD ss (v + 1) 0) × (getD ss (v + 1) 0 ≤ 24576)
-  rising v l =
+  rising : 24576 ≤ length cs → (v : ℕ) → v < f .nodes → (getD ss v 0 ≤ getD ss (v + 1) 0) × (getD ss (v + 1) 0 ≤ length cs)
+  rising room v l =
       let many = first-many vs (f .nodes) (fits .there) in
       let at : (w : ℕ) → w ≤ f .nodes → getD ss w 0 ≡ 0 + total (take w here) = λ w k. ap (λ (x : List ℕ). getD x w 0) (loaded .starts) ∙ start-at 0 here (drop (length (startColumn 0 here)) ss₀) w (omega (arith, many)) in
       let all : total (take (length here) here) ≡ total here = ap total (take-all here) in
       (omega (arith, at v (omega arith), at (v + 1) (omega arith), total-rises here v (v + 1) (omega arith)), omega (arith, at (v + 1) (omega arith), total-rises here (v + 1) (length here) (omega (arith, many)), all, fits .codes))
 
   -- what may be judged as it stands may be judged as columns
-  pub laid-out : {ks xs ys : List ℕ} → f .entries ≤ 256 → Judgeable f (tableOf ks xs ys (f .entries)) (standing here cs) cs → shown (f .verdict) ≡ accepted → LaidOut f ks xs ys rs ls ss cs
-  laid-out few may h =
+  pub laid-out : {ks xs ys : List ℕ} → (1024 ≤ length rs₀) × (4096 ≤ length ls₀) × (1024 < length ss₀) → f .entries ≤ 256 → Judgeable f (tableOf ks xs ys (f .entries)) (standing here cs) cs → shown (f .verdict) ≡ accepted → LaidOut f ks xs ys rs ls ss cs
+  laid-out (rules, links, starts) few may h =
       let ok = may h in
       record {
         laid = record {
           entries = few;
-          nodes = (ok .some, fits .nodes);
-          codes = ok .codes;
-          rising = rising;
+          some = ok .some;
+          columns = record {
+            few = fits .nodes;
+            rules = omega (arith, fits .nodes, ap length (loaded .rules), long (ruleColumn here) rs₀);
+            links = omega (arith, fits .nodes, ap length (loaded .links), long (linkColumn here) ls₀);
+            starts = omega (arith, fits .nodes, ap length (loaded .starts), long (startColumn 0 here) ss₀);
+            codes = omega (arith, fits .nodes, ok .codes);
+          };
+          rising = rising (ok .codes);
           well = ok .well;
           given = subst (Given _) (sym (loaded-stands (ok .codes))) (ok .given);
         };

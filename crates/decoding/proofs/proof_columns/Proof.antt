@@ -2,6 +2,9 @@
 use Prim.Native.Nat.{_<_}
 use native.Mathlib.Omega.{arith}
 use borrow.Author.Needs.{needs}
+use Rattle.formula.specs.NodeColumns.{fewer}
+use Rattle.encoding.specs.Places.{wordAt}
+use Rattle.nodes.specs.ProofDecode.{nodesAt-length}
 use Rattle.decoding.specs.ColumnsLaws.{no-columns, all-columns}
 use Rattle.decoding.proofs.proof_columns.Statement.{statement}
 use Rattle.decoding.proofs.proof_columns.Tie as tie
@@ -20,9 +23,11 @@ returns c = no-columns (c .before .before .before .args .count) (c .before .befo
 decode-proof-requires : tie.Need-decode-proof-requires
 decode-proof-requires c κs =
     let left = c .before .before .before .before in
-    let (counted, columns, room) = start left .pre in (
-      counted .decodes (some left),
-      record { rules = columns .rules; links = columns .links; starts = columns .starts; codes = room (some left) },
+    let (counted, columns, room) = start left .pre in
+    let d = counted .decodes (some left) in
+    let s = start left .args .proof .now in (
+      d,
+      fewer {m = 1024} (omega (arith, d .few, nodesAt-length s 6 (wordAt s 4))) (record { few = omega arith; rules = omega (arith, columns .rules); links = omega (arith, columns .links); starts = omega (arith, columns .starts); codes = room (some left) }),
     )
 
 same-length : tie.Need-same-length

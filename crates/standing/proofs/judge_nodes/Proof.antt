@@ -53,7 +53,7 @@ use Rattle.records.specs.declared.Node.{Node}
 use Rattle.records.proofs.Node as T
 use Rattle.reader.specs.Found.{ruled}
 use Rattle.standing.specs.Standing.{standing, FitsNodes, Judgeable, LaidOut}
-use Rattle.standing.specs.StandingLaws.{laid-out, judged-alike}
+use Rattle.standing.specs.StandingLaws.{cleared, laid-out, judged-alike}
 use Rattle.reader.specs.declared.Found.{Found}
 use Rattle.reader.proofs.Found as F
 use Rattle.reader.proofs.Found.Laws as F′
@@ -207,7 +207,7 @@ module _ {M : Type 1} (𝓤 : URA M) (H : Heap 𝓤) (A : Atoms 𝓤) (W : Given
         move ! (45 ∷ []) $ use1 W (‵ Own-kinds ⊛ ‵ Own-kinds) (shr-copy 𝓤 H A W (named 2) κ₂ (Array u8 256) .twice kinds (ptr-vals kinds)) $ split ! $
         move ! (48 ∷ []) $ use1 W (‵ Own-a ⊛ ‵ Own-a) (shr-copy 𝓤 H A W (named 3) κ₃ (Array u16 256) .twice a (ptr-vals a)) $ split ! $
         move ! (51 ∷ []) $ use1 W (‵ Own-b ⊛ ‵ Own-b) (shr-copy 𝓤 H A W (named 4) κ₄ (Array u16 256) .twice b (ptr-vals b)) $ split ! $
-        move ! (6 ∷ 4 ∷ 2 ∷ 0 ∷ 11 ∷ 12 ∷ 13 ∷ 50 ∷ 51 ∷ 52 ∷ 53 ∷ 8 ∷ 9 ∷ 10 ∷ []) $ cut (rule-on-passed l₇ l₈ l₉ r (ws-fetch .1 .1 .0, (ws-fetch .1 .1 .1 .0, ws-fetch .1 .1 .1 .1 .0))) (raw (Rule 𝓤 H A mem run .pre (to-rule-on l₇ l₈ l₉ r (ws-fetch .1 .1 .0, (ws-fetch .1 .1 .1 .0, ws-fetch .1 .1 .1 .1 .0)))) ∷ []) _ (goes-rule-on l₇ l₈ l₉ r (ws-fetch .1 .1 .0, (ws-fetch .1 .1 .1 .0, ws-fetch .1 .1 .1 .1 .0)) (laid-out (asked .1) loaded (asked .0) (asked .2))) $
+        move ! (6 ∷ 4 ∷ 2 ∷ 0 ∷ 11 ∷ 12 ∷ 13 ∷ 50 ∷ 51 ∷ 52 ∷ 53 ∷ 8 ∷ 9 ∷ 10 ∷ []) $ cut (rule-on-passed l₇ l₈ l₉ r (ws-fetch .1 .1 .0, (ws-fetch .1 .1 .1 .0, ws-fetch .1 .1 .1 .1 .0))) (raw (Rule 𝓤 H A mem run .pre (to-rule-on l₇ l₈ l₉ r (ws-fetch .1 .1 .0, (ws-fetch .1 .1 .1 .0, ws-fetch .1 .1 .1 .1 .0)))) ∷ []) _ (goes-rule-on l₇ l₈ l₉ r (ws-fetch .1 .1 .0, (ws-fetch .1 .1 .1 .0, ws-fetch .1 .1 .1 .1 .0)) (laid-out (asked .1) loaded cleared (asked .0) (asked .2))) $
         calls-at ! fm (Rule 𝓤 H A mem run) known-rule-on (to-rule-on l₇ l₈ l₉ r (ws-fetch .1 .1 .0, (ws-fetch .1 .1 .1 .0, ws-fetch .1 .1 .1 .1 .0))) (and-then ! (load ! (from ! (stop !)) (look ! 37 refl)) (and-then ! (load ! (from ! (stop !)) (look ! 33 refl)) (and-then ! (load ! (from ! (stop !)) (look ! 31 refl)) (and-then ! (load ! (from ! (stop !)) (look ! 29 refl)) (and-then ! (load ! (from ! (stop !)) (look ! 27 refl)) (and-then ! (load ! (from ! (stop !)) (look ! 14 refl)) (and-then ! (load ! (from ! (stop !)) (look ! 12 refl)) (and-then ! (load ! (from ! (stop !)) (look ! 10 refl)) (no-more !))))))))) (λ v-rule-on.
         use1 W (later (some (λ (j : Verdict). ((‵ (flft κ₁ q₁) ⊛ (‵ (flft κ₂ q₂) ⊛ (‵ (flft κ₃ q₃) ⊛ (‵ (flft κ₄ q₄) ⊛ (‵ (Token w8 1024 l₁ (r .0)) ⊛ (‵ (Token w16 4096 l₂ (r .1 .0)) ⊛ (‵ (Token w16 1025 l₃ (r .1 .1)) ⊛ ‵ ftrue))))))) ⊛ ‵ (Ver.the-row .own j (v-rule-on ∷ []))) ⊛ raw (ensured 𝓤 H A rule-on.ended (rule-on.clauses 𝓤 H A mem run) (rule-on-lfts l₇ l₈ l₉ r (ws-fetch .1 .1 .0, (ws-fetch .1 .1 .1 .0, ws-fetch .1 .1 .1 .1 .0))) (rule-on-args l₇ l₈ l₉ r (ws-fetch .1 .1 .0, (ws-fetch .1 .1 .1 .0, ws-fetch .1 .1 .1 .1 .0))) tt j)))) (id⊢ 𝓤 _) $ await ! tt $ pick ! (λ j.
         split ! $ move ! (1 ∷ []) $ use1 W (some (λ (ws-rule-on : Unit {0} × (Unit {0} × (Unit {0} × (Unit {0} × (Unit {0} × (Unit {0} × (Unit {0} × (Unit {0} × Unit {0})))))))). ‵ (lasts rule-on.ended (rule-on-lfts l₇ l₈ l₉ r (ws-fetch .1 .1 .0, (ws-fetch .1 .1 .1 .0, ws-fetch .1 .1 .1 .1 .0))) (rule-on-args l₇ l₈ l₉ r (ws-fetch .1 .1 .0, (ws-fetch .1 .1 .1 .0, ws-fetch .1 .1 .1 .1 .0))) ws-rule-on) ⊛ raw (fact 𝓤 (shown j ≡ ruled (shown (found .verdict)) (judge (tableOf (kinds .now) (a .now) (b .now) (found .entries)) (take (found .listed) (found .members)) (proofOf (ws-fetch .1 .1 .0) (ws-fetch .1 .1 .1 .0) (ws-fetch .1 .1 .1 .1 .0) (codes .now) (found .nodes))))))) (id⊢ 𝓤 _) $ pick ! (λ ws-rule-on.
