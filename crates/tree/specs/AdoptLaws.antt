@@ -4,11 +4,11 @@ use mathlib.Core.Bool.{Bool, true, false, false≢true}
 use mathlib.Core.List.{List}
 use Prim.Native.Nat.{ℕ, _+_, _*_, _<_, _≤_}
 use native.Mathlib.Omega.{arith}
-use lib.ListN.{getD, set, replicate, length-replicate, getD-replicate}
+use lib.ListN.{length, getD, set}
 use Rattle.formula.specs.Fields.{hasFirst, hasSecond}
 use Rattle.formula.specs.PlainNodes.{proofOf, proofOf-length}
 use Rattle.calculus.specs.Steps.{owner-none}
-use Rattle.tree.specs.Owners.{unowned, OwnedBy, OneChild, OneParent}
+use Rattle.tree.specs.Owners.{unowned, Ownerless, OwnedBy, OneChild, OneParent}
 use Rattle.tree.specs.OwnerLaws.{parent-of, none-fit, none-owned, first-unfit, one-fit, one-owned, two-fit, two-owned}
 
 module _ (rs ls owners : List ℕ) (n v : ℕ) (h : v < n) (O : OwnedBy rs ls n v owners) where
@@ -54,8 +54,8 @@ module _ (rs ls owners : List ℕ) (n v : ℕ) (h : v < n) (O : OwnedBy rs ls n 
           unmarked = rw (first .marked good) at (second .answers)
 
 -- before the first parent
-pub none-yet : (rs ls owners : List ℕ) (n : ℕ) → n ≤ 1024 → owners ≡ replicate 1024 0 → OwnedBy rs ls n 0 owners
+pub none-yet : (rs ls owners : List ℕ) (n : ℕ) → n ≤ length owners → Ownerless owners n → OwnedBy rs ls n 0 owners
 none-yet rs ls owners n h e ss cs = record {
-  room = rw e (omega (arith, proofOf-length rs ls ss cs n, length-replicate {A = ℕ} 1024 0));
-  each = λ w k. rw e (getD-replicate 1024 w 0 0 (omega (arith, proofOf-length rs ls ss cs n)) ∙ sym (owner-none (proofOf rs ls ss cs n) w));
+  room = omega (arith, proofOf-length rs ls ss cs n);
+  each = λ w k. e w (omega (arith, proofOf-length rs ls ss cs n)) ∙ sym (owner-none (proofOf rs ls ss cs n) w);
 }

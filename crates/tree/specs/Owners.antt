@@ -2,7 +2,7 @@
 use mathlib.Core.Path.{_≡_}
 use mathlib.Core.Bool.{Bool, true, _&&_}
 use mathlib.Core.List.{List}
-use Prim.Native.Nat.{ℕ, _+_, _<_, _≤_}
+use Prim.Native.Nat.{ℕ, _+_, _*_, _<_, _≤_}
 use lib.Dec.{eqb, ltb}
 use lib.ListN.{length, getD, set}
 use Rattle.verdict.specs.Verdict.{accepted, scan}
@@ -14,6 +14,15 @@ use Rattle.formula.specs.Nodes.{Proof}
 use Rattle.formula.specs.PlainNodes.{proofOf}
 use Rattle.calculus.specs.View.{owner, plain}
 use Rattle.calculus.specs.Judge.{children-fit, adopted}
+
+-- columns of n nodes, and a table for their owners
+pub record Columns (rs ls : List ℕ) (n : ℕ) (owners : List ℕ) : Type 0 where
+  pub few : n ≤ 1024
+  pub room : (n ≤ length rs) × (4 * n ≤ length ls) × (n ≤ length owners)
+
+-- at first no node has an owner
+abbrev pub Ownerless : List ℕ → ℕ → Type 0
+Ownerless owners n = (w : ℕ) → w < n → getD owners w 0 ≡ 0
 
 -- w is a node above v, and has no owner
 abbrev pub unowned : List ℕ → ℕ → ℕ → ℕ → Bool

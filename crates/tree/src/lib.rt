@@ -2,9 +2,9 @@
 ghost use mathlib.Core.Path.{_≡_};
 ghost use mathlib.Core.Bool.{true};
 ghost use Prim.Native.Nat.{_+_, _<_, _≤_};
-ghost use lib.ListN.{length, replicate};
+ghost use lib.ListN.{length};
 ghost use Rattle.formula.specs.Nodes.{Proof};
-ghost use Rattle.tree.specs.Owners.{unowned, OwnedBy, OneChild, Owned, OneParent, children-judged, orphans-judged, tree-judged, OwnersFilled};
+ghost use Rattle.tree.specs.Owners.{unowned, Columns, Ownerless, OwnedBy, OneChild, Owned, OneParent, children-judged, orphans-judged, tree-judged, OwnersFilled};
 ghost use Rattle.verdict.specs.Shown.{shown};
 use bits::wide;
 use formula::Rule;
@@ -13,8 +13,8 @@ use verdict::Verdict;
 pub mod spans; // spans.rt: entry and exit numbers, which tell the ancestors
 
 // Whether w is a node above v that no parent has yet.
-fn child_fits(owners: &[u16; 1024], nodes: usize, v: usize, w: usize) -> bool
-    requires { ⌜ nodes ≤ 1024 ⌝ }
+fn child_fits(owners: &[u16], nodes: usize, v: usize, w: usize) -> bool
+    requires { ⌜ nodes ≤ length (now owners) ⌝ }
     ensures { λ r. ⌜ r ≡ unowned (now (owners .entry)) nodes v w ⌝ }
 {
     if w <= v {
@@ -27,8 +27,8 @@ fn child_fits(owners: &[u16; 1024], nodes: usize, v: usize, w: usize) -> bool
 }
 
 // Marks w as a child of v, if it fits.
-fn take_child(owners: &mut [u16; 1024], nodes: usize, v: usize, w: usize) -> bool
-    requires { ⌜ (v < nodes) × (nodes ≤ 1024) ⌝ }
+fn take_child(owners: &mut [u16], nodes: usize, v: usize, w: usize) -> bool
+    requires { ⌜ (v < nodes) × (nodes ≤ 1024) × (nodes ≤ length (now owners)) ⌝ }
     ensures { λ r. ⌜ OneChild (now (owners .entry)) nodes v w r (now (owners .exit)) ⌝ }
 {
     if !child_fits(owners, nodes, v, w) {
@@ -39,14 +39,8 @@ fn take_child(owners: &mut [u16; 1024], nodes: usize, v: usize, w: usize) -> boo
 }
 
 // Takes the children of v, the first before the second: a second that is the same node is used already.
-fn adopt(
-    rules: &[u8; 1024],
-    links: &[u16; 4096],
-    nodes: usize,
-    v: usize,
-    owners: &mut [u16; 1024],
-) -> bool
-    requires { ⌜ (v < nodes) × (nodes ≤ 1024) × OwnedBy (now rules) (now links) nodes v (now owners) ⌝ }
+fn adopt(rules: &[u8], links: &[u16], nodes: usize, v: usize, owners: &mut [u16]) -> bool
+    requires { ⌜ Columns (now rules) (now links) nodes (now owners) × (v < nodes) × OwnedBy (now rules) (now links) nodes v (now owners) ⌝ }
     ensures { λ r. ⌜ OneParent (now (rules .entry)) (now (links .entry)) nodes v r (now (owners .exit)) ⌝ }
 {
     let rule = rules[v];
@@ -62,24 +56,11 @@ fn adopt(
     take_child(owners, nodes, v, wide(links[4 * v + 2]))
 }
 
-// At the start no node has an owner.
-fn clear_owners(owners: &mut [u16; 1024])
-    ensures { λ r. ⌜ now (owners .exit) ≡ replicate 1024 0 ⌝ }
-{
-    *owners = [0u16; 1024];
-}
-
 // The children of all nodes, by rising parent.
-fn adopt_all(
-    rules: &[u8; 1024],
-    links: &[u16; 4096],
-    nodes: usize,
-    owners: &mut [u16; 1024],
-) -> Verdict
-    requires { ⌜ nodes ≤ 1024 ⌝ }
+fn adopt_all(rules: &[u8], links: &[u16], nodes: usize, owners: &mut [u16]) -> Verdict
+    requires { ⌜ Columns (now rules) (now links) nodes (now owners) × Ownerless (now owners) nodes ⌝ }
     ensures { λ r. ⌜ OwnersFilled children-judged (now (rules .entry)) (now (links .entry)) nodes r (now (owners .exit)) ⌝ }
 {
-    clear_owners(owners);
     let mut v: usize = 0;
     while v < nodes {
         if !adopt(rules, links, nodes, v, owners) {
@@ -94,8 +75,8 @@ fn adopt_all(
 }
 
 // Every node but 0 is a child: by rising orphan.
-fn find_orphan(owners: &[u16; 1024], nodes: usize) -> Verdict
-    requires { ⌜ (1 ≤ nodes) × (nodes ≤ 1024) ⌝ }
+fn find_orphan(owners: &[u16], nodes: usize) -> Verdict
+    requires { ⌜ (1 ≤ nodes) × (nodes ≤ 1024) × (nodes ≤ length (now owners)) ⌝ }
     ensures { λ r. ⌜ ((p : Proof) → length p ≡ nodes → Owned p nodes (now (owners .entry)) → shown r ≡ orphans-judged p) ⌝ }
 {
     let mut node: usize = 1;
@@ -111,14 +92,9 @@ fn find_orphan(owners: &[u16; 1024], nodes: usize) -> Verdict
     Verdict::Accepted
 }
 
-// Refusal 35, and the table of owners: one more than the number of each node's parent.
-pub fn fill_owners(
-    rules: &[u8; 1024],
-    links: &[u16; 4096],
-    nodes: usize,
-    owners: &mut [u16; 1024],
-) -> Verdict
-    requires { ⌜ (1 ≤ nodes) × (nodes ≤ 1024) ⌝ }
+// Refusal 35, and the table of owners, one more than the number of each node's parent, in a table of zeros.
+pub fn fill_owners(rules: &[u8], links: &[u16], nodes: usize, owners: &mut [u16]) -> Verdict
+    requires { ⌜ (1 ≤ nodes) × Columns (now rules) (now links) nodes (now owners) × Ownerless (now owners) nodes ⌝ }
     ensures { λ r. ⌜ OwnersFilled tree-judged (now (rules .entry)) (now (links .entry)) nodes r (now (owners .exit)) ⌝ }
 {
     match adopt_all(rules, links, nodes, owners) {

@@ -9,20 +9,20 @@ use Rattle.tree.specs.AdoptLaws.{adopts-none, first-refused, adopts-one,
 use Rattle.tree.proofs.adopt.Statement.{statement}
 use Rattle.tree.proofs.adopt.Tie as tie
 
-element-copy-out-rule : tie.Need-element-copy-out-rule
-element-copy-out-rule c = search needs
+shared-slice-read-rule : tie.Need-shared-slice-read-rule
+shared-slice-read-rule c = search needs
 
 has-first-requires : tie.Need-has-first-requires
 has-first-requires c κs = search needs
 
-no-first : (c : tie.Then1) → hasFirst (getD (c .before .before .before .args .rules .now) (c .before .before .before .args .v) 0) ≡ false
+no-first : (c : tie.Then1) → hasFirst (getD (c .before .before .before .before .before .before .args .rules .now) (c .before .before .before .before .before .before .args .v) 0) ≡ false
 no-first c = sym (c .before .has-first .ensures) ∙ not-true _ (c .if1 .taken)
 
-some-first : (c : tie.Else1) → hasFirst (getD (c .before .before .before .args .rules .now) (c .before .before .before .args .v) 0) ≡ true
+some-first : (c : tie.Else1) → hasFirst (getD (c .before .before .before .before .before .before .args .rules .now) (c .before .before .before .before .before .before .args .v) 0) ≡ true
 some-first c = sym (c .before .has-first .ensures) ∙ not-false _ (c .if1 .left)
 
 returns : tie.Need-returns
-returns c = adopts-none _ _ _ _ _ (c .before .before .before .pre .0) (c .before .before .before .pre .2) (no-first c)
+returns c = adopts-none _ _ _ _ _ (c .before .before .before .before .before .before .pre .1) (c .before .before .before .before .before .before .pre .2) (no-first c)
 
 mul-wide : tie.Need-mul-wide
 mul-wide c = search needs
@@ -33,8 +33,8 @@ add-wide c = search needs
 mul-wide-2 : tie.Need-mul-wide-2
 mul-wide-2 c = search needs
 
-element-copy-out-wide : tie.Need-element-copy-out-wide
-element-copy-out-wide c = search needs
+shared-slice-read-wide : tie.Need-shared-slice-read-wide
+shared-slice-read-wide c = search needs
 
 wide-requires : tie.Need-wide-requires
 wide-requires c κs = search needs
@@ -42,15 +42,21 @@ wide-requires c κs = search needs
 take-child-requires : tie.Need-take-child-requires
 take-child-requires c κs = search needs
 
+same-length : tie.Need-same-length
+same-length c = search needs
+
 returns-2 : tie.Need-returns-2
-returns-2 c = first-refused _ _ _ _ _ (c .before .before .before .before .before .before .before .before .pre .0) (c .before .before .before .before .before .before .before .before .pre .2) (some-first (c .before .before .before .before .before)) (rw (c .before .before .wide .ensures) at (c .before .take-child .ensures)) (not-true _ (c .if2 .taken))
+returns-2 c = first-refused _ _ _ _ _ (c .before .before .before .before .before .before .before .before .before .before .before .before .before .pre .1) (c .before .before .before .before .before .before .before .before .before .before .before .before .before .pre .2) (some-first (c .before .before .before .before .before .before .before)) (rw (c .before .before .before .before .wide .ensures) at (c .before .before .before .take-child .ensures)) (not-true _ (c .if2 .taken))
 
 has-second-requires : tie.Need-has-second-requires
 has-second-requires c κs = search needs
 
+same-length-2 : tie.Need-same-length-2
+same-length-2 c = search needs
+
 returns-3 : tie.Need-returns-3
 returns-3 c =
-    adopts-one _ _ _ _ _ (c .before .before .before .before .before .before .before .before .before .before .pre .0) (c .before .before .before .before .before .before .before .before .before .before .pre .2) (some-first (c .before .before .before .before .before .before .before)) (rw (c .before .before .before .before .wide .ensures) at (c .before .before .before .take-child .ensures)) (not-false _ (c .before .before .if2 .left))
+    adopts-one _ _ _ _ _ (c .before .before .before .before .before .before .before .before .before .before .before .before .before .before .before .pre .1) (c .before .before .before .before .before .before .before .before .before .before .before .before .before .before .before .pre .2) (some-first (c .before .before .before .before .before .before .before .before .before)) (rw (c .before .before .before .before .before .before .wide .ensures) at (c .before .before .before .before .before .take-child .ensures)) (not-false _ (c .before .before .if2 .left))
     (sym (c .before .has-second .ensures) ∙ not-true _ (c .if3 .taken))
 
 mul-wide-3 : tie.Need-mul-wide-3
@@ -62,8 +68,8 @@ add-wide-2 c = search needs
 mul-wide-4 : tie.Need-mul-wide-4
 mul-wide-4 c = search needs
 
-element-copy-out-wide-2 : tie.Need-element-copy-out-wide-2
-element-copy-out-wide-2 c = search needs
+shared-slice-read-wide-2 : tie.Need-shared-slice-read-wide-2
+shared-slice-read-wide-2 c = search needs
 
 wide-requires-2 : tie.Need-wide-requires-2
 wide-requires-2 c κs = search needs
@@ -71,32 +77,38 @@ wide-requires-2 c κs = search needs
 take-child-requires-2 : tie.Need-take-child-requires-2
 take-child-requires-2 c κs = search needs
 
+same-length-3 : tie.Need-same-length-3
+same-length-3 c = search needs
+
 returns-4 : tie.Need-returns-4
 returns-4 c =
-    adopts-two _ _ _ _ _ (c .before .before .before .before .before .before .before .before .before .before .before .before .before .before .pre .0) (c .before .before .before .before .before .before .before .before .before .before .before .before .before .before .pre .2) (some-first (c .before .before .before .before .before .before .before .before .before .before .before)) (rw (c .before .before .before .before .before .before .before .before .wide .ensures) at (c .before .before .before .before .before .before .before .take-child .ensures)) (not-false _ (c .before .before .before .before .before .before .if2 .left))
-    (sym (c .before .before .before .before .before .has-second .ensures) ∙ not-false _ (c .before .before .before .before .if3 .left))
-    (rw (c .before .wide2 .ensures) at (c .take-child2 .ensures))
+    adopts-two _ _ _ _ _ (c .before .before .before .before .before .before .before .before .before .before .before .before .before .before .before .before .before .before .before .before .before .pre .1) (c .before .before .before .before .before .before .before .before .before .before .before .before .before .before .before .before .before .before .before .before .before .pre .2) (some-first (c .before .before .before .before .before .before .before .before .before .before .before .before .before .before .before)) (rw (c .before .before .before .before .before .before .before .before .before .before .before .before .wide .ensures) at (c .before .before .before .before .before .before .before .before .before .before .before .take-child .ensures)) (not-false _ (c .before .before .before .before .before .before .before .before .if2 .left))
+    (sym (c .before .before .before .before .before .before .before .has-second .ensures) ∙ not-false _ (c .before .before .before .before .before .before .if3 .left))
+    (rw (c .before .before .before .wide2 .ensures) at (c .before .before .take-child2 .ensures))
 
 pub adopt-spec : {M : Type 1} → statement M
 adopt-spec =
     tie.close
     (tie.spec
-    element-copy-out-rule
+    shared-slice-read-rule
     has-first-requires
     returns
     mul-wide
     add-wide
     mul-wide-2
-    element-copy-out-wide
+    shared-slice-read-wide
     wide-requires
     take-child-requires
+    same-length
     returns-2
     has-second-requires
+    same-length-2
     returns-3
     mul-wide-3
     add-wide-2
     mul-wide-4
-    element-copy-out-wide-2
+    shared-slice-read-wide-2
     wide-requires-2
     take-child-requires-2
+    same-length-3
     returns-4)

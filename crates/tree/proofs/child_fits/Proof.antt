@@ -15,12 +15,12 @@ returns-2 c = rw (lt-ltb (c .before .before .args .v) (c .before .before .args .
 mul-result : tie.Need-mul-result
 mul-result c = search needs
 
-element-copy-out-result : tie.Need-element-copy-out-result
-element-copy-out-result c = search needs
+shared-slice-read-result : tie.Need-shared-slice-read-result
+shared-slice-read-result c = search needs
 
 returns-3 : tie.Need-returns-3
 returns-3 c = rw (lt-ltb (c .before .before .before .args .v) (c .before .before .before .args .w) (omega arith), lt-ltb (c .before .before .before .args .w) (c .before .before .before .args .nodes) (omega arith)) refl
 
 pub child-fits-spec : {M : Type 1} → statement M
 child-fits-spec =
-    tie.close (tie.spec returns returns-2 mul-result element-copy-out-result returns-3)
+    tie.close (tie.spec returns returns-2 mul-result shared-slice-read-result returns-3)

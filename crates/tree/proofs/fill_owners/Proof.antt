@@ -16,11 +16,17 @@ find-orphan-requires c κs = search needs
 enum-known-number : tie.Need-enum-known-number
 enum-known-number c = search needs
 
+same-length : tie.Need-same-length
+same-length c = search needs
+
 returns : tie.Need-returns
-returns c = tree-orphans _ _ _ _ _ (rw (c .before .before .enum-told .given .1) at (c .before .before .before .before .adopt-all .ensures)) (c .find-orphan .ensures)
+returns c = tree-orphans _ _ _ _ _ (rw (c .before .before .enum-told .given .1) at (c .before .before .before .before .before .before .adopt-all .ensures)) (c .find-orphan .ensures)
+
+same-length-2 : tie.Need-same-length-2
+same-length-2 c = search needs
 
 returns-2 : tie.Need-returns-2
-returns-2 c = tree-refused _ _ _ _ _ _ (rw (c .before .number .given .1) at (c .before .before .before .adopt-all .ensures))
+returns-2 c = tree-refused _ _ _ _ _ _ (rw (c .before .number .given .1) at (c .before .before .before .before .before .adopt-all .ensures))
 
 pub fill-owners-spec : {M : Type 1} → statement M
 fill-owners-spec =
@@ -30,5 +36,7 @@ fill-owners-spec =
     enum-told
     find-orphan-requires
     enum-known-number
+    same-length
     returns
+    same-length-2
     returns-2)

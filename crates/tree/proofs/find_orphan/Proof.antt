@@ -21,11 +21,11 @@ loop-holds c = (omega arith, omega arith, λ k h i. omega arith)
 mul-if1 : tie.Need-mul-if1 Inv-loop μ-loop
 mul-if1 c = search needs
 
-element-copy-out-if1 : tie.Need-element-copy-out-if1 Inv-loop μ-loop
-element-copy-out-if1 c = search needs
+shared-slice-read-if1 : tie.Need-shared-slice-read-if1 Inv-loop μ-loop
+shared-slice-read-if1 c = search needs
 
-cast-t9 : tie.Need-cast-t9 Inv-loop μ-loop
-cast-t9 c = search needs
+cast-t8 : tie.Need-cast-t8 Inv-loop μ-loop
+cast-t8 c = search needs
 
 returns : tie.Need-returns Inv-loop μ-loop
 returns c p size o = sym (orphan-found p _ _ size o _ (c .before .before .loop-test .taken) (c .before .before .before .loop .inv .0) (c .before .before .before .loop .inv .2) (c .if1 .taken))
@@ -50,8 +50,8 @@ find-orphan-spec =
     μ-loop
     loop-holds
     mul-if1
-    element-copy-out-if1
-    cast-t9
+    shared-slice-read-if1
+    cast-t8
     returns
     add-node
     loop-less

@@ -13,14 +13,17 @@ use Rattle.tree.proofs.take_child.Tie as tie
 child-fits-requires : tie.Need-child-fits-requires
 child-fits-requires c κs = search needs
 
+same-length : tie.Need-same-length
+same-length c = search needs
+
 returns : tie.Need-returns
 returns c = record { answers = sym (not-true _ (c .if1 .taken)) ∙ c .before .child-fits .ensures; marked = λ h. absurd (false≢true h) }
 
-fits : (c : tie.Else1) → unowned (c .before .before .before .args .owners .now) (c .before .before .before .args .nodes) (c .before .before .before .args .v) (c .before .before .before .args .w) ≡ true
+fits : (c : tie.Else1) → unowned (c .before .before .before .before .args .owners .now) (c .before .before .before .before .args .nodes) (c .before .before .before .before .args .v) (c .before .before .before .before .args .w) ≡ true
 fits c = sym (c .before .child-fits .ensures) ∙ not-false _ (c .if1 .left)
 
-inside : (c : tie.Else1) → c .before .before .before .args .w < c .before .before .before .args .nodes
-inside c = unowned-node (c .before .before .before .args .owners .now) _ _ _ (fits c)
+inside : (c : tie.Else1) → c .before .before .before .before .args .w < c .before .before .before .before .args .nodes
+inside c = unowned-node (c .before .before .before .before .args .owners .now) _ _ _ (fits c)
 
 add-owners : tie.Need-add-owners
 add-owners c = search needs
@@ -31,8 +34,11 @@ cast-owners c = search needs
 mul-owners : tie.Need-mul-owners
 mul-owners c = omega (arith, inside c)
 
-element-write-owners : tie.Need-element-write-owners
-element-write-owners c = omega (arith, inside c)
+slice-write-owners : tie.Need-slice-write-owners
+slice-write-owners c = omega (arith, inside c)
+
+same-length-2 : tie.Need-same-length-2
+same-length-2 c = search needs
 
 returns-2 : tie.Need-returns-2
 returns-2 c = record { answers = sym (fits c); marked = λ _. refl }
@@ -42,9 +48,11 @@ take-child-spec =
     tie.close
     (tie.spec
     child-fits-requires
+    same-length
     returns
     add-owners
     cast-owners
     mul-owners
-    element-write-owners
+    slice-write-owners
+    same-length-2
     returns-2)
