@@ -1,5 +1,6 @@
 //! The files that are timed.
 
+use crate::growth::Family;
 use reference::draft::{self, DraftNode};
 use reference::{corpus, Entry, Kind, Rule};
 use std::path::Path;
@@ -29,7 +30,7 @@ pub fn checks() -> Vec<Case> {
     };
     vec![
         named("largest accepted proof", largest),
-        many_loops(500, 120),
+        many_loops(4, 120).1,
         named("small proof", small),
         named("early refusal", early),
     ]
@@ -40,51 +41,101 @@ fn vectors() -> Vec<corpus::CheckRecord> {
     corpus::read_checks(&std::fs::read(file).expect("the vectors")).expect("whole records")
 }
 
+/// Families by how many nodes: a tree of eleven levels that gets wider, and one
+/// path that gets longer.
+pub fn growing() -> Vec<Family<Case>> {
+    let levels = [
+        [1, 1, 2, 4, 8, 8, 8, 8, 8, 8, 8],
+        [1, 1, 2, 4, 8, 16, 32, 32, 32, 64, 64],
+        [1, 1, 2, 4, 8, 16, 32, 64, 128, 256, 512],
+    ];
+    let path = [(1, 30), (1, 126), (7, 72)];
+    vec![
+        Family::new("nodes in eleven levels", &levels, |widths| {
+            wide_tree(&widths)
+        }),
+        Family::new("back leaves on one path", &path, |(rounds, width)| {
+            many_loops(rounds, width)
+        }),
+    ]
+}
+
+/// A tree with that many nodes on each level: a level that doubles is of
+/// conjunctions of one formula with itself, any other of boxes, the last of truths.
+fn wide_tree(widths: &[u16]) -> (usize, Case) {
+    let depth = widths.len() as u16 - 1;
+    let doubles = |level: usize| widths[level + 1] == 2 * widths[level];
+    let mut entries = vec![Entry::new(Kind::True, 0, 0)];
+    for level in (0..widths.len() - 1).rev() {
+        let below = entries.len() as u16 - 1;
+        entries.push(match doubles(level) {
+            true => Entry::new(Kind::And, below, below),
+            false => Entry::new(Kind::Box, below, 0),
+        });
+    }
+    let mut nodes = Vec::new();
+    let mut next = 0;
+    for (level, &width) in widths.iter().enumerate() {
+        let code = focused(depth - level as u16);
+        let rule = match widths.get(level + 1) {
+            None => Rule::Ax2,
+            Some(_) if doubles(level) => Rule::And,
+            Some(_) => Rule::Box,
+        };
+        next += width;
+        for number in 0..width {
+            let mut node = DraftNode::new(rule, code, vec![code]);
+            let children = rule.children() as u16;
+            node.first = next + children * number;
+            node.second = node.first + 1;
+            nodes.push(node);
+        }
+    }
+    case("a wide tree", &entries, depth, &nodes)
+}
+
 /// nu X. box (X and (X and ...)): each conjunction sends one child back to the
-/// first node and the other further down one long path.
-fn many_loops(leaves: usize, width: u16) -> Case {
+/// first node and the other further down one long path, which goes through all
+/// conjunctions that many times.
+fn many_loops(rounds: usize, width: u16) -> (usize, Case) {
     let fixpoint = width + 2;
     let mut entries = vec![Entry::new(Kind::Name, fixpoint, 0)];
     entries.extend((0..width).map(|below| Entry::new(Kind::And, 0, below)));
     entries.push(Entry::new(Kind::Box, width, 0));
     entries.push(Entry::new(Kind::Nu, width + 1, 0));
-    let focused = |entry: u16| 2 * entry + 1;
-    let mut nodes = vec![DraftNode::new(Rule::D, 0, vec![focused(fixpoint)])];
-    let mut sent_back = 0;
-    'rounds: loop {
-        nodes.push(DraftNode::new(
-            Rule::Nu,
-            focused(fixpoint),
-            vec![focused(fixpoint)],
-        ));
-        nodes.push(DraftNode::new(
-            Rule::Box,
-            focused(width + 1),
-            vec![focused(width + 1)],
-        ));
+    let node = |rule, entry| DraftNode::new(rule, focused(entry), vec![focused(entry)]);
+    let mut nodes = vec![node(Rule::D, fixpoint)];
+    for _ in 0..rounds {
+        nodes.push(node(Rule::Nu, fixpoint));
+        nodes.push(node(Rule::Box, width + 1));
         for conjunction in (1..=width).rev() {
-            nodes.push(DraftNode::new(
-                Rule::And,
-                focused(conjunction),
-                vec![focused(conjunction)],
-            ));
-            nodes.push(DraftNode::new(Rule::Back, 0, vec![focused(fixpoint)]));
-            sent_back += 1;
-            if sent_back + 1 == leaves && conjunction == 1 {
-                break 'rounds;
-            }
-        }
-        if sent_back + usize::from(width) > leaves {
-            break;
+            nodes.push(node(Rule::And, conjunction));
+            nodes.push(node(Rule::Back, fixpoint));
         }
     }
-    nodes.push(DraftNode::new(Rule::Back, 0, vec![focused(fixpoint)]));
+    nodes.push(node(Rule::Back, fixpoint));
     link(&mut nodes);
-    Case {
-        name: "long path with many back leaves",
-        claim: draft::claim(&entries, &[fixpoint]).bytes,
-        proof: draft::proof(&nodes).bytes,
-    }
+    case(
+        "long path with many back leaves",
+        &entries,
+        fixpoint,
+        &nodes,
+    )
+}
+
+fn focused(entry: u16) -> u16 {
+    2 * entry + 1
+}
+
+/// An accepted case, with the number of its nodes.
+fn case(name: &'static str, entries: &[Entry], member: u16, nodes: &[DraftNode]) -> (usize, Case) {
+    let case = Case {
+        name,
+        claim: draft::claim(entries, &[member]).bytes,
+        proof: draft::proof(nodes).bytes,
+    };
+    assert_eq!(reference::check(&case.claim, &case.proof), 0, "{name}");
+    (nodes.len(), case)
 }
 
 /// A conjunction's first child is the back leaf after it, its second the node

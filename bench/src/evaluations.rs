@@ -1,5 +1,6 @@
 //! The claims and models that are evaluated.
 
+use crate::growth::Family;
 use gate_tests::hard;
 use reference::generate::{extremes, Rng};
 use reference::{draft, Entry, Kind};
@@ -47,27 +48,33 @@ pub fn all() -> Vec<Evaluation> {
     ]
 }
 
-/// Families by depth. The first needs hardly more rounds where it is deeper; the
-/// others need some more for every fixpoint.
-pub fn growing() -> Vec<Vec<Evaluation>> {
-    let (descent, turns, path) = (descent(), hard::turns(), hard::path(STATES));
-    let named = |name: &str, depth: u16| format!("{depth} {name}");
-    let nested = [10, 20, 40, 80].map(|depth| {
-        let entries = extremes::funnel(Kind::Mu, Kind::Box, Kind::And, depth);
-        Evaluation::new(named("nested mu", depth), &entries, &descent)
-    });
-    let turning = [10, 20, 40, 60].map(|depth| {
-        Evaluation::new(
-            named("nested mu in turns", depth),
-            &hard::snake(depth),
-            &turns,
-        )
-    });
-    let in_a_row = [10, 20, 40, 50].map(|depth| {
-        let entries = hard::relay(Kind::Mu, depth, 0);
-        Evaluation::new(named("mu in a row", depth), &entries, &path)
-    });
-    vec![nested.into(), turning.into(), in_a_row.into()]
+/// Families by how many fixpoints, up to as many as a table has room for. The first
+/// needs hardly more rounds where it is deeper; the others need some more for every
+/// fixpoint.
+pub fn growing() -> Vec<Family<Evaluation>> {
+    let family = |name, counts: [u16; 4], entries: fn(u16) -> Vec<Entry>, model: Vec<u8>| {
+        Family::new(name, &counts, |count| {
+            let case = Evaluation::new(name, &entries(count), &model);
+            (usize::from(count), case)
+        })
+    };
+    let nested = |depth| extremes::funnel(Kind::Mu, Kind::Box, Kind::And, depth);
+    let in_a_row = |count| hard::relay(Kind::Mu, count, 0);
+    vec![
+        family("nested mu", [10, 20, 40, 80], nested, descent()),
+        family(
+            "nested mu in turns",
+            [10, 20, 40, 60],
+            hard::snake,
+            hard::turns(),
+        ),
+        family(
+            "mu in a row",
+            [10, 20, 40, 50],
+            in_a_row,
+            hard::path(STATES),
+        ),
+    ]
 }
 
 /// What a mount's claim is like: whatever is asked for (letter 0) is reached on

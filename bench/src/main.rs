@@ -1,8 +1,10 @@
 //! The gate against the reference on the same files, interleaved in one process.
-//! Prints medians and their ratio, then the gate's deepest stack and its sizes.
+//! Prints medians and their ratio, how they grow with a case's size, then the gate's
+//! deepest stack and its sizes.
 
 mod cases;
 mod evaluations;
+mod growth;
 mod size;
 mod stack;
 mod timing;
@@ -29,9 +31,13 @@ fn main() {
     for case in evaluations::all() {
         println!("{:<34} {}", case.name, evaluated(&case));
     }
+    for family in cases::growing() {
+        head(&format!("growth, {}", family.name));
+        family.print(checked);
+    }
     for family in evaluations::growing() {
-        head("evaluate, by depth");
-        grow(&family);
+        head(&format!("growth, {}", family.name));
+        family.print(evaluated);
     }
     println!();
     stacks();
@@ -87,17 +93,6 @@ fn evaluated(case: &Evaluation) -> Row {
             Err(refusal) => Refusal::packed(refusal),
         },
     )
-}
-
-/// Each row with what it takes for each time that the row before takes.
-fn grow(family: &[Evaluation]) {
-    let mut before: Option<Row> = None;
-    for case in family {
-        let row = evaluated(case);
-        let growth = before.map_or(String::new(), |before| row.growth(&before));
-        println!("{:<34} {row}{growth}", case.name);
-        before = Some(row);
-    }
 }
 
 fn stacks() {

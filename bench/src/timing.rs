@@ -19,12 +19,15 @@ impl fmt::Display for Row {
 }
 
 impl Row {
-    /// How many times the row before, for both.
-    pub fn growth(&self, before: &Row) -> String {
-        let times = |now: Duration, before: Duration| now.as_secs_f64() / before.as_secs_f64();
-        let gate = times(self.gate, before.gate);
-        let reference = times(self.reference, before.reference);
-        format!("   gate ×{gate:.2}, reference ×{reference:.2}")
+    /// By which power of the size both have grown, where the size has grown that many times.
+    pub fn exponents(&self, first: &Row, times: f64) -> (f64, f64) {
+        let power = |last: Duration, first: Duration| {
+            (last.as_secs_f64() / first.as_secs_f64()).ln() / times.ln()
+        };
+        (
+            power(self.gate, first.gate),
+            power(self.reference, first.reference),
+        )
     }
 }
 
