@@ -136,7 +136,7 @@ module _ (c : Claim) {m : Model} (M : Falsity (c .entries) m) (d : Derivation) w
       at-node (suc b) j s h r =
           let lower : Again M p v j → Reached c M d v j = λ a. more (omega (arith, a .fewer)) (at-node b (a .rank) (a .state) (omega (arith, a .fewer)) (a .refuted)) in
           let by-rule : Keeps c d v → Reached c M d v j = elim [
-            by-children k ↦ ⊎-elim lower (λ ρ. ρ) (child-leaf below (node-step c M d v real r (λ x n. ok .members v x real n) k))
+            | by-children k ↦ ⊎-elim lower (λ ρ. ρ) (child-leaf below (node-step c M d v real r (λ x n. ok .members v x real n) k))
             | by-tree (back e k) ↦ leaf-reached real e k r
           ] in
           by-rule (ok .keeps v real)

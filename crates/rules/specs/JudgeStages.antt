@@ -24,7 +24,7 @@ use Rattle.calculus.specs.Judge.{codes, step-kept, keeps, rule-number, ancestor
 use Rattle.calculus.specs.Steps.{keeps-leaf, keeps-other}
 use Rattle.calculus.specs.JudgeExact.{judge-is, claim-stage, loops-stage}
 use Rattle.verdict.specs.ScanLaws.{Passed, scan-passes, scan-fails, after, scan-then}
-use Rattle.tree.specs.Owners.{OwnersFilled, tree-judged}
+use Rattle.tree.specs.Owners.{Ownerless, OwnersFilled, tree-judged}
 use Rattle.tree.specs.TreeStages.{tree-then, accepted-tree}
 use Rattle.tree.specs.Ancestors.{AncestorsTold}
 use Rattle.loops.specs.Paths.{Companion, companion-fits, Linked, loops-judged}
@@ -101,6 +101,13 @@ pub record Laid (ks xs ys : List ℕ) (n : ℕ) (rs ls ss cs : List ℕ) (m : �
   pub rising : (v : ℕ) → v < m → (getD ss v 0 ≤ getD ss (v + 1) 0) × (getD ss (v + 1) 0 ≤ length cs)
   pub well : WellFormed (tableOf ks xs ys n)
   pub members : (v : ℕ) → v < m → Entries n (codesAt ss cs v)
+
+-- tables of the judge's own, as they are before it begins
+pub record Fresh (m : ℕ) (owners entries exits : List ℕ) : Type 0 where
+  pub room : (m ≤ length owners) × (m ≤ length entries) × (m ≤ length exits)
+  pub ownerless : Ownerless owners m
+  pub first : getD entries 0 0 ≡ 0
+  pub ones : (w : ℕ) → w < m → getD exits w 0 ≡ 1
 
 pub laid-judged : {ks xs ys : List ℕ} {n : ℕ} {rs ls ss cs : List ℕ} {m : ℕ} → Laid ks xs ys n rs ls ss cs m → Tree (proofOf rs ls ss cs m) → Judged ks xs ys n rs ls ss cs m
 laid-judged L T = record { entries = L .entries; columns = L .columns; rising = L .rising; well = L .well; members = L .members; tree = T }

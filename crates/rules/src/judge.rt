@@ -11,7 +11,7 @@ ghost use Rattle.calculus.specs.View.{plain};
 ghost use Rattle.calculus.specs.Judge.{keeps, judge as judged};
 ghost use Rattle.sequents.specs.Placed.{Members};
 ghost use Rattle.kept.specs.Judged.{Judged};
-ghost use Rattle.rules.specs.JudgeStages.{TreeReady, Laid, rules-judged, nodes-judged, tree-rules-judged};
+ghost use Rattle.rules.specs.JudgeStages.{TreeReady, Laid, Fresh, rules-judged, nodes-judged, tree-rules-judged};
 ghost use Rattle.tree.specs.Owners.{OwnedBy, Parented};
 ghost use Rattle.tree.specs.Spans.{Counted};
 use bits::wide;
@@ -31,9 +31,9 @@ fn node_keeps(
     a: &[u16; 256],
     b: &[u16; 256],
     count: usize,
-    rules: &[u8; 1024],
-    links: &[u16; 4096],
-    starts: &[u16; 1025],
+    rules: &[u8],
+    links: &[u16],
+    starts: &[u16],
     codes: &[u16],
     nodes: usize,
     entries: &[u16],
@@ -70,9 +70,9 @@ fn judge_nodes(
     a: &[u16; 256],
     b: &[u16; 256],
     count: usize,
-    rules: &[u8; 1024],
-    links: &[u16; 4096],
-    starts: &[u16; 1025],
+    rules: &[u8],
+    links: &[u16],
+    starts: &[u16],
     codes: &[u16],
     nodes: usize,
     entries: &[u16],
@@ -115,9 +115,9 @@ fn judge_rules(
     a: &[u16; 256],
     b: &[u16; 256],
     count: usize,
-    rules: &[u8; 1024],
-    links: &[u16; 4096],
-    starts: &[u16; 1025],
+    rules: &[u8],
+    links: &[u16],
+    starts: &[u16],
     codes: &[u16],
     nodes: usize,
     owners: &[u16],
@@ -165,16 +165,18 @@ fn judge_tree(
     count: usize,
     members: &[u16; 24],
     listed: usize,
-    rules: &[u8; 1024],
-    links: &[u16; 4096],
-    starts: &[u16; 1025],
+    rules: &[u8],
+    links: &[u16],
+    starts: &[u16],
     codes: &[u16],
     nodes: usize,
-    owners: &[u16; 1024],
+    owners: &[u16],
+    entries: &mut [u16],
+    exits: &mut [u16],
 ) -> Verdict
-    requires { ⌜ Judged (now kinds) (now a) (now b) count (now rules) (now links) (now starts) (now codes) nodes ⌝ }
-    requires { ⌜ Members (now members) listed × (1 ≤ nodes) ⌝ }
-    requires { ⌜ Parented (now owners) nodes × OwnedBy (now rules) (now links) nodes nodes (now owners) ⌝ }
+    requires { ⌜ Judged (now kinds) (now a) (now b) count (now rules) (now links) (now starts) (now codes) nodes × (1 ≤ nodes) × Members (now members) listed ⌝ }
+    requires { ⌜ (nodes ≤ length (now owners)) × Parented (now owners) nodes × OwnedBy (now rules) (now links) nodes nodes (now owners) ⌝ }
+    requires { ⌜ Counted (now owners) nodes nodes (now entries) (now exits) ⌝ }
     ensures { λ r. ⌜ shown r ≡ tree-rules-judged (heldClaim (now (kinds .entry)) (now (a .entry)) (now (b .entry)) count (now (members .entry)) listed)
         (proofOf (now (rules .entry)) (now (links .entry)) (now (starts .entry)) (now (codes .entry)) nodes) ⌝ }
 {
@@ -184,8 +186,6 @@ fn judge_tree(
             place: 0,
         };
     }
-    let mut entries = [0u16; 1024];
-    let mut exits = [1u16; 1024];
     judge_rules(
         kinds,
         a,
@@ -197,6 +197,128 @@ fn judge_tree(
         codes,
         nodes,
         owners,
+        entries,
+        exits,
+    )
+}
+
+// 35 to 39, in tables of its own that have room for the nodes: no node has an owner yet, and each counts for one.
+fn judge_in(
+    kinds: &[u8; 256],
+    a: &[u16; 256],
+    b: &[u16; 256],
+    count: usize,
+    members: &[u16; 24],
+    listed: usize,
+    rules: &[u8],
+    links: &[u16],
+    starts: &[u16],
+    codes: &[u16],
+    nodes: usize,
+    owners: &mut [u16],
+    entries: &mut [u16],
+    exits: &mut [u16],
+) -> Verdict
+    requires { ⌜ Laid (now kinds) (now a) (now b) count (now rules) (now links) (now starts) (now codes) nodes × Members (now members) listed ×
+        Fresh nodes (now owners) (now entries) (now exits) ⌝ }
+    ensures { λ r. ⌜ shown r ≡ judged (heldClaim (now (kinds .entry)) (now (a .entry)) (now (b .entry)) count (now (members .entry)) listed)
+        (heldProof (now (rules .entry)) (now (links .entry)) (now (starts .entry)) (now (codes .entry)) nodes) ⌝ }
+{
+    match fill_owners(rules, links, nodes, owners) {
+        Verdict::Accepted => judge_tree(
+            kinds,
+            a,
+            b,
+            count,
+            members,
+            listed,
+            rules,
+            links,
+            starts,
+            codes,
+            nodes,
+            owners,
+            entries,
+            exits,
+        ),
+        Verdict::Refused { number, place } => Verdict::Refused { number, place },
+    }
+}
+
+// Tables for 32 nodes: a small proof clears no more.
+fn judge_few(
+    kinds: &[u8; 256],
+    a: &[u16; 256],
+    b: &[u16; 256],
+    count: usize,
+    members: &[u16; 24],
+    listed: usize,
+    rules: &[u8],
+    links: &[u16],
+    starts: &[u16],
+    codes: &[u16],
+    nodes: usize,
+) -> Verdict
+    requires { ⌜ Laid (now kinds) (now a) (now b) count (now rules) (now links) (now starts) (now codes) nodes × Members (now members) listed ×
+        (nodes ≤ 32) ⌝ }
+    ensures { λ r. ⌜ shown r ≡ judged (heldClaim (now (kinds .entry)) (now (a .entry)) (now (b .entry)) count (now (members .entry)) listed)
+        (heldProof (now (rules .entry)) (now (links .entry)) (now (starts .entry)) (now (codes .entry)) nodes) ⌝ }
+{
+    let mut owners = [0u16; 32];
+    let mut entries = [0u16; 32];
+    let mut exits = [1u16; 32];
+    judge_in(
+        kinds,
+        a,
+        b,
+        count,
+        members,
+        listed,
+        rules,
+        links,
+        starts,
+        codes,
+        nodes,
+        &mut owners,
+        &mut entries,
+        &mut exits,
+    )
+}
+
+// Tables for 1,024.
+fn judge_many(
+    kinds: &[u8; 256],
+    a: &[u16; 256],
+    b: &[u16; 256],
+    count: usize,
+    members: &[u16; 24],
+    listed: usize,
+    rules: &[u8],
+    links: &[u16],
+    starts: &[u16],
+    codes: &[u16],
+    nodes: usize,
+) -> Verdict
+    requires { ⌜ Laid (now kinds) (now a) (now b) count (now rules) (now links) (now starts) (now codes) nodes × Members (now members) listed ⌝ }
+    ensures { λ r. ⌜ shown r ≡ judged (heldClaim (now (kinds .entry)) (now (a .entry)) (now (b .entry)) count (now (members .entry)) listed)
+        (heldProof (now (rules .entry)) (now (links .entry)) (now (starts .entry)) (now (codes .entry)) nodes) ⌝ }
+{
+    let mut owners = [0u16; 1024];
+    let mut entries = [0u16; 1024];
+    let mut exits = [1u16; 1024];
+    judge_in(
+        kinds,
+        a,
+        b,
+        count,
+        members,
+        listed,
+        rules,
+        links,
+        starts,
+        codes,
+        nodes,
+        &mut owners,
         &mut entries,
         &mut exits,
     )
@@ -210,9 +332,9 @@ pub fn judge(
     count: usize,
     members: &[u16; 24],
     listed: usize,
-    rules: &[u8; 1024],
-    links: &[u16; 4096],
-    starts: &[u16; 1025],
+    rules: &[u8],
+    links: &[u16],
+    starts: &[u16],
     codes: &[u16],
     nodes: usize,
 ) -> Verdict
@@ -221,9 +343,8 @@ pub fn judge(
     ensures { λ r. ⌜ shown r ≡ judged (heldClaim (now (kinds .entry)) (now (a .entry)) (now (b .entry)) count (now (members .entry)) listed)
         (heldProof (now (rules .entry)) (now (links .entry)) (now (starts .entry)) (now (codes .entry)) nodes) ⌝ }
 {
-    let mut owners = [0u16; 1024];
-    match fill_owners(rules, links, nodes, &mut owners) {
-        Verdict::Accepted => judge_tree(
+    if nodes <= 32 {
+        return judge_few(
             kinds,
             a,
             b,
@@ -235,8 +356,19 @@ pub fn judge(
             starts,
             codes,
             nodes,
-            &owners,
-        ),
-        Verdict::Refused { number, place } => Verdict::Refused { number, place },
+        );
     }
+    judge_many(
+        kinds,
+        a,
+        b,
+        count,
+        members,
+        listed,
+        rules,
+        links,
+        starts,
+        codes,
+        nodes,
+    )
 }

@@ -1,11 +1,12 @@
--- before a node: every smaller one keeps its rule
+-- before a node: every smaller one keeps its rule, whatever the claim's members
 use mathlib.Core.Path.{sym, _∙_}
-use Prim.Native.Nat.{_≤_, _-_}
+use mathlib.Core.List.{List}
+use Prim.Native.Nat.{ℕ, _≤_, _-_}
 use native.Mathlib.Omega.{arith}
 use borrow.Author.Count.{below-more}
 use borrow.Author.Needs.{needs}
 use borrow.Author.Tests.{not-true, not-false}
-use Rattle.formula.specs.Plain.{tableOf}
+use Rattle.formula.specs.Held.{heldClaim}
 use Rattle.formula.specs.PlainNodes.{proofOf}
 use Rattle.calculus.specs.View.{plain}
 use Rattle.calculus.specs.Judge.{keeps}
@@ -16,31 +17,31 @@ use Rattle.rules.proofs.judge.judge_nodes.Tie as tie
 
 abbrev Inv-loop : tie.InvT-loop
 Inv-loop kinds a b count rules links starts codes nodes entries exits v₀ v =
-    (v ≤ nodes) × Passed (keeps (tableOf kinds a b count) (plain (proofOf rules links starts codes nodes))) v
+    (v ≤ nodes) × ((ms : List ℕ) (k : ℕ) → Passed (keeps (heldClaim kinds a b count ms k) (plain (proofOf rules links starts codes nodes))) v)
 
 abbrev μ-loop : tie.MeasureT-loop
 μ-loop kinds a b count rules links starts codes nodes entries exits v₀ v = nodes - v
 
 loop-holds : tie.Need-loop-holds Inv-loop μ-loop
-loop-holds c = (omega arith, λ w h. absurd (omega arith))
+loop-holds c = (omega arith, λ ms k w h. absurd (omega arith))
 
 node-keeps-requires : tie.Need-node-keeps-requires Inv-loop μ-loop
 node-keeps-requires c κs = search needs
 
-element-copy-out-refusal-of : tie.Need-element-copy-out-refusal-of Inv-loop μ-loop
-element-copy-out-refusal-of c = omega (arith, c .before .before .before .before .before .before .before .pre .judged .columns .few)
+shared-slice-read-refusal-of : tie.Need-shared-slice-read-refusal-of Inv-loop μ-loop
+shared-slice-read-refusal-of c = omega (arith, c .before .before .before .before .before .before .before .before .before .before .before .pre .judged .columns .rules)
 
 refusal-of-requires : tie.Need-refusal-of-requires Inv-loop μ-loop
 refusal-of-requires c κs = search needs
 
-cast-t19 : tie.Need-cast-t19 Inv-loop μ-loop
-cast-t19 c = omega (arith, c .before .before .before .before .before .before .before .before .before .pre .judged .columns .few)
+cast-t18 : tie.Need-cast-t18 Inv-loop μ-loop
+cast-t18 c = omega (arith, c .before .before .before .before .before .before .before .before .before .before .before .before .pre .judged .columns .few)
 
 returns : tie.Need-returns Inv-loop μ-loop
-returns c =
+returns c ms k =
     let keeps = c .before .before .before in
-    sym (rules-fail (c .before .before .before .before .before .before .before .before .before .pre .judged) _ _ _ (c .refusal-of .ensures .0) (c .refusal-of .ensures .1) (keeps .before .loop-test .taken) (keeps .before .before .loop .inv .1)
-    (sym (keeps .node-keeps .ensures) ∙ not-true _ (c .before .before .if1 .taken)))
+    sym (rules-fail (c .before .before .before .before .before .before .before .before .before .before .before .before .pre .judged) _ _ _ (c .refusal-of .ensures .0) (c .refusal-of .ensures .1) (keeps .before .loop-test .taken) (keeps .before .before .loop .inv .1 ms k)
+    (sym (keeps .node-keeps .ensures ms k) ∙ not-true _ (c .before .before .if1 .taken)))
 
 add-v : tie.Need-add-v Inv-loop μ-loop
 add-v c = search needs
@@ -49,10 +50,10 @@ loop-less : tie.Need-loop-less Inv-loop μ-loop
 loop-less c = omega arith
 
 loop-again : tie.Need-loop-again Inv-loop μ-loop
-loop-again c = (omega arith, below-more _ _ (c .before .before .before .loop .inv .1) (sym (c .before .node-keeps .ensures) ∙ not-false _ (c .if1 .left)))
+loop-again c = (omega arith, λ ms k. below-more _ _ (c .before .before .before .loop .inv .1 ms k) (sym (c .before .node-keeps .ensures ms k) ∙ not-false _ (c .if1 .left)))
 
 returns-2 : tie.Need-returns-2 Inv-loop μ-loop
-returns-2 c = sym (rules-pass (c .before .before .before .before .before .pre .judged) _ _ (c .loop-test .left) (c .before .loop .inv .1))
+returns-2 c ms k = sym (rules-pass (c .before .before .before .before .before .before .before .before .pre .judged) _ _ (c .loop-test .left) (c .before .loop .inv .1 ms k))
 
 pub judge-nodes-spec : {M : Type 1} → statement M
 judge-nodes-spec =
@@ -62,9 +63,9 @@ judge-nodes-spec =
     μ-loop
     loop-holds
     node-keeps-requires
-    element-copy-out-refusal-of
+    shared-slice-read-refusal-of
     refusal-of-requires
-    cast-t19
+    cast-t18
     returns
     add-v
     loop-less

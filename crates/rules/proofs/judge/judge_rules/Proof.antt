@@ -1,32 +1,34 @@
 -- 37 and 38, and if no node earns one, 39
 use mathlib.Core.Path.{_≡_, sym, _∙_}
+use mathlib.Core.List.{List, []}
+use Prim.Native.Nat.{ℕ}
 use native.Mathlib.Omega.{arith}
 use borrow.Author.Needs.{needs}
 use Rattle.verdict.specs.Verdict.{accepted}
-use Rattle.formula.specs.Table.{Table}
-use Rattle.formula.specs.Plain.{tableOf}
+use Rattle.formula.specs.Claim.{Claim}
+use Rattle.formula.specs.Held.{heldClaim}
 use Rattle.formula.specs.Nodes.{Proof}
 use Rattle.formula.specs.PlainNodes.{proofOf, proofOf-length}
 use Rattle.rules.specs.JudgeStages.{rules-judged, rules-linked, nodes-passed, nodes-refused}
 use Rattle.rules.proofs.judge.judge_rules.Statement.{statement}
 use Rattle.rules.proofs.judge.judge_rules.Tie as tie
 
--- the tables that the function is lent
-abbrev table : tie.Start → Table
-table s = tableOf (s .args .kinds .now) (s .args .a .now) (s .args .b .now) (s .args .count)
+-- the claim and the proof that the function is lent, whatever the claim's members
+abbrev claim : tie.Start → List ℕ → ℕ → Claim
+claim s ms k = heldClaim (s .args .kinds .now) (s .args .a .now) (s .args .b .now) (s .args .count) ms k
 
 abbrev proof : tie.Start → Proof
 proof s = proofOf (s .args .rules .now) (s .args .links .now) (s .args .starts .now) (s .args .codes .now) (s .args .nodes)
 
-passed : (c : tie.After-enum-told) → rules-judged (table (c .before .before .before .before .before .before .before .before .before .before .before .before .before .before .before .before)) (proof (c .before .before .before .before .before .before .before .before .before .before .before .before .before .before .before .before)) ≡ accepted
-passed c = sym (rw (c .enum-told .given .1) at (c .before .before .judge-nodes .ensures))
+passed : (c : tie.After-enum-told) (ms : List ℕ) (k : ℕ) → rules-judged (claim (c .before .before .before .before .before .before .before .before .before .before .before .before .before .before .before .before .before .before .before) ms k) (proof (c .before .before .before .before .before .before .before .before .before .before .before .before .before .before .before .before .before .before .before)) ≡ accepted
+passed c ms k = sym (rw (c .enum-told .given .1) at (c .before .before .judge-nodes .ensures) ms k)
 
 fill-spans-requires : tie.Need-fill-spans-requires
-fill-spans-requires c κs = let start = c .before .before .before .before .before .before in ((start .pre .0 .1, start .pre .0 .0 .nodes, start .pre .0 .2, start .pre .1 .0), start .pre .1 .2)
+fill-spans-requires c κs = let start = c .before .before .before .before .before .before .before .before .before in ((start .pre .0 .1, start .pre .0 .0 .columns .few, start .pre .0 .2, start .pre .1 .0), start .pre .1 .2)
 
 judge-nodes-requires : tie.Need-judge-nodes-requires
 judge-nodes-requires c κs =
-    let start = c .before .before .before .before .before .before .before .before .before .before .before .before .before in
+    let start = c .before .before .before .before .before .before .before .before .before .before .before .before .before .before .before .before in
     record {
       judged = start .pre .0 .0;
       room = (omega (arith, start .pre .1 .2 .room), omega (arith, start .pre .1 .2 .room));
@@ -41,11 +43,11 @@ judge-loops-requires c κs =
     let start = c .before .before .before .before .before .before .before .before .before .before .before .before .before .before .before .before .before .before .before .before .before in
     let J = start .pre .0 .0 in (
       (
-        record { few = J .nodes; room = (omega (arith, J .nodes), omega (arith, J .nodes), start .pre .0 .2); within = λ v h. omega (arith, J .rising v h .1, J .codes); parented = start .pre .1 .0 },
+        record { few = J .columns .few; room = (J .columns .rules, J .columns .starts, start .pre .0 .2); within = λ v h. J .rising v h .1; parented = start .pre .1 .0 },
         omega (arith, start .pre .1 .2 .room),
         omega (arith, start .pre .1 .2 .room),
       ),
-      (omega (arith, J .nodes), start .pre .1 .1 _ _, rules-linked (table start) (proof start) (passed (c .before .before .before .before .before))),
+      (J .columns .links, start .pre .1 .1 _ _, rules-linked (claim start [] 0) (proof start) (passed (c .before .before) [] 0)),
     )
 
 enum-known-number : tie.Need-enum-known-number
@@ -58,9 +60,9 @@ same-length-2 : tie.Need-same-length-2
 same-length-2 c = search needs
 
 returns : tie.Need-returns
-returns c =
+returns c ms k =
     let start = c .before .before .before .before .before .before .before .before .before .before .before .before .before .before .before .before .before .before .before .before .before .before .before .before .before .before in
-    c .before .before .before .before .judge-loops .ensures ∙ sym (nodes-passed (table start) (proof start) (passed (c .before .before .before .before .before .before .before .before .before .before)))
+    c .before .before .before .before .judge-loops .ensures ∙ sym (nodes-passed (claim start ms k) (proof start) (passed (c .before .before .before .before .before .before .before) ms k))
 
 same-length-3 : tie.Need-same-length-3
 same-length-3 c = search needs
@@ -69,9 +71,9 @@ same-length-4 : tie.Need-same-length-4
 same-length-4 c = search needs
 
 returns-2 : tie.Need-returns-2
-returns-2 c =
-    let start = c .before .before .before .before .before .before .before .before .before .before .before .before .before .before .before .before .before in
-    sym (nodes-refused (table start) (proof start) (sym (rw (c .before .number .given .1) at (c .before .before .before .judge-nodes .ensures))))
+returns-2 c ms k =
+    let start = c .before .before .before .before .before .before .before .before .before .before .before .before .before .before .before .before .before .before .before .before in
+    sym (nodes-refused (claim start ms k) (proof start) (sym (rw (c .before .number .given .1) at (c .before .before .before .judge-nodes .ensures) ms k)))
 
 pub judge-rules-spec : {M : Type 1} → statement M
 judge-rules-spec =

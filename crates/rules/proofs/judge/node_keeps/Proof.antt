@@ -1,29 +1,38 @@
--- a back leaf keeps its rule when its companion fits and has its sequent; any other node when its rule's test says so
+-- a back leaf keeps its rule when its companion fits and has its sequent; any other node when it keeps what it owes its children
 use mathlib.Core.Path.{sym, _∙_}
-use mathlib.Core.List.{[]}
 use borrow.Author.Needs.{needs}
 use borrow.Author.Tests.{not-true, not-false}
+use Rattle.formula.specs.Held.{heldClaim}
+use Rattle.formula.specs.Claim.{Claim}
+use mathlib.Core.List.{List, []}
+use Prim.Native.Nat.{ℕ}
 use Rattle.kept.specs.Judged.{placed}
-use Rattle.rules.specs.JudgeStages.{leaf-refused, companion-inside, leaf-compared}
+use Rattle.rules.specs.JudgeStages.{other-keeps, leaf-refused, companion-inside, leaf-compared}
 use Rattle.rules.proofs.judge.node_keeps.Statement.{statement}
 use Rattle.rules.proofs.judge.node_keeps.Tie as tie
 
-element-copy-out-if1 : tie.Need-element-copy-out-if1
-element-copy-out-if1 c = search needs
+-- the claim that is held, whatever its members
+abbrev claim : tie.Start → List ℕ → ℕ → Claim
+claim s ms k = heldClaim (s .args .kinds .now) (s .args .a .now) (s .args .b .now) (s .args .count) ms k
+
+shared-slice-read-if1 : tie.Need-shared-slice-read-if1
+shared-slice-read-if1 c = search needs
 
 kept-requires : tie.Need-kept-requires
 kept-requires c κs = search needs
 
 returns : tie.Need-returns
-returns c = search needs
+returns c ms k =
+    let start = c .before .before .before .before .before .before .before .before .before in
+    c .kept .ensures ∙ other-keeps (start .pre .0 .judged) (claim start ms k) (start .args .v) (start .pre .1) (c .before .if1 .taken)
 
 companion-requires : tie.Need-companion-requires
 companion-requires c κs = search needs
 
 returns-2 : tie.Need-returns-2
-returns-2 c =
-    let start = c .before .before .before .before .before .before .before .before .before in
-    sym (leaf-refused (start .pre .0) _ _ (start .pre .1) (c .before .before .before .before .if1 .left) (c .before .companion .ensures) (not-true _ (c .if2 .taken)))
+returns-2 c ms k =
+    let start = c .before .before .before .before .before .before .before .before .before .before in
+    sym (leaf-refused (start .pre .0) (claim start ms k) _ (start .pre .1) (c .before .before .if1 .left) (c .before .companion .ensures) (not-true _ (c .if2 .taken)))
 
 mul-wide : tie.Need-mul-wide
 mul-wide c = search needs
@@ -34,30 +43,30 @@ add-wide c = search needs
 mul-wide-2 : tie.Need-mul-wide-2
 mul-wide-2 c = search needs
 
-element-copy-out-wide : tie.Need-element-copy-out-wide
-element-copy-out-wide c = search needs
+shared-slice-read-wide : tie.Need-shared-slice-read-wide
+shared-slice-read-wide c = search needs
 
 wide-requires : tie.Need-wide-requires
 wide-requires c κs = search needs
 
 same-sequent-requires : tie.Need-same-sequent-requires
 same-sequent-requires c κs =
-    let start = c .before .before .before .before .before .before .before .before .before .before .before in
+    let start = c .before .before .before .before .before .before .before .before .before .before .before .before in
     let J = start .pre .0 .judged in
-    let inside = companion-inside (start .pre .0) [] (start .args .v) (start .pre .1) (c .before .before .before .before .before .before .if1 .left) (c .before .before .before .companion .ensures) (not-false _ (c .before .before .if2 .left)) in
+    let inside = companion-inside (start .pre .0) (claim start [] 0) (start .args .v) (start .pre .1) (c .before .before .before .before .if1 .left) (c .before .before .before .companion .ensures) (not-false _ (c .before .before .if2 .left)) in
     (placed J (start .args .v) (start .pre .1), rw (c .wide .ensures) (placed J _ inside))
 
 returns-3 : tie.Need-returns-3
-returns-3 c =
-    let start = c .before .before .before .before .before .before .before .before .before .before .before .before in
+returns-3 c ms k =
+    let start = c .before .before .before .before .before .before .before .before .before .before .before .before .before in
     (rw (c .before .wide .ensures) at (c .same-sequent .ensures))
-    ∙ sym (leaf-compared (start .pre .0) _ _ (start .pre .1) (c .before .before .before .before .before .before .before .if1 .left) (c .before .before .before .before .companion .ensures) (not-false _ (c .before .before .before .if2 .left)))
+    ∙ sym (leaf-compared (start .pre .0) (claim start ms k) _ (start .pre .1) (c .before .before .before .before .before .if1 .left) (c .before .before .before .before .companion .ensures) (not-false _ (c .before .before .before .if2 .left)))
 
 pub node-keeps-spec : {M : Type 1} → statement M
 node-keeps-spec =
     tie.close
     (tie.spec
-    element-copy-out-if1
+    shared-slice-read-if1
     kept-requires
     returns
     companion-requires
@@ -65,7 +74,7 @@ node-keeps-spec =
     mul-wide
     add-wide
     mul-wide-2
-    element-copy-out-wide
+    shared-slice-read-wide
     wide-requires
     same-sequent-requires
     returns-3)
