@@ -1,11 +1,11 @@
 -- a claim and a proof that were read, and the columns that hold them: what the judge of the rules asks holds of these
 use mathlib.Core.Path.{_≡_, refl, sym, subst, ap, _∙_}
 use mathlib.Core.List.{List}
-use Prim.Native.Nat.{ℕ, _+_, _*_, _<_, _≤_}
+use Prim.Native.Nat.{ℕ, suc, _+_, _<_, _≤_}
 use native.Mathlib.Numerals.{add-one}
 use native.Mathlib.Omega.{arith}
 use lib.ListN.{length, getD, take}
-use Rattle.verdict.specs.Verdict.{Verdict}
+use Rattle.verdict.specs.Sets.{elements}
 use Rattle.encoding.specs.Encode.{Bytes}
 use Rattle.encoding.specs.File.{Reading}
 use Rattle.formula.specs.Table.{Table}
@@ -65,8 +65,8 @@ module _ (claim proof : List ℕ) (bc : Bytes claim) (bp : Bytes proof) {ks xs y
       few = g .held .members;
       long = g .held .listed;
       small = λ e h.
-          let l = rw (g .held .same) at (member-formula (formed .claim-formed .claim-file) e (rw (g .held .same) h)) in
-          omega (arith, l, entry-count (formed .claim-formed .claim-file));
+          let inside = member-formula (formed .claim-formed .claim-file) e (subst (λ (c : Claim). elements (c .members) e) (g .held .same) h) .inside in
+          omega (arith, inside, entry-count (formed .claim-formed .claim-file));
     };
     well = subst WellFormed same-entries (formed .claim-formed .formed .well);
     decodes = good-decoded (g .files .claim) proof (proof-good (formed .beside-formed)) .decodes;
@@ -88,8 +88,8 @@ module _ {ks xs ys : List ℕ} {n : ℕ} {ms : List ℕ} {k : ℕ} {s : List ℕ
     rising v l =
         let here = starts v (omega arith) in
         let next = starts (v + 1) (omega arith) in
-        let more : length (allCodes (take v (proofIn s))) ≤ length (allCodes (take (v + 1) (proofIn s))) = rw add-one (more-codes (proofIn s) v) in
-        (omega (arith, here, next, more), omega (arith, next, few-codes (proofIn s) (codes-few (r .file)) (v + 1), columns .codes))
+        let one : length (allCodes (take (suc v) (proofIn s))) ≡ length (allCodes (take (v + 1) (proofIn s))) = ap (λ (k : ℕ). length (allCodes (take k (proofIn s)))) (sym (add-one v)) in
+        (omega (arith, here, next, one, more-codes (proofIn s) v), omega (arith, next, few-codes (proofIn s) (codes-few (r .file)) (v + 1), columns .codes))
 
     inside : (v : ℕ) → v < m → Entries n (codesAt ss cs v)
     inside v l x h =
