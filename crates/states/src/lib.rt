@@ -54,7 +54,7 @@ pub fn letter_word(masks: &[u32; 64], n: usize, p: u16, wanted: u32) -> u64
     r
 }
 
-// The marks of the eight states from u on, as a byte: a sum of weights, since eight marks are then compared at once.
+// The marks of the eight states from u on, as a byte: a sum of weights, in which no term waits for another.
 fn eight(marks: &[[u8; 64]; 64], s: usize, u: usize) -> u8
     requires { ⌜ (s < 64) × (u ≤ 56) ⌝ }
     ensures { λ r. ⌜ r ≡ byteFrom (λ k. eqb (cell (now (marks .entry)) s k) 1) u ⌝ }
@@ -69,13 +69,13 @@ fn eight(marks: &[[u8; 64]; 64], s: usize, u: usize) -> u8
         + bits::if_set(marks[s][u + 7] == 1, 128)
 }
 
-// The successors of state s.
+// The successors of state s, by whole groups; what is marked past the last state is cut off.
 fn row_word(marks: &[[u8; 64]; 64], n: usize, s: usize) -> u64
     requires { ⌜ (n ≤ 64) × (s < 64) ⌝ }
     ensures { λ r. ⌜ r ≡ word n (λ u. eqb (cell (now (marks .entry)) s u) 1) ⌝ }
 {
     let mut r: u64 = 0;
-    let mut u: usize = 64;
+    let mut u = (n + 7) / 8 * 8;
     while 0 < u {
         u -= 8;
         r = r * 256 + eight(marks, s, u) as u64;

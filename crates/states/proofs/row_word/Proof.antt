@@ -1,6 +1,6 @@
--- the states from u on that are marked
+-- the states from u on that are marked, in whole groups of eight
 use mathlib.Core.Path.{_≡_}
-use Prim.Native.Nat.{_%_}
+use Prim.Native.Nat.{_+_, _*_, _/_, _%_}
 use native.Mathlib.Omega.{arith}
 use borrow.Author.Needs.{needs}
 use lib.Dec.{eqb}
@@ -10,10 +10,16 @@ use Rattle.states.proofs.row_word.Statement.{statement}
 use Rattle.states.proofs.row_word.Tie as tie
 
 abbrev Inv-loop : tie.InvT-loop
-Inv-loop marks n s r₀ u₀ r u = (u % 8 ≡ 0) × Upper 64 (λ k. eqb (cell marks s k) 1) u r
+Inv-loop marks n s r₀ u₀ r u = (u % 8 ≡ 0) × Upper ((n + 7) / 8 * 8) (λ k. eqb (cell marks s k) 1) u r
 
 abbrev μ-loop : tie.MeasureT-loop
 μ-loop marks n s r₀ u₀ r u = u
+
+add-u : tie.Need-add-u Inv-loop μ-loop
+add-u c = search needs
+
+mul-u : tie.Need-mul-u Inv-loop μ-loop
+mul-u c = search needs
 
 loop-holds : tie.Need-loop-holds Inv-loop μ-loop
 loop-holds c = (omega arith, upper-none)
@@ -45,7 +51,7 @@ all-states-requires : tie.Need-all-states-requires Inv-loop μ-loop
 all-states-requires c κs = search needs
 
 returns : tie.Need-returns Inv-loop μ-loop
-returns c = rw (c .all-states .ensures, upper-whole (c .before .before .loop .inv .1) (omega arith)) (word-cut 64 _ _ (omega arith))
+returns c = rw (c .all-states .ensures, upper-whole (c .before .before .loop .inv .1) (omega arith)) (word-cut _ _ _ (omega arith))
 
 pub row-word-spec : {M : Type 1} → statement M
 row-word-spec =
@@ -53,6 +59,8 @@ row-word-spec =
     (tie.spec
     Inv-loop
     μ-loop
+    add-u
+    mul-u
     loop-holds
     sub-u
     mul-r
