@@ -3,15 +3,15 @@ use mathlib.Core.Path.{_≡_, refl, sym, ap, _∙_}
 use mathlib.Core.Logic.{_↔_}
 use mathlib.Core.List.{List}
 use Prim.Native.Nat.{ℕ}
-use lib.ListN.{length, take, length-map}
+use lib.ListN.{length, length-map}
 use Rattle.verdict.specs.Verdict.{Verdict, accepted, packed}
 use Rattle.verdict.specs.Lists.{written}
 use Rattle.encoding.specs.Encode.{Bytes}
-use Rattle.reader.specs.Files.{tableIn}
-use Rattle.records.specs.Records.{shownEntry, shownEntries}
+use Rattle.formula.specs.Table.{Table}
+use Rattle.records.specs.Records.{shownEntry, shownEntries, entriesOf}
+use Rattle.records.specs.Shown.{map-written, entries-shown}
 use Rattle.records.specs.declared.Entry.{Entry}
 use Rattle.demands.specs.Slices.{LentWords}
-use Rattle.presenting.specs.LentSlices.{lentWordsOf}
 use Rattle.demands.specs.Evaluate.{evaluating}
 use Rattle.demands.specs.EvaluationEarned.{EvaluationEarned, Evaluable}
 use Rattle.demands.specs.EvaluateExact as exactly
@@ -19,6 +19,7 @@ use Rattle.demands.specs.RefusedAs.{RefusedAs, refused-as, zero-accepts}
 use Rattle.demands.specs.Numbered.{evaluation-number}
 use Rattle.evaluation.specs.declared.Evaluation.{Evaluation}
 use Rattle.evaluation.specs.EvaluateFiles.{EvaluatedFiles}
+use Rattle.gate.specs.LentWords.{lentWordsOf}
 
 -- the promise of an evaluation: the answer, what every lent slice holds afterwards, and what the answer says of the input
 pub record EvaluateCall (claim model : List ℕ) (es : List Entry) (ws : List ℕ) (r : ℕ) (es′ : List Entry) (ws′ : List ℕ) : Type 0 where
@@ -43,13 +44,15 @@ module _ {claim model : List ℕ} (bc : Bytes claim) (bm : Bytes model) (l : Len
   refuses : RefusedAs (EvaluationEarned claim model l) r
   refuses = refused-as answered (λ n q. exactly.refusal claim model l bc bm) r answer
 
-pub evaluate-call : {claim model : List ℕ} {es es′ : List Entry} {ws ws′ : List ℕ} {r : Evaluation} → EvaluatedFiles (length es) claim model ws r ws′
-    → shownEntries es′ ≡ written (take (r .entries) (tableIn claim)) (shownEntries es) → EvaluateCall claim model es ws (r .answer) es′ ws′
-evaluate-call {es = es} {ws = ws} done stored =
+-- the records that are stored from the columns show the entries that the definition leaves
+pub evaluate-call : {claim model : List ℕ} {es es′ : List Entry} {ks xs ys ws ws′ : List ℕ} {r : Evaluation} → EvaluatedFiles (length es) claim model ws r ks xs ys ws′
+    → es′ ≡ written (entriesOf ks xs ys (r .entries)) es → EvaluateCall claim model es ws (r .answer) es′ ws′
+evaluate-call {es = es} {ks = ks} {xs = xs} {ys = ys} {ws = ws} {r = r} done stored =
     let right = done .right (shownEntries es) (length-map es shownEntry) in
+    let shown = ap shownEntries stored ∙ map-written shownEntry (entriesOf ks xs ys (r .entries)) es ∙ ap (λ (t : Table). written t (shownEntries es)) (entries-shown ks xs ys (r .entries)) in
     record {
       answer = right .answer;
-      lent = rw (stored, sym (right .entries), right .words) refl;
+      lent = rw (shown, sym (right .entries), right .words) refl;
       exact = finishes (done .claim-bytes) (done .model-bytes) (lentWordsOf es ws) (right .answer);
       refuses = refuses (done .claim-bytes) (done .model-bytes) (lentWordsOf es ws) (right .answer);
     }

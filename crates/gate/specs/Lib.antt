@@ -1,1 +1,2 @@
 pub mod EvaluateCall
+pub mod LentWords

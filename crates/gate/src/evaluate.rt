@@ -1,8 +1,8 @@
 // An evaluation for C: each entry's word, and the claim's entries as records.
 ghost use Rattle.gate.specs.EvaluateCall.{EvaluateCall};
-use decoding::store_claim;
 use evaluation::evaluate_files;
 use records::Entry;
+use records::store_entries;
 
 // Each entry's word in the model, and the claim's entries as records: 0, or refusal × 65,536 + place.
 #[no_mangle]
@@ -15,7 +15,18 @@ pub extern "C" fn focus_evaluate(
     ensures { λ r. ⌜ EvaluateCall (now (claim .entry)) (now (model .entry)) (now (entries .entry)) (now (words .entry)) r (now (entries .exit))
         (now (words .exit)) ⌝ }
 {
-    let done = evaluate_files(entries.len(), claim, model, words);
-    store_claim(entries, claim, done.entries);
+    let mut kinds = [0u8; 256];
+    let mut a = [0u16; 256];
+    let mut b = [0u16; 256];
+    let done = evaluate_files(
+        entries.len(),
+        claim,
+        model,
+        &mut kinds,
+        &mut a,
+        &mut b,
+        words,
+    );
+    store_entries(entries, &kinds, &a, &b, done.entries);
     done.answer
 }

@@ -5,12 +5,8 @@ use Prim.Native.Nat.{ℕ}
 use Rattle.records.specs.Records.{shownEntries, shownNodes}
 use Rattle.records.specs.declared.Entry.{Entry}
 use Rattle.records.specs.declared.Node.{Node}
-use Rattle.demands.specs.Slices.{Lent, LentWords}
+use Rattle.demands.specs.Slices.{Lent}
 
 -- the slices of presenting
 abbrev pub lentOf : List Entry → List Node → List ℕ → Lent
 lentOf es vs cs = record { entries = shownEntries es; nodes = shownNodes vs; codes = cs }
-
--- the slices of an evaluation
-abbrev pub lentWordsOf : List Entry → List ℕ → LentWords
-lentWordsOf es ws = record { entries = shownEntries es; words = ws }
