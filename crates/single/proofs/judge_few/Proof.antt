@@ -1,0 +1,45 @@
+-- there is room for 32 nodes
+use Prim.Native.Nat.{ℕ}
+use native.Mathlib.Omega.{arith}
+use lib.ListN.{length-replicate}
+use borrow.Author.Needs.{needs}
+use Rattle.single.proofs.judge_few.Statement.{statement}
+use Rattle.single.proofs.judge_few.Tie as tie
+
+slice-aggregate-judge-in : tie.Need-slice-aggregate-judge-in
+slice-aggregate-judge-in c = search needs
+
+slice-aggregate-judge-in-2 : tie.Need-slice-aggregate-judge-in-2
+slice-aggregate-judge-in-2 c = search needs
+
+slice-aggregate-judge-in-3 : tie.Need-slice-aggregate-judge-in-3
+slice-aggregate-judge-in-3 c = search needs
+
+slice-aggregate-judge-in-4 : tie.Need-slice-aggregate-judge-in-4
+slice-aggregate-judge-in-4 c = search needs
+
+judge-in-requires : tie.Need-judge-in-requires
+judge-in-requires c κs =
+    let s = c .before .before .before .before .before in
+    let few = s .pre .1 in
+    (s .pre .0, record {
+      few = omega (arith, few);
+      rules = omega (arith, few, length-replicate {A = ℕ} 32 0);
+      links = omega (arith, few, length-replicate {A = ℕ} 128 0);
+      starts = omega (arith, few, length-replicate {A = ℕ} 33 0);
+      codes = omega (arith, few, length-replicate {A = ℕ} 768 0);
+    })
+
+returns : tie.Need-returns
+returns c = search needs
+
+pub judge-few-spec : {M : Type 1} → statement M
+judge-few-spec =
+    tie.close
+    (tie.spec
+    slice-aggregate-judge-in
+    slice-aggregate-judge-in-2
+    slice-aggregate-judge-in-3
+    slice-aggregate-judge-in-4
+    judge-in-requires
+    returns)
