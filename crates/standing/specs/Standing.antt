@@ -1,17 +1,16 @@
 -- the proof that stands in node records and codes, and when it may be judged
 use mathlib.Core.Path.{_≡_}
 use mathlib.Core.List.{List, [], _∷_}
-use Prim.Native.Nat.{ℕ, _≤_}
+use Prim.Native.Nat.{ℕ, _<_, _≤_}
 use lib.ListN.{length, take, drop}
 use Rattle.verdict.specs.Verdict.{Verdict, accepted}
 use Rattle.verdict.specs.Shown.{shown}
 use Rattle.formula.specs.Table.{Table}
-use Rattle.formula.specs.Nodes.{Proof}
+use Rattle.formula.specs.Nodes.{Proof, node}
 use Rattle.formula.specs.Records.{NodeRecord}
 use Rattle.conditions.specs.WellFormed.{WellFormed}
 use Rattle.calculus.specs.Judge.{judge}
-use Rattle.calculus.specs.Given.{Given}
-use Rattle.sequents.specs.Placed.{Members}
+use Rattle.sequents.specs.Placed.{Members, Entries}
 use Rattle.rules.specs.JudgeStages.{Laid}
 use Rattle.records.specs.Records.{firstNodes, total}
 use Rattle.records.specs.declared.Entry.{Entry}
@@ -46,16 +45,20 @@ pub record Ruleable (f : Found) (t : Table) (p : Proof) (cs : List ℕ) : Type 0
   pub some : 1 ≤ f .nodes
   pub codes : 24576 ≤ length cs
   pub well : WellFormed t
-  pub given : Given t p
+  pub inside : (v : ℕ) → v < length p → Entries (length t) (node p v .codes)
   pub members : Members (f .members) (f .listed)
 
 -- a verdict that accepts has found what the rules may judge
 abbrev pub Judgeable : Found → Table → Proof → List ℕ → Type 0
 Judgeable f t p cs = shown (f .verdict) ≡ accepted → Ruleable f t p cs
 
--- what the rules say of a table and a proof, where nothing was refused before
+-- what the rules say of a table, members and nodes
+abbrev pub judgeParts : Table → List ℕ → Proof → Verdict
+judgeParts t ms p = judge (record { entries = t; members = ms }) (record { nodes = p })
+
+-- the same, where nothing was refused before
 abbrev pub Ruled : Found → Table → Proof → Verdict → Type 0
-Ruled f t p v = v ≡ ruled (shown (f .verdict)) (judge t (take (f .listed) (f .members)) p)
+Ruled f t p v = v ≡ ruled (shown (f .verdict)) (judgeParts t (take (f .listed) (f .members)) p)
 
 -- the same of columns
 pub record LaidOut (f : Found) (ks xs ys rs ls ss cs : List ℕ) : Type 0 where

@@ -11,18 +11,18 @@ use Rattle.verdict.specs.Verdict.{Verdict, accepted}
 use Rattle.verdict.specs.Shown.{shown}
 use Rattle.verdict.specs.Lists.{written}
 use Rattle.formula.specs.Table.{Table}
-use Rattle.formula.specs.Plain.{tableOf}
-use Rattle.formula.specs.Nodes.{Proof}
-use Rattle.formula.specs.PlainNodes.{proofOf}
+use Rattle.formula.specs.Plain.{tableOf, tableOf-length}
+use Rattle.formula.specs.Nodes as nodes
+use Rattle.formula.specs.Nodes.{Proof, node}
+use Rattle.formula.specs.PlainNodes.{codesAt, proofOf, proofOf-length, proofOf-node}
 use Rattle.formula.specs.Records.{NodeRecord, nodeRecords, allCodes}
-use Rattle.calculus.specs.Given.{Given}
-use Rattle.calculus.specs.Judge.{judge}
+use Rattle.sequents.specs.Placed.{Entries}
 use Rattle.records.specs.Records.{shownNode, firstEntries, firstNodes, ruleColumn, linkColumn, startColumn, total, EntriesLoaded, NodesLoaded}
 use Rattle.records.specs.Shown.{loaded-table, loaded-proof}
 use Rattle.records.specs.declared.Entry.{Entry}
 use Rattle.records.specs.declared.Node.{Node}
 use Rattle.reader.specs.Found.{ruled}
-use Rattle.standing.specs.Standing.{standing, FitsEntries, FitsNodes, Judgeable, LaidOut}
+use Rattle.standing.specs.Standing.{standing, FitsEntries, FitsNodes, Judgeable, judgeParts, LaidOut}
 use Rattle.reader.specs.declared.Found.{Found}
 
 -- ---- what stands, taken apart again
@@ -108,9 +108,17 @@ module _ {f : Found} {vs : List Node} {cs : List ℕ} (fits : FitsNodes f vs cs)
       let all : total (take (length here) here) ≡ total here = ap total (take-all here) in
       (omega (arith, at v (omega arith), at (v + 1) (omega arith), total-rises here v (v + 1) (omega arith)), omega (arith, at (v + 1) (omega arith), total-rises here (v + 1) (length here) (omega (arith, many)), all, fits .codes))
 
+  inside : (ks xs ys : List ℕ) → 24576 ≤ length cs → ((v : ℕ) → v < length (standing here cs) → Entries (length (tableOf ks xs ys (f .entries))) (node (standing here cs) v .codes))
+      → (v : ℕ) → v < f .nodes → Entries (f .entries) (codesAt ss cs v)
+  inside ks xs ys room within v l x h =
+      let same = loaded-stands room in
+      let at : node (standing here cs) v .codes ≡ codesAt ss cs v = ap (λ (p : Proof). node p v .codes) (sym same) ∙ ap (λ (y : nodes.Node). y .codes) (proofOf-node rs ls ss cs (f .nodes) v l) in
+      let real : v < length (standing here cs) = omega (arith, ap length same, proofOf-length rs ls ss cs (f .nodes)) in
+      omega (arith, within v real x (rw at h), tableOf-length ks xs ys (f .entries))
+
   -- what may be judged as it stands may be judged as columns
   pub laid-out : {ks xs ys : List ℕ} → (1024 ≤ length rs₀) × (4096 ≤ length ls₀) × (1024 < length ss₀) → f .entries ≤ 256 → Judgeable f (tableOf ks xs ys (f .entries)) (standing here cs) cs → shown (f .verdict) ≡ accepted → LaidOut f ks xs ys rs ls ss cs
-  laid-out (rules, links, starts) few may h =
+  laid-out {ks} {xs} {ys} (rules, links, starts) few may h =
       let ok = may h in
       record {
         laid = record {
@@ -125,17 +133,17 @@ module _ {f : Found} {vs : List Node} {cs : List ℕ} (fits : FitsNodes f vs cs)
           };
           rising = rising (ok .codes);
           well = ok .well;
-          given = subst (Given _) (sym (loaded-stands (ok .codes))) (ok .given);
+          members = inside ks xs ys (ok .codes) (ok .inside);
         };
         members = ok .members;
       }
 
   -- and is judged alike
-  pub judged-alike : (t : Table) (ms : List ℕ) {v : Verdict} → Judgeable f t (standing here cs) cs → v ≡ ruled (shown (f .verdict)) (judge t ms (proofOf rs ls ss cs (f .nodes))) → v ≡ ruled (shown (f .verdict)) (judge t ms (standing here cs))
+  pub judged-alike : (t : Table) (ms : List ℕ) {v : Verdict} → Judgeable f t (standing here cs) cs → v ≡ ruled (shown (f .verdict)) (judgeParts t ms (proofOf rs ls ss cs (f .nodes))) → v ≡ ruled (shown (f .verdict)) (judgeParts t ms (standing here cs))
   judged-alike t ms may e = e ∙ go (shown (f .verdict)) refl
     where
-      go : (u : Verdict) → shown (f .verdict) ≡ u → ruled u (judge t ms (proofOf rs ls ss cs (f .nodes))) ≡ ruled u (judge t ms (standing here cs))
-      go accepted h = ap (judge t ms) (loaded-stands (may h .codes))
+      go : (u : Verdict) → shown (f .verdict) ≡ u → ruled u (judgeParts t ms (proofOf rs ls ss cs (f .nodes))) ≡ ruled u (judgeParts t ms (standing here cs))
+      go accepted h = ap (judgeParts t ms) (loaded-stands (may h .codes))
       go (verdicts.refused n q) h = refl
 
 -- the table of loaded columns is what stands in the records

@@ -25,7 +25,7 @@ enum-told c = search needs
 
 judge-requires : tie.Need-judge-requires
 judge-requires c κs =
-    let told = c .before in
+    let told = c .before .before .before .before in
     let laid = start (told .before .before) .pre (ap shown (told .enum-told .given .1)) in
     (laid .laid, laid .members)
 
@@ -33,7 +33,7 @@ returns : tie.Need-returns
 returns c = sym (stands _ (ap shown (c .before .verdict .given .1)))
 
 returns-2 : tie.Need-returns-2
-returns-2 c = c .judge .ensures ∙ sym (passes _ (ap shown (c .before .before .enum-told .given .1)))
+returns-2 c = c .judge .ensures ∙ sym (passes _ (ap shown (c .before .before .before .before .before .enum-told .given .1)))
 
 pub judge-columns-spec : {M : Type 1} → statement M
 judge-columns-spec = tie.close (tie.spec enum-known-verdict enum-told judge-requires returns returns-2)

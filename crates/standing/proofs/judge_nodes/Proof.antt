@@ -47,12 +47,11 @@ use Rattle.verdict.proofs.Verdict as Ver
 use Rattle.verdict.proofs.Verdict.Laws as Ver′
 use Rattle.formula.specs.Plain.{tableOf}
 use Rattle.formula.specs.PlainNodes.{proofOf}
-use Rattle.calculus.specs.Judge.{judge}
 use Rattle.records.specs.Records.{firstNodes, NodesLoaded}
 use Rattle.records.specs.declared.Node.{Node}
 use Rattle.records.proofs.Node as T
 use Rattle.reader.specs.Found.{ruled}
-use Rattle.standing.specs.Standing.{standing, FitsNodes, Judgeable, LaidOut}
+use Rattle.standing.specs.Standing.{standing, FitsNodes, Judgeable, LaidOut, judgeParts}
 use Rattle.standing.specs.StandingLaws.{cleared, laid-out, judged-alike}
 use Rattle.reader.specs.declared.Found.{Found}
 use Rattle.reader.proofs.Found as F
@@ -124,7 +123,7 @@ module _ {M : Type 1} (𝓤 : URA M) (H : Heap 𝓤) (A : Atoms 𝓤) (W : Given
   abbrev left : Verdict → Val → List (Item 𝓤)
   left r v = ‵ (flft κ₀ q₀) ∷ ‵ (flft κ₁ q₁) ∷ ‵ (flft κ₂ q₂) ∷ ‵ (flft κ₃ q₃) ∷ ‵ (flft κ₄ q₄) ∷ ‵ Own-nodes ∷ ‵ Own-codes ∷ ‵ Own-kinds ∷ ‵ Own-a ∷ ‵ Own-b ∷ ‵ (Ver.the-row .own r (v ∷ [])) ∷ []
 
-  exits : (r : Verdict) (v : Val) → shown r ≡ ruled (shown (found .verdict)) (judge (tableOf (kinds .now) (a .now) (b .now) (found .entries)) (take (found .listed) (found .members)) (standing (firstNodes (nodes .now) (found .nodes)) (codes .now))) → ent 𝓤 (⋆ 𝓤 H A (left r v)) (Post v)
+  exits : (r : Verdict) (v : Val) → shown r ≡ ruled (shown (found .verdict)) (judgeParts (tableOf (kinds .now) (a .now) (b .now) (found .entries)) (take (found .listed) (found .members)) (standing (firstNodes (nodes .now) (found .nodes)) (codes .now))) → ent 𝓤 (⋆ 𝓤 H A (left r v)) (Post v)
   exits r v e =
       qed W (left r v) ∵
       suffices ! _ (ends-at 𝓤 H A f.ended stayed (f.clauses 𝓤 H A mem run) W bound v r (tt, (tt, (tt, (tt, (tt, (tt, tt)))))) (tt, (tt, (tt, (tt, (tt, (tt, tt))))))) $ says ! e $
@@ -210,8 +209,8 @@ module _ {M : Type 1} (𝓤 : URA M) (H : Heap 𝓤) (A : Atoms 𝓤) (W : Given
         move ! (6 ∷ 4 ∷ 2 ∷ 0 ∷ 11 ∷ 12 ∷ 13 ∷ 50 ∷ 51 ∷ 52 ∷ 53 ∷ 8 ∷ 9 ∷ 10 ∷ []) $ cut (rule-on-passed l₇ l₈ l₉ r (ws-fetch .1 .1 .0, (ws-fetch .1 .1 .1 .0, ws-fetch .1 .1 .1 .1 .0))) (raw (Rule 𝓤 H A mem run .pre (to-rule-on l₇ l₈ l₉ r (ws-fetch .1 .1 .0, (ws-fetch .1 .1 .1 .0, ws-fetch .1 .1 .1 .1 .0)))) ∷ []) _ (goes-rule-on l₇ l₈ l₉ r (ws-fetch .1 .1 .0, (ws-fetch .1 .1 .1 .0, ws-fetch .1 .1 .1 .1 .0)) (laid-out (asked .1) loaded cleared (asked .0) (asked .2))) $
         calls-at ! fm (Rule 𝓤 H A mem run) known-rule-on (to-rule-on l₇ l₈ l₉ r (ws-fetch .1 .1 .0, (ws-fetch .1 .1 .1 .0, ws-fetch .1 .1 .1 .1 .0))) (and-then ! (load ! (from ! (stop !)) (look ! 37 refl)) (and-then ! (load ! (from ! (stop !)) (look ! 33 refl)) (and-then ! (load ! (from ! (stop !)) (look ! 31 refl)) (and-then ! (load ! (from ! (stop !)) (look ! 29 refl)) (and-then ! (load ! (from ! (stop !)) (look ! 27 refl)) (and-then ! (load ! (from ! (stop !)) (look ! 14 refl)) (and-then ! (load ! (from ! (stop !)) (look ! 12 refl)) (and-then ! (load ! (from ! (stop !)) (look ! 10 refl)) (no-more !))))))))) (λ v-rule-on.
         use1 W (later (some (λ (j : Verdict). ((‵ (flft κ₁ q₁) ⊛ (‵ (flft κ₂ q₂) ⊛ (‵ (flft κ₃ q₃) ⊛ (‵ (flft κ₄ q₄) ⊛ (‵ (Token w8 1024 l₁ (r .0)) ⊛ (‵ (Token w16 4096 l₂ (r .1 .0)) ⊛ (‵ (Token w16 1025 l₃ (r .1 .1)) ⊛ ‵ ftrue))))))) ⊛ ‵ (Ver.the-row .own j (v-rule-on ∷ []))) ⊛ raw (ensured 𝓤 H A rule-on.ended (rule-on.clauses 𝓤 H A mem run) (rule-on-lfts l₇ l₈ l₉ r (ws-fetch .1 .1 .0, (ws-fetch .1 .1 .1 .0, ws-fetch .1 .1 .1 .1 .0))) (rule-on-args l₇ l₈ l₉ r (ws-fetch .1 .1 .0, (ws-fetch .1 .1 .1 .0, ws-fetch .1 .1 .1 .1 .0))) tt j)))) (id⊢ 𝓤 _) $ await ! tt $ pick ! (λ j.
-        split ! $ move ! (1 ∷ []) $ use1 W (some (λ (ws-rule-on : Unit {0} × (Unit {0} × (Unit {0} × (Unit {0} × (Unit {0} × (Unit {0} × (Unit {0} × (Unit {0} × Unit {0})))))))). ‵ (lasts rule-on.ended (rule-on-lfts l₇ l₈ l₉ r (ws-fetch .1 .1 .0, (ws-fetch .1 .1 .1 .0, ws-fetch .1 .1 .1 .1 .0))) (rule-on-args l₇ l₈ l₉ r (ws-fetch .1 .1 .0, (ws-fetch .1 .1 .1 .0, ws-fetch .1 .1 .1 .1 .0))) ws-rule-on) ⊛ raw (fact 𝓤 (shown j ≡ ruled (shown (found .verdict)) (judge (tableOf (kinds .now) (a .now) (b .now) (found .entries)) (take (found .listed) (found .members)) (proofOf (ws-fetch .1 .1 .0) (ws-fetch .1 .1 .1 .0) (ws-fetch .1 .1 .1 .1 .0) (codes .now) (found .nodes))))))) (id⊢ 𝓤 _) $ pick ! (λ ws-rule-on.
-        split ! $ move ! (1 ∷ []) $ heard ! (shown j ≡ ruled (shown (found .verdict)) (judge (tableOf (kinds .now) (a .now) (b .now) (found .entries)) (take (found .listed) (found .members)) (proofOf (ws-fetch .1 .1 .0) (ws-fetch .1 .1 .1 .0) (ws-fetch .1 .1 .1 .1 .0) (codes .now) (found .nodes)))) (λ said.
+        split ! $ move ! (1 ∷ []) $ use1 W (some (λ (ws-rule-on : Unit {0} × (Unit {0} × (Unit {0} × (Unit {0} × (Unit {0} × (Unit {0} × (Unit {0} × (Unit {0} × Unit {0})))))))). ‵ (lasts rule-on.ended (rule-on-lfts l₇ l₈ l₉ r (ws-fetch .1 .1 .0, (ws-fetch .1 .1 .1 .0, ws-fetch .1 .1 .1 .1 .0))) (rule-on-args l₇ l₈ l₉ r (ws-fetch .1 .1 .0, (ws-fetch .1 .1 .1 .0, ws-fetch .1 .1 .1 .1 .0))) ws-rule-on) ⊛ raw (fact 𝓤 (shown j ≡ ruled (shown (found .verdict)) (judgeParts (tableOf (kinds .now) (a .now) (b .now) (found .entries)) (take (found .listed) (found .members)) (proofOf (ws-fetch .1 .1 .0) (ws-fetch .1 .1 .1 .0) (ws-fetch .1 .1 .1 .1 .0) (codes .now) (found .nodes))))))) (id⊢ 𝓤 _) $ pick ! (λ ws-rule-on.
+        split ! $ move ! (1 ∷ []) $ heard ! (shown j ≡ ruled (shown (found .verdict)) (judgeParts (tableOf (kinds .now) (a .now) (b .now) (found .entries)) (take (found .listed) (found .members)) (proofOf (ws-fetch .1 .1 .0) (ws-fetch .1 .1 .1 .0) (ws-fetch .1 .1 .1 .1 .0) (codes .now) (found .nodes)))) (λ said.
         drop ! $
         split ! $ split ! $ move ! (1 ∷ []) $ split ! $ move ! (1 ∷ []) $ split ! $ move ! (1 ∷ []) $ split ! $ move ! (1 ∷ []) $ split ! $ move ! (1 ∷ []) $ split ! $ move ! (1 ∷ []) $ split ! $ move ! (1 ∷ []) $ drop ! $ move ! (7 ∷ []) $ peeks ! Ver.the-row (Is Ver.the-row) (shows 𝓤 H A Ver.the-row) j (v-rule-on ∷ []) (λ is-rule-on.
         land ! (from ! (stop !)) (init ! 46 refl (EL.lawful Ver.the-type Ver′.the-laws 𝓤 H A W tt .typed j _ is-rule-on .0)) $

@@ -45,14 +45,13 @@ use Rattle.verdict.proofs.Verdict as Ver
 use Rattle.verdict.proofs.Verdict.Laws as Ver′
 use Rattle.formula.specs.Table.{Table}
 use Rattle.formula.specs.Plain.{tableOf}
-use Rattle.calculus.specs.Judge.{judge}
 use Rattle.records.specs.Records.{firstEntries, firstNodes, EntriesLoaded}
 use Rattle.records.specs.declared.Entry.{Entry}
 use Rattle.records.specs.declared.Node.{Node}
 use Rattle.records.proofs.Entry as E
 use Rattle.records.proofs.Node as T
 use Rattle.reader.specs.Found.{ruled}
-use Rattle.standing.specs.Standing.{standing, FitsEntries, FitsNodes, Judgeable}
+use Rattle.standing.specs.Standing.{standing, FitsEntries, FitsNodes, Judgeable, judgeParts}
 use Rattle.standing.specs.StandingLaws.{table-stands}
 use Rattle.reader.specs.declared.Found.{Found}
 use Rattle.reader.proofs.Found as F
@@ -121,7 +120,7 @@ module _ {M : Type 1} (𝓤 : URA M) (H : Heap 𝓤) (A : Atoms 𝓤) (W : Given
   abbrev left : Verdict → Val → List (Item 𝓤)
   left r v = ‵ (flft κ₀ q₀) ∷ ‵ (flft κ₁ q₁) ∷ ‵ (flft κ₂ q₂) ∷ ‵ Own-entries ∷ ‵ Own-nodes ∷ ‵ Own-codes ∷ ‵ (Ver.the-row .own r (v ∷ [])) ∷ []
 
-  exits : (r : Verdict) (v : Val) → shown r ≡ ruled (shown (found .verdict)) (judge (firstEntries (entries .now) (found .entries)) (take (found .listed) (found .members)) (standing (firstNodes (nodes .now) (found .nodes)) (codes .now))) → ent 𝓤 (⋆ 𝓤 H A (left r v)) (Post v)
+  exits : (r : Verdict) (v : Val) → shown r ≡ ruled (shown (found .verdict)) (judgeParts (firstEntries (entries .now) (found .entries)) (take (found .listed) (found .members)) (standing (firstNodes (nodes .now) (found .nodes)) (codes .now))) → ent 𝓤 (⋆ 𝓤 H A (left r v)) (Post v)
   exits r v e =
       qed W (left r v) ∵
       suffices ! _ (ends-at 𝓤 H A f.ended stayed (f.clauses 𝓤 H A mem run) W bound v r (tt, (tt, (tt, (tt, tt)))) (tt, (tt, (tt, (tt, tt))))) $ says ! e $
@@ -205,8 +204,8 @@ module _ {M : Type 1} (𝓤 : URA M) (H : Heap 𝓤) (A : Atoms 𝓤) (W : Given
         move ! (2 ∷ 0 ∷ 7 ∷ 8 ∷ 9 ∷ 42 ∷ 43 ∷ 4 ∷ 5 ∷ 6 ∷ []) $ cut (rule-on-passed l₅ l₆ l₇ r (ws-fetch .1 .1 .0, (ws-fetch .1 .1 .1 .0, ws-fetch .1 .1 .1 .1 .0))) (raw (Rule 𝓤 H A mem run .pre (to-rule-on l₅ l₆ l₇ r (ws-fetch .1 .1 .0, (ws-fetch .1 .1 .1 .0, ws-fetch .1 .1 .1 .1 .0)))) ∷ []) _ (goes-rule-on l₅ l₆ l₇ r (ws-fetch .1 .1 .0, (ws-fetch .1 .1 .1 .0, ws-fetch .1 .1 .1 .1 .0)) (subst (λ (t : Table). Judgeable found t (standing (firstNodes (nodes .now) (found .nodes)) (codes .now)) (codes .now)) (sym (table-stands (asked .0) loaded)) (asked .2))) $
         calls-at ! fm (Rule 𝓤 H A mem run) known-rule-on (to-rule-on l₅ l₆ l₇ r (ws-fetch .1 .1 .0, (ws-fetch .1 .1 .1 .0, ws-fetch .1 .1 .1 .1 .0))) (and-then ! (load ! (from ! (stop !)) (look ! 31 refl)) (and-then ! (load ! (from ! (stop !)) (look ! 27 refl)) (and-then ! (load ! (from ! (stop !)) (look ! 25 refl)) (and-then ! (load ! (from ! (stop !)) (look ! 12 refl)) (and-then ! (load ! (from ! (stop !)) (look ! 10 refl)) (and-then ! (load ! (from ! (stop !)) (look ! 8 refl)) (no-more !))))))) (λ v-rule-on.
         use1 W (later (some (λ (j : Verdict). ((‵ (flft κ₁ q₁) ⊛ (‵ (flft κ₂ q₂) ⊛ (‵ (Token w8 256 l₁ (r .0)) ⊛ (‵ (Token w16 256 l₂ (r .1 .0)) ⊛ (‵ (Token w16 256 l₃ (r .1 .1)) ⊛ ‵ ftrue))))) ⊛ ‵ (Ver.the-row .own j (v-rule-on ∷ []))) ⊛ raw (ensured 𝓤 H A rule-on.ended (rule-on.clauses 𝓤 H A mem run) (rule-on-lfts l₅ l₆ l₇ r (ws-fetch .1 .1 .0, (ws-fetch .1 .1 .1 .0, ws-fetch .1 .1 .1 .1 .0))) (rule-on-args l₅ l₆ l₇ r (ws-fetch .1 .1 .0, (ws-fetch .1 .1 .1 .0, ws-fetch .1 .1 .1 .1 .0))) tt j)))) (id⊢ 𝓤 _) $ await ! tt $ pick ! (λ j.
-        split ! $ move ! (1 ∷ []) $ use1 W (some (λ (ws-rule-on : Unit {0} × (Unit {0} × (Unit {0} × (Unit {0} × (Unit {0} × (Unit {0} × Unit {0})))))). ‵ (lasts rule-on.ended (rule-on-lfts l₅ l₆ l₇ r (ws-fetch .1 .1 .0, (ws-fetch .1 .1 .1 .0, ws-fetch .1 .1 .1 .1 .0))) (rule-on-args l₅ l₆ l₇ r (ws-fetch .1 .1 .0, (ws-fetch .1 .1 .1 .0, ws-fetch .1 .1 .1 .1 .0))) ws-rule-on) ⊛ raw (fact 𝓤 (shown j ≡ ruled (shown (found .verdict)) (judge (tableOf (ws-fetch .1 .1 .0) (ws-fetch .1 .1 .1 .0) (ws-fetch .1 .1 .1 .1 .0) (found .entries)) (take (found .listed) (found .members)) (standing (firstNodes (nodes .now) (found .nodes)) (codes .now))))))) (id⊢ 𝓤 _) $ pick ! (λ ws-rule-on.
-        split ! $ move ! (1 ∷ []) $ heard ! (shown j ≡ ruled (shown (found .verdict)) (judge (tableOf (ws-fetch .1 .1 .0) (ws-fetch .1 .1 .1 .0) (ws-fetch .1 .1 .1 .1 .0) (found .entries)) (take (found .listed) (found .members)) (standing (firstNodes (nodes .now) (found .nodes)) (codes .now)))) (λ said.
+        split ! $ move ! (1 ∷ []) $ use1 W (some (λ (ws-rule-on : Unit {0} × (Unit {0} × (Unit {0} × (Unit {0} × (Unit {0} × (Unit {0} × Unit {0})))))). ‵ (lasts rule-on.ended (rule-on-lfts l₅ l₆ l₇ r (ws-fetch .1 .1 .0, (ws-fetch .1 .1 .1 .0, ws-fetch .1 .1 .1 .1 .0))) (rule-on-args l₅ l₆ l₇ r (ws-fetch .1 .1 .0, (ws-fetch .1 .1 .1 .0, ws-fetch .1 .1 .1 .1 .0))) ws-rule-on) ⊛ raw (fact 𝓤 (shown j ≡ ruled (shown (found .verdict)) (judgeParts (tableOf (ws-fetch .1 .1 .0) (ws-fetch .1 .1 .1 .0) (ws-fetch .1 .1 .1 .1 .0) (found .entries)) (take (found .listed) (found .members)) (standing (firstNodes (nodes .now) (found .nodes)) (codes .now))))))) (id⊢ 𝓤 _) $ pick ! (λ ws-rule-on.
+        split ! $ move ! (1 ∷ []) $ heard ! (shown j ≡ ruled (shown (found .verdict)) (judgeParts (tableOf (ws-fetch .1 .1 .0) (ws-fetch .1 .1 .1 .0) (ws-fetch .1 .1 .1 .1 .0) (found .entries)) (take (found .listed) (found .members)) (standing (firstNodes (nodes .now) (found .nodes)) (codes .now)))) (λ said.
         drop ! $
         split ! $ split ! $ move ! (1 ∷ []) $ split ! $ move ! (1 ∷ []) $ split ! $ move ! (1 ∷ []) $ split ! $ move ! (1 ∷ []) $ split ! $ move ! (1 ∷ []) $ drop ! $ move ! (5 ∷ []) $ peeks ! Ver.the-row (Is Ver.the-row) (shows 𝓤 H A Ver.the-row) j (v-rule-on ∷ []) (λ is-rule-on.
         land ! (from ! (stop !)) (init ! 38 refl (EL.lawful Ver.the-type Ver′.the-laws 𝓤 H A W tt .typed j _ is-rule-on .0)) $
@@ -214,7 +213,7 @@ module _ {M : Type 1} (𝓤 : URA M) (H : Heap 𝓤) (A : Atoms 𝓤) (W : Given
         move ! (3 ∷ 2 ∷ 1 ∷ 8 ∷ 9 ∷ 10 ∷ []) $ cut (locals.sharedKept w8 w16 w16 256 256 256 l₅ l₆ l₇ 𝓤 r (ws-fetch .1 .1 .0, (ws-fetch .1 .1 .1 .0, ws-fetch .1 .1 .1 .1 .0))) (later (raw (⋆ 𝓤 H A (locals.rooms w8 w16 w16 256 256 256 l₅ l₆ l₇ 𝓤))) ∷ []) _ (three-ended w8 w16 w16 256 256 256 l₅ l₆ l₇ 𝓤 (lit< tt) (lit< tt) (lit< tt) H A W r (ws-fetch .1 .1 .0, (ws-fetch .1 .1 .1 .0, ws-fetch .1 .1 .1 .1 .0))) $ await ! tt $ cut (raw (⋆ 𝓤 H A (locals.rooms w8 w16 w16 256 256 256 l₅ l₆ l₇ 𝓤)) ∷ []) (locals.rooms w8 w16 w16 256 256 256 l₅ l₆ l₇ 𝓤) _ (id⊢ 𝓤 _) $
         returns ! (look ! 35 refl) $ forget ! 10 refl $ forget ! 12 refl $ forget ! 14 refl $ forget ! 16 refl $ forget ! 18 refl $ forget ! 20 refl $ forget ! 22 refl $ forget ! 27 refl $ forget ! 29 refl $ forget ! 31 refl $ forget ! 33 refl $ forget ! 35 refl $
         move ! (35 ∷ 36 ∷ []) $ free1 ! $ move ! (33 ∷ 34 ∷ []) $ free1 ! $ move ! (31 ∷ 32 ∷ []) $ free1 ! $ move ! (29 ∷ 30 ∷ []) $ free1 ! $ move ! (27 ∷ 28 ∷ []) $ free1 ! $ move ! (0 ∷ 26 ∷ []) $ free1 ! $ move ! (0 ∷ 24 ∷ []) $ free1 ! $ move ! (0 ∷ 22 ∷ []) $ free1 ! $ move ! (19 ∷ 20 ∷ []) $ free1 ! $ move ! (17 ∷ 18 ∷ []) $ free1 ! $ move ! (15 ∷ 16 ∷ []) $ free1 ! $ move ! (13 ∷ 14 ∷ []) $ free1 ! $ move ! (11 ∷ 12 ∷ []) $ free1 ! $ move ! (9 ∷ 10 ∷ []) $ free1 ! $ move ! (7 ∷ 8 ∷ []) $ free1 ! $ free0 ! $
-        keep ! (5 ∷ 2 ∷ 1 ∷ 6 ∷ 4 ∷ 3 ∷ 0 ∷ []) $ by ! (exits j v-rule-on (said ∙ ap (λ (t : Table). ruled (shown (found .verdict)) (judge t (take (found .listed) (found .members)) (standing (firstNodes (nodes .now) (found .nodes)) (codes .now)))) (table-stands (asked .0) loaded))))))))))))))))))))))))))))))
+        keep ! (5 ∷ 2 ∷ 1 ∷ 6 ∷ 4 ∷ 3 ∷ 0 ∷ []) $ by ! (exits j v-rule-on (said ∙ ap (λ (t : Table). ruled (shown (found .verdict)) (judgeParts t (take (found .listed) (found .members)) (standing (firstNodes (nodes .now) (found .nodes)) (codes .now)))) (table-stands (asked .0) loaded))))))))))))))))))))))))))))))
 
 module _ {M : Type 1} (𝓤 : URA M) (H : Heap 𝓤) (A : Atoms 𝓤) (W : Given 𝓤 H A) (mem : Memory → SProp 𝓤) (run : Routine → Fun 𝓤) where
   f-walks : (C : Calls 𝓤 H) (Λ : Loops 𝓤 H) → FmC 𝓤 H (W .laws) C → Triple 𝓤 (C #fetch) (Fetch 𝓤 H A mem run) → Triple 𝓤 (C #rule-on) (Rule 𝓤 H A mem run) → Walks 𝓤 H A f.ended stayed (WpFn 𝓤 H C Λ code.function) (f.clauses 𝓤 H A mem run)
