@@ -7,6 +7,9 @@ use Prim.Native.Nat.{ℕ}
 use native.Mathlib.Omega.{arith}
 use Rattle.verdict.specs.Verdict.{Verdict, accepted, refused, packed}
 use Rattle.encoding.specs.Encode.{Bytes}
+use Rattle.encoding.specs.File as file
+use Rattle.encoding.specs.File.{Reading, good}
+use Rattle.formula.specs.Claim.{Derivation}
 use Rattle.records.specs.declared.Entry.{Entry}
 use Rattle.records.specs.declared.Node.{Node}
 use Rattle.permit.specs.GateState.{Gate, closed, opened, holding}
@@ -16,8 +19,9 @@ use Rattle.permit.specs.declared.State.{State}
 use Rattle.permit.specs.declared.numbered.Numbered.{Numbered}
 use Rattle.demands.specs.Slices.{Lent, short, LongEnough}
 use Rattle.presenting.specs.LentSlices.{lentOf}
-use Rattle.demands.specs.Check.{Checked, unread, decoded, check}
-use Rattle.demands.specs.Present.{presentedBy, ifLong, presenting}
+use Rattle.calculus.specs.Judge.{judge}
+use Rattle.reader.specs.Files.{Files, files}
+use Rattle.demands.specs.Present.{held, presentedBy, ifLong, presenting}
 use Rattle.demands.specs.PresentLaws.{Granted, presented-verdict}
 use Rattle.demands.specs.Correct.{Correct, Irrefutable}
 use Rattle.demands.specs.Earned.{Earned}
@@ -92,19 +96,22 @@ module _ {s : State} {tag : ℕ} {claim proof : List ℕ} {es : List Entry} {vs 
 
 -- ---- the numbers that are left stand for the state that the definition leaves, with a refusal too
 module _ (s : State) (tag : ℕ) (claim proof : List ℕ) (l : Lent) where
-  checked-left : (x : Checked) → stateOf s ≡ opened → stateOf (leftBy (presentedBy x tag l .answer) (presentedBy x tag l .gate) s) ≡ presentedBy x tag l .gate
-  checked-left (unread n q) e = e
-  checked-left (decoded t p accepted) e = plain-reads (holding tag)
-  checked-left (decoded t p (refused n q)) e = e
+  held-left : (v : Verdict) → stateOf s ≡ opened → stateOf (leftBy v (held v tag) s) ≡ held v tag
+  held-left accepted e = plain-reads (holding tag)
+  held-left (refused n q) e = e
 
-  long-left : (b : Bool) (x : Checked) → stateOf s ≡ opened → stateOf (leftBy (ifLong b l (presentedBy x tag l) .answer) (ifLong b l (presentedBy x tag l) .gate) s) ≡ ifLong b l (presentedBy x tag l) .gate
+  checked-left : (x : Reading (Files Derivation)) → stateOf s ≡ opened → stateOf (leftBy (presentedBy x tag l .answer) (presentedBy x tag l .gate) s) ≡ presentedBy x tag l .gate
+  checked-left (file.refused n q) e = e
+  checked-left (good f) e = held-left (judge (f .claim) (f .beside)) e
+
+  long-left : (b : Bool) (x : Reading (Files Derivation)) → stateOf s ≡ opened → stateOf (leftBy (ifLong b l (presentedBy x tag l) .answer) (ifLong b l (presentedBy x tag l) .gate) s) ≡ ifLong b l (presentedBy x tag l) .gate
   long-left true x e = e
   long-left false x e = checked-left x e
 
   presenting-left : (g : Gate) → stateOf s ≡ g → stateOf (leftBy (presenting g tag claim proof l .answer) (presenting g tag claim proof l .gate) s) ≡ presenting g tag claim proof l .gate
   unfolding presenting
   presenting-left closed e = e
-  presenting-left opened e = long-left (short l) (check claim proof) e
+  presenting-left opened e = long-left (short l) (files claim proof) e
   presenting-left (holding old) e = e
 
   pub presenting-reads : stateOf (leftBy (presenting (stateOf s) tag claim proof l .answer) (presenting (stateOf s) tag claim proof l .gate) s) ≡ presenting (stateOf s) tag claim proof l .gate

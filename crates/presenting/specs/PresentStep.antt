@@ -16,24 +16,20 @@ use Rattle.verdict.specs.Shown.{shown}
 use Rattle.encoding.specs.Encode.{Bytes}
 use Rattle.encoding.specs.File.{Reading, refused, good}
 use Rattle.formula.specs.Table.{Table}
+use Rattle.formula.specs.Claim.{Derivation}
 use Rattle.formula.specs.Nodes.{Proof}
 use Rattle.formula.specs.Records.{nodeRecords, allCodes}
-use Rattle.conditions.specs.Judge.{judgeTable}
-use Rattle.claims.specs.ReadClaim.{readClaim}
-use Rattle.proofs.specs.ReadProof.{readProof}
 use Rattle.nodes.specs.ProofDecode.{proofIn}
 use Rattle.calculus.specs.Judge.{judge}
 use Rattle.records.specs.Records.{shownEntry, shownNode, shownEntries, shownNodes, firstEntries, firstNodes, total}
 use Rattle.records.specs.Shown.{total-codes}
 use Rattle.records.specs.declared.Entry.{Entry}
 use Rattle.records.specs.declared.Node.{Node}
-use Rattle.reader.specs.Files as decoding
-use Rattle.reader.specs.Files.{Files, unread, readable, firstly, files, tableIn}
+use Rattle.reader.specs.Files.{Files, firstly, files, tableIn}
 use Rattle.reader.specs.Found.{Unread, Readable, Tells, ruled}
-use Rattle.reader.specs.FilesLaws.{read-table, read-entries, read-decodes, read-nodes, read-count, read-codes, read-well}
-use Rattle.standing.specs.ReadableLaws.{read-given, read-members}
 use Rattle.decoding.specs.Columns.{nodesIf, Counted, CodesRoom, ProofStored}
-use Rattle.standing.specs.Standing.{standing, FitsEntries, FitsNodes, Ruleable, Judgeable}
+use Rattle.standing.specs.ReadableLaws.{read-table, read-entries, read-decodes, read-nodes, read-count, read-codes, read-well, read-inside, read-members}
+use Rattle.standing.specs.Standing.{standing, judgeParts, FitsEntries, FitsNodes, Ruleable, Judgeable}
 use Rattle.standing.specs.StandingLaws.{standing-is}
 use Rattle.reader.specs.declared.Found.{Found}
 use Rattle.permit.specs.GateState.{Gate, closed, opened, holding}
@@ -43,8 +39,6 @@ use Rattle.permit.specs.declared.State.{State}
 use Rattle.permit.specs.declared.numbered.Numbered.{Numbered}
 use Rattle.demands.specs.Slices.{short, decodedInto}
 use Rattle.presenting.specs.LentSlices.{lentOf}
-use Rattle.demands.specs.Check as checks
-use Rattle.demands.specs.Check.{Checked, check}
 use Rattle.demands.specs.Present.{Presented, held, presentedBy, ifLong, presenting}
 
 module _ (s : State) (tag : ℕ) (claim proof : List ℕ) (es : List Entry) (vs : List Node) (cs : List ℕ) where
@@ -57,27 +51,6 @@ module _ (s : State) (tag : ℕ) (claim proof : List ℕ) (es : List Entry) (vs 
     pub answer : r .answer ≡ packed (right .answer)
     pub state : r .state ≡ leftBy (right .answer) (right .gate) s
     pub lent : lentOf es′ vs′ cs′ ≡ right .lent
-
--- ---- the check is what the files give, judged
-abbrev pub judgedFiles : Files → Checked
-judgedFiles (unread n q) = checks.unread n q
-judgedFiles (readable t ms p) = checks.decoded t p (judge t ms p)
-
-pub check-files : (claim proof : List ℕ) → check claim proof ≡ judgedFiles (files claim proof)
-unfolding check files
-check-files claim proof = by-claim (readClaim claim)
-  where
-    by-proof : (t : Table) (ms : List ℕ) (g : Reading Proof) → checks.afterProof t ms g ≡ judgedFiles (decoding.afterProof t ms g)
-    by-proof t ms (refused n q) = refl
-    by-proof t ms (good p) = refl
-
-    by-table : (v : Verdict) (x : Checked) (y : Files) → x ≡ judgedFiles y → checks.afterTable v x ≡ judgedFiles (firstly v y)
-    by-table accepted x y e = e
-    by-table (verdicts.refused n q) x y e = refl
-
-    by-claim : (g : Reading (Table × List ℕ)) → checks.afterClaim g proof ≡ judgedFiles (decoding.afterClaim g proof)
-    by-claim (refused n q) = refl
-    by-claim (good c) = by-table (judgeTable (c .0)) _ _ (by-proof (c .0) (c .1) (readProof (c .0) proof))
 
 -- ---- lists of records
 module _ {A B : Type 0} (f : A → B) where
@@ -119,16 +92,16 @@ module _ (tag : ℕ) (claim proof : List ℕ) (es : List Entry) (vs : List Node)
     pub answer : x .answer ≡ verdicts.refused n q
     pub lent : x .lent ≡ lentOf es vs cs
 
-  record Whole (x : Presented) (t : Table) (ms : List ℕ) (p : Proof) : Type 0 where
-    pub read : files claim proof ≡ readable t ms p
+  record Whole (x : Presented) (fs : Files Derivation) : Type 0 where
+    pub read : files claim proof ≡ good fs
     pub entries : 256 ≤ length es
     pub nodes : 1024 ≤ length vs
     pub codes : 24576 ≤ length cs
-    pub is : x ≡ presentedBy (checks.decoded t p (judge t ms p)) tag (lentOf es vs cs)
+    pub is : x ≡ presentedBy (good fs) tag (lentOf es vs cs)
 
-  abbrev Known : Presented → Files → Type 0
-  Known x (unread n q) = Stopped x n q
-  Known x (readable t ms p) = Whole x t ms p
+  abbrev Known : Presented → Reading (Files Derivation) → Type 0
+  Known x (refused n q) = Stopped x n q
+  Known x (good fs) = Whole x fs
 
   abbrev few : Bool
   few = ltb (length es) 256 || (ltb (length vs) 1024 || ltb (length cs) 24576)
@@ -136,9 +109,9 @@ module _ (tag : ℕ) (claim proof : List ℕ) (es : List Entry) (vs : List Node)
   short-few : short (lentOf es vs cs) ≡ few
   short-few = rw (length-map es shownEntry, length-map vs shownNode) refl
 
-  by-files : few ≡ false → (f : Files) → files claim proof ≡ f → Known (presentedBy (judgedFiles f) tag (lentOf es vs cs)) f
-  by-files h (unread n q) e = record { answer = refl; lent = refl }
-  by-files h (readable t ms p) e =
+  by-files : few ≡ false → (r : Reading (Files Derivation)) → files claim proof ≡ r → Known (presentedBy r tag (lentOf es vs cs)) r
+  by-files h (refused n q) e = record { answer = refl; lent = refl }
+  by-files h (good fs) e =
       let (a, bc) = both-false (ltb (length es) 256) (ltb (length vs) 1024 || ltb (length cs) 24576) h in
       let (b, c) = both-false (ltb (length vs) 1024) (ltb (length cs) 24576) bc in
       record {
@@ -149,9 +122,9 @@ module _ (tag : ℕ) (claim proof : List ℕ) (es : List Entry) (vs : List Node)
         is = refl;
       }
 
-  by-lengths : (b : Bool) → few ≡ b → Known (ifLong b (lentOf es vs cs) (presentedBy (check claim proof) tag (lentOf es vs cs))) (firstly (pick b (verdicts.refused 1 0) accepted) (files claim proof))
+  by-lengths : (b : Bool) → few ≡ b → Known (ifLong b (lentOf es vs cs) (presentedBy (files claim proof) tag (lentOf es vs cs))) (firstly (pick b (verdicts.refused 1 0) accepted) (files claim proof))
   by-lengths true h = record { answer = refl; lent = refl }
-  by-lengths false h = rw (check-files claim proof) (by-files h (files claim proof) refl)
+  by-lengths false h = by-files h (files claim proof) refl
 
   known : (g : Gate) → Known (presenting g tag claim proof (lentOf es vs cs)) (firstly (standsBefore g (length es) (length vs) (length cs)) (files claim proof))
   unfolding presenting standsBefore
@@ -166,10 +139,10 @@ told-before claim proof found e told = rw e at told
 -- ---- the stages, one after the other
 module _ (s : State) (tag : ℕ) (claim proof : List ℕ) (es : List Entry) (vs : List Node) (cs : List ℕ) (bc : Bytes claim) (bp : Bytes proof) (found : Found)
     (told : Tells (firstly (standsBefore (stateOf s) (length es) (length vs) (length cs)) (files claim proof)) found) where
-  abbrev first : Files
+  abbrev first : Reading (Files Derivation)
   first = firstly (standsBefore (stateOf s) (length es) (length vs) (length cs)) (files claim proof)
 
-  abbrev Case : Files → Type 0
+  abbrev Case : Reading (Files Derivation) → Type 0
   Case x = Known tag claim proof es vs cs (right s tag claim proof es vs cs) x
 
   case : Case first
@@ -178,9 +151,9 @@ module _ (s : State) (tag : ℕ) (claim proof : List ℕ) (es : List Entry) (vs 
   pub may-store-claim : (found .entries ≤ 256) × (found .entries ≤ length es) × (found .entries ≤ length (tableIn claim))
   may-store-claim = go first case told
     where
-      go : (x : Files) → Case x → Tells x found → (found .entries ≤ 256) × (found .entries ≤ length es) × (found .entries ≤ length (tableIn claim))
-      go (unread n q) k u = (omega (arith, u .entries), omega (arith, u .entries), omega (arith, u .entries))
-      go (readable t ms p) k u =
+      go : (x : Reading (Files Derivation)) → Case x → Tells x found → (found .entries ≤ 256) × (found .entries ≤ length es) × (found .entries ≤ length (tableIn claim))
+      go (refused n q) k u = (omega (arith, u .entries), omega (arith, u .entries), omega (arith, u .entries))
+      go (good fs) k u =
           let few = read-entries claim proof bc bp (k .read) in
           let same = ap length (read-table claim proof bc bp (k .read)) in
           (omega (arith, u .entries, few), omega (arith, u .entries, few, k .entries), omega (arith, u .entries, same))
@@ -192,13 +165,13 @@ module _ (s : State) (tag : ℕ) (claim proof : List ℕ) (es : List Entry) (vs 
       none zero e = refl
       none (suc m) e = absurd (omega arith)
 
-      go : (x : Files) → Case x → Tells x found → Counted proof (found .nodes) × (found .nodes ≤ length vs) × CodesRoom (found .nodes) cs
-      go (unread n q) k u = (
+      go : (x : Reading (Files Derivation)) → Case x → Tells x found → Counted proof (found .nodes) × (found .nodes ≤ length vs) × CodesRoom (found .nodes) cs
+      go (refused n q) k u = (
         record { decodes = λ h. absurd (omega (arith, u .nodes)); many = none (found .nodes) (u .nodes); few = omega (arith, u .nodes) },
         omega (arith, u .nodes),
         λ h. absurd (omega (arith, u .nodes)),
       )
-      go (readable t ms p) k u =
+      go (good fs) k u =
           let count = read-count claim proof bc bp (k .read) in
           let same = nodes-some (found .nodes) proof (omega (arith, u .nodes, count)) ∙ read-nodes claim proof bc bp (k .read) in (
             record { decodes = λ h. read-decodes claim proof bc bp (k .read); many = u .nodes ∙ sym (ap length same); few = omega (arith, u .nodes, count) },
@@ -227,7 +200,13 @@ module _ (s : State) (tag : ℕ) (claim proof : List ℕ) (es : List Entry) (vs 
           record { nodes = omega (arith, u .nodes); there = omega (arith, u .nodes); codes = omega (arith, none) }
 
     -- what was written of readable files stands in the slices
-    module _ {t : Table} {ms : List ℕ} {p : Proof} (read : files claim proof ≡ readable t ms p) (u : Readable t ms p found) where
+    module _ {fs : Files Derivation} (read : files claim proof ≡ good fs) (u : Readable fs found) where
+      abbrev t : Table
+      t = fs .claim .entries
+
+      abbrev p : Proof
+      p = fs .beside .nodes
+
       table-is : take (found .entries) (tableIn claim) ≡ t
       table-is = ap (take (found .entries)) (read-table claim proof bc bp read) ∙ take-all (found .entries) t (omega (arith, u .entries))
 
@@ -240,7 +219,7 @@ module _ (s : State) (tag : ℕ) (claim proof : List ℕ) (es : List Entry) (vs 
       nodes-are : ProofStored p vs vs′ cs cs′
       nodes-are = rw proof-is at kept
 
-      whole-lent : lentOf es′ vs′ cs′ ≡ decodedInto t p (lentOf es vs cs)
+      whole-lent : lentOf es′ vs′ cs′ ≡ decodedInto fs (lentOf es vs cs)
       whole-lent = rw (entries-are, nodes-are .nodes, nodes-are .codes) refl
 
       many-nodes : found .nodes ≡ length (nodeRecords p)
@@ -276,34 +255,34 @@ module _ (s : State) (tag : ℕ) (claim proof : List ℕ) (es : List Entry) (vs 
         some = omega (arith, u .nodes, read-count claim proof bc bp read);
         codes = omega (arith, codes-long);
         well = rw table-stands (read-well claim proof bc bp read);
-        given = rw (table-stands, proof-stands) (read-given claim proof bc bp read);
+        inside = rw (table-stands, proof-stands) (read-inside claim proof bc bp read);
         members = read-members claim proof bc bp read u;
       }
 
     pub may-judge : FitsEntries found es′ × FitsNodes found vs′ cs′ × Judgeable found (firstEntries es′ (found .entries)) (standing (firstNodes vs′ (found .nodes)) cs′) cs′
     may-judge = go first case told
       where
-        go : (x : Files) → Case x → Tells x found
+        go : (x : Reading (Files Derivation)) → Case x → Tells x found
             → FitsEntries found es′ × FitsNodes found vs′ cs′ × Judgeable found (firstEntries es′ (found .entries)) (standing (firstNodes vs′ (found .nodes)) cs′) cs′
-        go (unread n q) k u = (unread-entries u, unread-nodes u, λ h. absurd (accepted-not-refused (sym (u .verdict) ∙ h)))
-        go (readable t ms p) k u = (fits-entries (k .read) u, fits-nodes (k .read) u, λ h. ruleable (k .read) u (k .codes))
+        go (refused n q) k u = (unread-entries u, unread-nodes u, λ h. absurd (accepted-not-refused (sym (u .verdict) ∙ h)))
+        go (good fs) k u = (fits-entries (k .read) u, fits-nodes (k .read) u, λ h. ruleable (k .read) u (k .codes))
 
-    pub presented-step : {v : Verdict} (ruled-is : v ≡ ruled (shown (found .verdict)) (judge (firstEntries es′ (found .entries)) (take (found .listed) (found .members)) (standing (firstNodes vs′ (found .nodes)) cs′)))
+    pub presented-step : {v : Verdict} (ruled-is : v ≡ ruled (shown (found .verdict)) (judgeParts (firstEntries es′ (found .entries)) (take (found .listed) (found .members)) (standing (firstNodes vs′ (found .nodes)) cs′)))
         {r : Numbered} (settled : Settled s tag v r) → PresentedStep s tag claim proof es vs cs r es′ vs′ cs′
     presented-step {v} ruled-is {r} settled = go first case told
       where
-        go : (x : Files) → Case x → Tells x found → PresentedStep s tag claim proof es vs cs r es′ vs′ cs′
-        go (unread n q) k u =
+        go : (x : Reading (Files Derivation)) → Case x → Tells x found → PresentedStep s tag claim proof es vs cs r es′ vs′ cs′
+        go (refused n q) k u =
             let is : v ≡ verdicts.refused n q = ruled-is ∙ rw (u .verdict) refl in
             record {
               answer = settled .answer ∙ ap packed (is ∙ sym (k .answer));
               state = settled .state ∙ ap (λ (w : Verdict). settledState w tag s) is ∙ sym (ap (λ (w : Verdict). leftBy w (right s tag claim proof es vs cs .gate) s) (k .answer));
               lent = same-lent u ∙ sym (k .lent);
             }
-        go (readable t ms p) k u =
-            let is : v ≡ judge t ms p = ruled-is ∙ rw (u .verdict, table-stands (k .read) u, u .members, proof-stands (k .read) u) refl in
+        go (good fs) k u =
+            let is : v ≡ judge (fs .claim) (fs .beside) = ruled-is ∙ rw (u .verdict, table-stands (k .read) u, u .members, proof-stands (k .read) u) refl in
             record {
               answer = settled .answer ∙ ap packed is ∙ sym (ap (λ (x : Presented). packed (x .answer)) (k .is));
-              state = settled .state ∙ ap (λ (w : Verdict). settledState w tag s) is ∙ settled-left (judge t ms p) tag s ∙ sym (ap (λ (x : Presented). leftBy (x .answer) (x .gate) s) (k .is));
+              state = settled .state ∙ ap (λ (w : Verdict). settledState w tag s) is ∙ settled-left (judge (fs .claim) (fs .beside)) tag s ∙ sym (ap (λ (x : Presented). leftBy (x .answer) (x .gate) s) (k .is));
               lent = whole-lent (k .read) u ∙ sym (ap (λ (x : Presented). x .lent) (k .is));
             }

@@ -7,7 +7,7 @@ use permit::State;
 use permit::numbered::Numbered;
 use permit::present::settle;
 use permit::present::stands_before;
-use reader::read_files;
+use reader::find_files;
 use records::Entry;
 use records::Node;
 use standing::judge_records;
@@ -26,7 +26,7 @@ pub fn present_step(
         (r .answer) (r .state) (now (entries .exit)) (now (nodes .exit)) (now (codes .exit)) ⌝ }
 {
     let before = stands_before(state, entries.len(), nodes.len(), codes.len());
-    let found = read_files(before, claim, proof);
+    let found = find_files(before, claim, proof);
     store_claim(entries, claim, found.entries);
     store_proof(nodes, codes, proof, found.nodes);
     let verdict = judge_records(found, entries, nodes, codes);

@@ -44,7 +44,6 @@ use Rattle.verdict.specs.Shown.{shown}
 use Rattle.verdict.specs.declared.Verdict.{Verdict}
 use Rattle.verdict.proofs.Verdict as Ver
 use Rattle.verdict.proofs.Verdict.Laws as Ver′
-use Rattle.calculus.specs.Judge.{judge}
 use Rattle.records.specs.Records.{shownEntries, firstEntries, firstNodes}
 use Rattle.records.specs.declared.Entry.{Entry}
 use Rattle.records.specs.declared.Node.{Node}
@@ -56,7 +55,7 @@ use Rattle.records.proofs.Slice.{Slice, slice-lent, slice-back, slice-shared, s
 use Rattle.reader.specs.Files.{tableIn}
 use Rattle.reader.specs.Found.{FilesTold, ruled}
 use Rattle.decoding.specs.Columns.{nodesIf, Counted, CodesRoom, ProofStored}
-use Rattle.standing.specs.Standing.{standing, FitsEntries, FitsNodes, Judgeable}
+use Rattle.standing.specs.Standing.{standing, FitsEntries, FitsNodes, Judgeable, judgeParts}
 use Rattle.reader.specs.declared.Found.{Found}
 use Rattle.reader.proofs.Found as F
 use Rattle.reader.proofs.Found.Laws as F′
@@ -74,10 +73,10 @@ use Rattle.permit.proofs.present.stands_before as stand
 use Rattle.permit.proofs.present.stands_before.Symbol as stand-def
 use Rattle.permit.proofs.present.stands_before.Symbol.{name as #stand}
 use Rattle.permit.proofs.present.stands_before.Met as stand-thm
-use Rattle.reader.proofs.read_files as read
-use Rattle.reader.proofs.read_files.Symbol as read-def
-use Rattle.reader.proofs.read_files.Symbol.{name as #read}
-use Rattle.reader.proofs.read_files.Met as read-thm
+use Rattle.reader.proofs.find_files as read
+use Rattle.reader.proofs.find_files.Symbol as read-def
+use Rattle.reader.proofs.find_files.Symbol.{name as #read}
+use Rattle.reader.proofs.find_files.Met as read-thm
 use Rattle.decoding.proofs.store_claim as put-entries
 use Rattle.decoding.proofs.store_claim.Symbol as put-entries-def
 use Rattle.decoding.proofs.store_claim.Symbol.{name as #put-entries}
@@ -314,7 +313,7 @@ module _ {M : Type 1} (𝓤 : URA M) (H : Heap 𝓤) (A : Atoms 𝓤) (W : Given
         drop ! $
         split ! $ drop ! $ peeks ! Ver.the-row (Is Ver.the-row) (shows 𝓤 H A Ver.the-row) b (v-stand ∷ []) (λ is-stand. drop ! $
         land ! (from ! (stop !)) (init ! 39 refl (EL.lawful Ver.the-type Ver′.the-laws 𝓤 H A W tt .typed b _ is-stand .0)) $ rewrite ! 39 (λ (u : Val). ‵ (fat fullShare Ver′.mir l₈ 0 u)) (ap only (EL.tells Ver.the-type Ver′.the-laws b (v-stand ∷ []) is-stand)) refl $
-        -- `read_files(before, claim, proof)`
+        -- `find_files(before, claim, proof)`
         move ! (57 ∷ []) $ use1 W (‵ Own-claim ⊛ ‵ Own-claim) (shr-slice-copy 𝓤 H A W (named 0) κ₀ u8 .twice claim (v-claim ∷ [])) $ split ! $
         move ! (60 ∷ []) $ use1 W (‵ Own-proof ⊛ ‵ Own-proof) (shr-slice-copy 𝓤 H A W (named 1) κ₁ u8 .twice proof (v-proof ∷ [])) $ split ! $
         move ! (2 ∷ 0 ∷ 61 ∷ 62 ∷ []) $ cut (read-passed b) (raw (Read 𝓤 H A mem run .pre (to-read b)) ∷ []) _ (goes-read b (subst (Is Ver.the-row b) (EL.tells Ver.the-type Ver′.the-laws b (v-stand ∷ []) is-stand) is-stand)) $
@@ -368,8 +367,8 @@ module _ {M : Type 1} (𝓤 : URA M) (H : Heap 𝓤) (A : Atoms 𝓤) (W : Given
         move ! (6 ∷ 3 ∷ 0 ∷ 8 ∷ 5 ∷ 2 ∷ []) $ cut (rule-on-passed d (s₁, (s₂, s₃)) (ws-put-entries .0) (ws-put-nodes .0) (ws-put-nodes .1 .0)) (raw (Rule 𝓤 H A mem run .pre (to-rule-on d (s₁, (s₂, s₃)) (ws-put-entries .0) (ws-put-nodes .0) (ws-put-nodes .1 .0))) ∷ []) _ (goes-rule-on d (s₁, (s₂, s₃)) (ws-put-entries .0) (ws-put-nodes .0) (ws-put-nodes .1 .0) (subst (Is F.the-row d) (LL.tells F.the-type F′.the-laws d (v-read ∷ []) is-read) is-read) (may-judge state tag (claim .now) (proof .now) (entries .now) (nodes .now) (codes .now) (found-is .claim-bytes) (found-is .proof-bytes) d (told-before (claim .now) (proof .now) d before-is (found-is .told)) (ws-put-entries .0) stored kept)) $
         calls-at ! fm (Rule 𝓤 H A mem run) known-rule-on (to-rule-on d (s₁, (s₂, s₃)) (ws-put-entries .0) (ws-put-nodes .0) (ws-put-nodes .1 .0)) (and-then ! (load ! (from ! (stop !)) (look ! 42 refl)) (and-then ! (load ! (from ! (stop !)) (look ! 16 refl)) (and-then ! (load ! (from ! (stop !)) (look ! 12 refl)) (and-then ! (load ! (from ! (stop !)) (look ! 8 refl)) (no-more !))))) (λ v-rule-on.
         use1 W (later (some (λ (j : Verdict). ((‵ (flft (s₁ .0 ∷ []) fullShare) ⊛ (‵ (flft (s₂ .0 ∷ []) fullShare) ⊛ (‵ (flft (s₃ .0 ∷ []) fullShare) ⊛ ‵ ftrue))) ⊛ ‵ (Ver.the-row .own j (v-rule-on ∷ []))) ⊛ raw (ensured 𝓤 H A rule-on.ended (rule-on.clauses 𝓤 H A mem run) (rule-on-lfts d (s₁, (s₂, s₃)) (ws-put-entries .0) (ws-put-nodes .0) (ws-put-nodes .1 .0)) (rule-on-args d (s₁, (s₂, s₃)) (ws-put-entries .0) (ws-put-nodes .0) (ws-put-nodes .1 .0)) tt j)))) (id⊢ 𝓤 _) $ await ! tt $ pick ! (λ j.
-        split ! $ move ! (1 ∷ []) $ use1 W (some (λ (ws-rule-on : Unit {0} × (Unit {0} × (Unit {0} × (Unit {0} × Unit {0})))). ‵ (lasts rule-on.ended (rule-on-lfts d (s₁, (s₂, s₃)) (ws-put-entries .0) (ws-put-nodes .0) (ws-put-nodes .1 .0)) (rule-on-args d (s₁, (s₂, s₃)) (ws-put-entries .0) (ws-put-nodes .0) (ws-put-nodes .1 .0)) ws-rule-on) ⊛ raw (fact 𝓤 (shown j ≡ ruled (shown (d .verdict)) (judge (firstEntries (ws-put-entries .0) (d .entries)) (take (d .listed) (d .members)) (standing (firstNodes (ws-put-nodes .0) (d .nodes)) (ws-put-nodes .1 .0))))))) (id⊢ 𝓤 _) $ pick ! (λ ws-rule-on.
-        split ! $ move ! (1 ∷ []) $ heard ! (shown j ≡ ruled (shown (d .verdict)) (judge (firstEntries (ws-put-entries .0) (d .entries)) (take (d .listed) (d .members)) (standing (firstNodes (ws-put-nodes .0) (d .nodes)) (ws-put-nodes .1 .0)))) (λ ruled-is.
+        split ! $ move ! (1 ∷ []) $ use1 W (some (λ (ws-rule-on : Unit {0} × (Unit {0} × (Unit {0} × (Unit {0} × Unit {0})))). ‵ (lasts rule-on.ended (rule-on-lfts d (s₁, (s₂, s₃)) (ws-put-entries .0) (ws-put-nodes .0) (ws-put-nodes .1 .0)) (rule-on-args d (s₁, (s₂, s₃)) (ws-put-entries .0) (ws-put-nodes .0) (ws-put-nodes .1 .0)) ws-rule-on) ⊛ raw (fact 𝓤 (shown j ≡ ruled (shown (d .verdict)) (judgeParts (firstEntries (ws-put-entries .0) (d .entries)) (take (d .listed) (d .members)) (standing (firstNodes (ws-put-nodes .0) (d .nodes)) (ws-put-nodes .1 .0))))))) (id⊢ 𝓤 _) $ pick ! (λ ws-rule-on.
+        split ! $ move ! (1 ∷ []) $ heard ! (shown j ≡ ruled (shown (d .verdict)) (judgeParts (firstEntries (ws-put-entries .0) (d .entries)) (take (d .listed) (d .members)) (standing (firstNodes (ws-put-nodes .0) (d .nodes)) (ws-put-nodes .1 .0)))) (λ ruled-is.
         drop ! $
         split ! $ split ! $ move ! (1 ∷ []) $ split ! $ move ! (1 ∷ []) $ split ! $ move ! (1 ∷ []) $ drop ! $ move ! (3 ∷ []) $ peeks ! Ver.the-row (Is Ver.the-row) (shows 𝓤 H A Ver.the-row) j (v-rule-on ∷ []) (λ is-rule-on. drop ! $
         land ! (from ! (stop !)) (init ! 42 refl (EL.lawful Ver.the-type Ver′.the-laws 𝓤 H A W tt .typed j _ is-rule-on .0)) $ rewrite ! 42 (λ (u : Val). ‵ (fat fullShare Ver′.mir l₁₀ 0 u)) (ap only (EL.tells Ver.the-type Ver′.the-laws j (v-rule-on ∷ []) is-rule-on)) refl $
@@ -409,7 +408,7 @@ present-step-spec 𝓤 H 𝓜 𝓖 𝓡 =
     (tables 𝓤 H 𝓜 𝓡 code.env .C) (tables 𝓤 H 𝓜 𝓡 code.env .Λ) #fn code.function (code.unfolded 𝓤 H 𝓜 𝓡)
     (f-meets 𝓤 H (𝓖 .A) (givenOf 𝓤 H 𝓜 𝓖) (𝓜 .mem) (𝓡 .run) (tablesOf 𝓤 H 𝓜 (tables 𝓤 H 𝓜 𝓡 code.env))
     (cited 𝓤 H (Stand 𝓤 H (𝓖 .A) (𝓜 .mem) (𝓡 .run)) 𝓜 𝓡 code.env #stand stand-def.routine code.calls-permit·present·stands-before (stand-thm.met 𝓤 H 𝓜 𝓖 𝓡))
-    (cited 𝓤 H (Read 𝓤 H (𝓖 .A) (𝓜 .mem) (𝓡 .run)) 𝓜 𝓡 code.env #read read-def.routine code.calls-reader·read-files (read-thm.met 𝓤 H 𝓜 𝓖 𝓡))
+    (cited 𝓤 H (Read 𝓤 H (𝓖 .A) (𝓜 .mem) (𝓡 .run)) 𝓜 𝓡 code.env #read read-def.routine code.calls-reader·find-files (read-thm.met 𝓤 H 𝓜 𝓖 𝓡))
     (cited 𝓤 H (PutE 𝓤 H (𝓖 .A) (𝓜 .mem) (𝓡 .run)) 𝓜 𝓡 code.env #put-entries put-entries-def.routine code.calls-decoding·store-claim (put-entries-thm.met 𝓤 H 𝓜 𝓖 𝓡))
     (cited 𝓤 H (PutN 𝓤 H (𝓖 .A) (𝓜 .mem) (𝓡 .run)) 𝓜 𝓡 code.env #put-nodes put-nodes-def.routine code.calls-decoding·store-proof (put-nodes-thm.met 𝓤 H 𝓜 𝓖 𝓡))
     (cited 𝓤 H (Rule 𝓤 H (𝓖 .A) (𝓜 .mem) (𝓡 .run)) 𝓜 𝓡 code.env #rule-on rule-on-def.routine code.calls-standing·judge-records (rule-on-thm.met 𝓤 H 𝓜 𝓖 𝓡))
