@@ -10,10 +10,10 @@ use lib.ListN.{length, getD, take, drop, drop-of-length-le, List·getD-eq-defaul
 use lib.Seq.{drop-cons, take-nil}
 use Rattle.verdict.specs.Tests.{any, same}
 use Rattle.formula.specs.Nodes.{Node}
-use Rattle.formula.specs.PlainNodes.{plainNode, proofOf, proofOf-node}
-use Rattle.calculus.specs.View.{View, plain}
+use Rattle.formula.specs.PlainNodes.{plainNode, proofOf-node}
+use Rattle.calculus.specs.View.{View}
 use Rattle.calculus.specs.Judge.{on-loop}
-use Rattle.loops.specs.Paths.{in-focus}
+use Rattle.loops.specs.Paths.{in-focus, MayLoop}
 
 module _ (cs : List ℕ) (end : ℕ) where
   -- the codes from i up to the end
@@ -47,7 +47,7 @@ abbrev pub alone : List ℕ → List ℕ → List ℕ → ℕ → View
 alone rs ss cs v = record { size = 0; node = λ _. plainNode rs [] ss cs v; owner = λ _ _. 0; same = same }
 
 -- whether a node may lie on a loop path is a matter of that node
-pub on-loop-is : (rs ss cs : List ℕ) (v : ℕ) (x : Bool) → x ≡ on-loop (alone rs ss cs v) v → (ls : List ℕ) (n : ℕ) → v < n → x ≡ on-loop (plain (proofOf rs ls ss cs n)) v
+pub on-loop-is : (rs ss cs : List ℕ) (v : ℕ) (x : Bool) → x ≡ on-loop (alone rs ss cs v) v → MayLoop rs ss cs v x
 unfolding on-loop
 on-loop-is rs ss cs v x e ls n h = e ∙ sym (ap (λ (y : Node). on-loop (record { size = 0; node = λ _. y; owner = λ _ _. 0; same = same }) v) (proofOf-node rs ls ss cs n v h))
 

@@ -5,7 +5,7 @@ use mathlib.Core.List.{List}
 use Prim.Native.Nat.{ℕ, _+_, _*_, _<_, _≤_}
 use native.Mathlib.Omega.{arith}
 use lib.Dec.{eqb}
-use lib.ListN.{length, getD}
+use lib.ListN.{getD}
 use borrow.Author.Count.{below-more}
 use borrow.Author.Tests.{eq-eqb, ne-eqb}
 use Rattle.verdict.specs.Verdict.{accepted, refused}
@@ -19,7 +19,7 @@ use Rattle.calculus.specs.View.{plain}
 use Rattle.calculus.specs.Judge.{codes, ancestor, back-kept, loop}
 use Rattle.tree.specs.Spans.{spanned}
 use Rattle.tree.specs.Ancestors.{AncestorsTold, not-below}
-use Rattle.loops.specs.Paths.{companion-fits, clear, PathsTold, Linked, LeavesTold, loops-judged}
+use Rattle.loops.specs.Paths.{companion-fits, clear, PathsTold, Linked, LeavesTold, LeafJudged, LeavesJudged}
 
 module _ (rs ls ss cs : List ℕ) (n v : ℕ) (real : v < n) where
   rule-is : node (proofOf rs ls ss cs n) v .rule ≡ getD rs v 0
@@ -67,12 +67,12 @@ abbrev pub GoodBelow : List ℕ → List ℕ → ℕ → List ℕ → List ℕ �
 GoodBelow rs ls n bars boxes v = (ss cs : List ℕ) → LeavesTold (proofOf rs ls ss cs n) bars boxes → Passed (loop (plain (proofOf rs ls ss cs n))) v
 
 module _ (rs ls : List ℕ) (n : ℕ) (bars boxes : List ℕ) (v : ℕ) (f : GoodBelow rs ls n bars boxes v) where
-  pub all-good : n ≤ v → (ss cs : List ℕ) → LeavesTold (proofOf rs ls ss cs n) bars boxes → loops-judged (proofOf rs ls ss cs n) ≡ accepted
-  all-good h ss cs T = scan-passes _ (λ _. 39) _ accepted (λ w l. f ss cs T w (omega (arith, proofOf-length rs ls ss cs n)))
+  pub all-good : n ≤ v → LeavesJudged rs ls n bars boxes accepted
+  all-good h ss cs T = sym (scan-passes _ (λ _. 39) _ accepted (λ w l. f ss cs T w (omega (arith, proofOf-length rs ls ss cs n))))
 
-  module _ (real : v < n) (x : Bool) (here : (ss cs : List ℕ) (n : ℕ) → v < n → LeavesTold (proofOf rs ls ss cs n) bars boxes → x ≡ loop (plain (proofOf rs ls ss cs n)) v) where
+  module _ (real : v < n) (x : Bool) (here : LeafJudged rs ls bars boxes v x) where
     pub good-more : x ≡ true → GoodBelow rs ls n bars boxes (v + 1)
     good-more e ss cs T = below-more (λ w. loop (plain (proofOf rs ls ss cs n)) w ≡ true) v (f ss cs T) (sym (here ss cs n real T) ∙ e)
 
-    pub first-bad : x ≡ false → (ss cs : List ℕ) → LeavesTold (proofOf rs ls ss cs n) bars boxes → loops-judged (proofOf rs ls ss cs n) ≡ refused 39 v
-    first-bad e ss cs T = scan-fails _ (λ _. 39) _ accepted v (omega (arith, proofOf-length rs ls ss cs n)) (f ss cs T) (sym (here ss cs n real T) ∙ e)
+    pub first-bad : x ≡ false → LeavesJudged rs ls n bars boxes (refused 39 v)
+    first-bad e ss cs T = sym (scan-fails _ (λ _. 39) _ accepted v (omega (arith, proofOf-length rs ls ss cs n)) (f ss cs T) (sym (here ss cs n real T) ∙ e))

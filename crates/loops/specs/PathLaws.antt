@@ -1,25 +1,25 @@
 -- the tables of loop paths, node by node
 use mathlib.Core.Path.{_≡_, refl, sym, ap, _∙_}
-use mathlib.Core.Bool.{Bool, true, false, not, _&&_, _||_, or-false, false≢true}
+use mathlib.Core.Bool.{Bool, true, false, not, _&&_, _||_, false≢true}
 use mathlib.Core.List.{List, [], _∷_}
-use Prim.Native.Nat.{ℕ, _+_, _-_, _<_, _≤_}
+use Prim.Native.Nat.{ℕ, _+_, _<_, _≤_}
 use native.Mathlib.Decide.{ℕ-discrete, decLt}
 use native.Mathlib.Omega.{arith}
 use lib.Dec.{eqb, ltb, leb}
 use lib.ListN.{length, getD, set}
 use lib.Seq.{getD-set-same, getD-set-other}
 use borrow.Author.Count.{below-more}
-use borrow.Author.Tests.{eqb-true, eq-eqb, ne-eqb, lt-ltb, le-ltb, le-leb, lt-leb}
-use Rattle.verdict.specs.Tests.{choose, all, any, member}
+use borrow.Author.Tests.{eq-eqb, ne-eqb, lt-ltb, le-ltb, le-leb, lt-leb}
+use Rattle.verdict.specs.Tests.{all, any, member}
 use Rattle.formula.specs.Rule
 use Rattle.formula.specs.Nodes.{Proof, Node, node}
 use Rattle.formula.specs.PlainNodes.{proofOf, proofOf-length, proofOf-node}
 use Rattle.calculus.specs.View.{plain}
-use Rattle.calculus.specs.Judge.{ancestor, on-loop, good-path, climb}
+use Rattle.calculus.specs.Judge.{ancestor, on-loop, good-path}
 use Rattle.tree.specs.Owners.{Owned, Parented}
 use Rattle.tree.specs.Spans.{up}
 use Rattle.tree.specs.Climbs.{path, Parents, path-step, path-end}
-use Rattle.loops.specs.Paths.{box, barred, Nearest, nearest-at, clear, PathsTold}
+use Rattle.loops.specs.Paths.{box, barred, MayLoop, Nearest, nearest-at, PathsTold, PathsFilled}
 
 module _ (p : Proof) (owners : List ℕ) (R : Parents p owners) (marked : ℕ → Bool) (table : List ℕ) (v : ℕ) (real : v < length p) (N : Nearest p marked v table) where
   -- without a mark of its own a node's nearest one lies above it
@@ -109,7 +109,7 @@ module _ (rs ss cs : List ℕ) (n : ℕ) (owners : List ℕ) where
   )
 
   module _ (P : Parented owners n) {v : ℕ} (real : v < n) (bars boxes : List ℕ) (room : v < length bars) (room₂ : v < length boxes) (N : PathsBelow v bars boxes) where
-    pub paths-more : (good : Bool) → ((ls : List ℕ) (n : ℕ) → v < n → good ≡ on-loop (plain (proofOf rs ls ss cs n)) v)
+    pub paths-more : (good : Bool) → MayLoop rs ss cs v good
         → PathsBelow (v + 1) (set bars v (nearest-at owners bars v (not good))) (set boxes v (nearest-at owners boxes v (eqb (getD rs v 0) Rule.BOX)))
     paths-more good e ls O =
         let p = proofOf rs ls ss cs n in
@@ -122,7 +122,7 @@ module _ (rs ss cs : List ℕ) (n : ℕ) (owners : List ℕ) where
         rule-is : node (proofOf rs ls ss cs n) v .rule ≡ getD rs v 0
         rule-is = ap (λ (x : Node). x .rule) (proofOf-node rs ls ss cs n v real)
 
-  pub paths-done : {v : ℕ} (bars boxes : List ℕ) → v ≤ n → n ≤ v → PathsBelow v bars boxes → (ls : List ℕ) → Owned (proofOf rs ls ss cs n) n owners → PathsTold (proofOf rs ls ss cs n) bars boxes
+  pub paths-done : {v : ℕ} (bars boxes : List ℕ) → v ≤ n → n ≤ v → PathsBelow v bars boxes → PathsFilled rs ss cs n owners bars boxes
   paths-done {v} bars boxes h k N ls O =
       let size : v ≡ length (proofOf rs ls ss cs n) = omega (arith, proofOf-length rs ls ss cs n) in
       paths-told (proofOf rs ls ss cs n) bars boxes (rw size at (N ls O .0)) (rw size at (N ls O .1))

@@ -13,8 +13,8 @@ use Rattle.formula.specs.Nodes.{Proof, node}
 use Rattle.formula.specs.PlainNodes.{proofOf}
 use Rattle.calculus.specs.View.{plain}
 use Rattle.calculus.specs.Judge.{ancestor, on-loop, good-path, loop}
-use Rattle.tree.specs.Owners.{Parented}
-use Rattle.tree.specs.Spans.{up}
+use Rattle.tree.specs.Owners.{Owned}
+use Rattle.tree.specs.Spans.{up, Upward}
 use Rattle.tree.specs.Climbs.{path}
 use Rattle.tree.specs.Ancestors.{AncestorsTold}
 
@@ -41,16 +41,19 @@ nearest-at owners table v marked = choose marked (v + 1) (choose (eqb v 0) 0 (ge
 abbrev pub clear : List ℕ → List ℕ → ℕ → ℕ → Bool
 clear bars boxes c v = leb (getD bars v 0) c && ltb c (getD boxes v 0)
 
--- the columns of n nodes, with their parents
-pub record Tabled (rs ss cs : List ℕ) (n : ℕ) (owners : List ℕ) : Type 0 where
-  pub few : n ≤ 1024
-  pub room : (n ≤ length rs) × (n < length ss) × (n ≤ length owners)
+-- the columns of n nodes with their parents, and the two tables
+pub record Tabled (rs ss cs : List ℕ) (n : ℕ) (owners bars boxes : List ℕ) : Type 0 where
+  pub upward : Upward owners n
+  pub room : (n ≤ length rs) × (n < length ss) × (n ≤ length bars) × (n ≤ length boxes)
   pub within : (v : ℕ) → v < n → getD ss (v + 1) 0 ≤ length cs
-  pub parented : Parented owners n
 
 -- the tables tell the path down to each node from each of its ancestors
 pub record PathsTold (p : Proof) (bars boxes : List ℕ) : Type 0 where
   pub path-is : (c v : ℕ) → v < length p → ancestor (plain p) c v ≡ true → clear bars boxes c v ≡ good-path (plain p) (path p c v)
+
+-- of every proof with these columns and parents
+abbrev pub PathsFilled : List ℕ → List ℕ → List ℕ → ℕ → List ℕ → List ℕ → List ℕ → Type 0
+PathsFilled rs ss cs n owners bars boxes = (ls : List ℕ) → Owned (proofOf rs ls ss cs n) n owners → PathsTold (proofOf rs ls ss cs n) bars boxes
 
 -- what a back leaf's link must be, but for the sequents
 abbrev pub companion-fits : Proof → ℕ → Bool
@@ -72,3 +75,14 @@ pub record LeavesTold (p : Proof) (bars boxes : List ℕ) : Type 0 where
 -- refusal 39: by rising leaf
 abbrev pub loops-judged : Proof → Verdict
 loops-judged p = scan (loop (plain p)) (λ _. 39) (length p) 0 accepted
+
+-- what the code says of a node, whatever the links are; of a leaf, and of all of them, whatever the sequents are
+abbrev pub MayLoop : List ℕ → List ℕ → List ℕ → ℕ → Bool → Type 0
+MayLoop rs ss cs v answer = (ls : List ℕ) (n : ℕ) → v < n → answer ≡ on-loop (plain (proofOf rs ls ss cs n)) v
+
+abbrev pub LeafJudged : List ℕ → List ℕ → List ℕ → List ℕ → ℕ → Bool → Type 0
+LeafJudged rs ls bars boxes v answer =
+    (ss cs : List ℕ) (n : ℕ) → v < n → LeavesTold (proofOf rs ls ss cs n) bars boxes → answer ≡ loop (plain (proofOf rs ls ss cs n)) v
+
+abbrev pub LeavesJudged : List ℕ → List ℕ → ℕ → List ℕ → List ℕ → Verdict → Type 0
+LeavesJudged rs ls n bars boxes answer = (ss cs : List ℕ) → LeavesTold (proofOf rs ls ss cs n) bars boxes → answer ≡ loops-judged (proofOf rs ls ss cs n)

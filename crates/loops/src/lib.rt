@@ -1,16 +1,12 @@
 // Back leaves: the link to a companion (38), and the loop path from it down to the leaf (39). Tables of the tree tell both in one step.
 ghost use mathlib.Core.Path.{_≡_};
-ghost use mathlib.Core.Bool.{Bool};
-ghost use mathlib.Core.List.{List};
-ghost use Prim.Native.Nat.{ℕ, _+_, _*_, _-_, _<_, _≤_};
+ghost use Prim.Native.Nat.{_+_, _*_, _-_, _<_, _≤_};
 ghost use lib.ListN.{length, take, drop, getD};
 ghost use Rattle.verdict.specs.Shown.{shown};
 ghost use Rattle.verdict.specs.Tests.{any};
 ghost use Rattle.formula.specs.PlainNodes.{proofOf};
-ghost use Rattle.calculus.specs.View.{plain};
-ghost use Rattle.calculus.specs.Judge.{on-loop, loop};
 ghost use Rattle.tree.specs.Owners.{Owned, Parented};
-ghost use Rattle.loops.specs.Paths.{in-focus, nearest-at, Tabled, PathsTold, Linked, LeavesTold, Companion, loops-judged};
+ghost use Rattle.loops.specs.Paths.{in-focus, MayLoop, nearest-at, Tabled, PathsFilled, LeafJudged, LeavesJudged, Linked, Companion, loops-judged};
 use bits::wide;
 use formula::Rule;
 use tree::spans::is_spanned;
@@ -34,7 +30,7 @@ fn has_focus(codes: &[u16], start: usize, end: usize) -> bool
 // Whether node v may lie on a loop path: its sequent has a focused member, and its rule is not 8 or 9.
 fn may_loop(rules: &[u8], starts: &[u16], codes: &[u16], v: usize) -> bool
     requires { ⌜ (v < length (now rules)) × (v + 1 < length (now starts)) × (getD (now starts) (v + 1) 0 ≤ length (now codes)) ⌝ }
-    ensures { λ r. ⌜ ((ls : List ℕ) (n : ℕ) → v < n → r ≡ on-loop (plain (proofOf (now (rules .entry)) ls (now (starts .entry)) (now (codes .entry)) n)) v) ⌝ }
+    ensures { λ r. ⌜ MayLoop (now (rules .entry)) (now (starts .entry)) (now (codes .entry)) v r ⌝ }
 {
     let rule = rules[v];
     let allowed = (rule != Rule::F) & (rule != Rule::U);
@@ -68,9 +64,8 @@ fn fill_paths(
     bars: &mut [u16],
     boxes: &mut [u16],
 )
-    requires { ⌜ Tabled (now rules) (now starts) (now codes) nodes (now owners) × (nodes ≤ length (now bars)) × (nodes ≤ length (now boxes)) ⌝ }
-    ensures { λ r. ⌜ ((ls : List ℕ) → Owned (proofOf (now (rules .entry)) ls (now (starts .entry)) (now (codes .entry)) nodes) nodes (now (owners .entry)) →
-        PathsTold (proofOf (now (rules .entry)) ls (now (starts .entry)) (now (codes .entry)) nodes) (now (bars .exit)) (now (boxes .exit))) ⌝ }
+    requires { ⌜ Tabled (now rules) (now starts) (now codes) nodes (now owners) (now bars) (now boxes) ⌝ }
+    ensures { λ r. ⌜ PathsFilled (now (rules .entry)) (now (starts .entry)) (now (codes .entry)) nodes (now (owners .entry)) (now (bars .exit)) (now (boxes .exit)) ⌝ }
 {
     let mut v: usize = 0;
     while v < nodes {
@@ -84,8 +79,7 @@ fn fill_paths(
 // Whether v is no back leaf, or its loop path is good: from its companion down to it no node is barred and one is a box.
 fn path_good(rules: &[u8], links: &[u16], bars: &[u16], boxes: &[u16], v: usize) -> bool
     requires { ⌜ (v < length (now rules)) × (4 * v + 3 < length (now links)) × (v < length (now bars)) × (v < length (now boxes)) ⌝ }
-    ensures { λ r. ⌜ ((ss cs : List ℕ) (n : ℕ) → v < n → LeavesTold (proofOf (now (rules .entry)) (now (links .entry)) ss cs n) (now (bars .entry)) (now (boxes .entry)) →
-        r ≡ loop (plain (proofOf (now (rules .entry)) (now (links .entry)) ss cs n)) v) ⌝ }
+    ensures { λ r. ⌜ LeafJudged (now (rules .entry)) (now (links .entry)) (now (bars .entry)) (now (boxes .entry)) v r ⌝ }
 {
     if rules[v] != Rule::BACK {
         return true;
@@ -96,9 +90,9 @@ fn path_good(rules: &[u8], links: &[u16], bars: &[u16], boxes: &[u16], v: usize)
 
 // 39 by rising leaf.
 fn judge_paths(rules: &[u8], links: &[u16], nodes: usize, bars: &[u16], boxes: &[u16]) -> Verdict
-    requires { ⌜ (nodes ≤ 1024) × (nodes ≤ length (now rules)) × (4 * nodes ≤ length (now links)) × (nodes ≤ length (now bars)) × (nodes ≤ length (now boxes)) ⌝ }
-    ensures { λ r. ⌜ ((ss cs : List ℕ) → LeavesTold (proofOf (now (rules .entry)) (now (links .entry)) ss cs nodes) (now (bars .entry)) (now (boxes .entry)) →
-        shown r ≡ loops-judged (proofOf (now (rules .entry)) (now (links .entry)) ss cs nodes)) ⌝ }
+    requires { ⌜ (nodes ≤ 1024) × (nodes ≤ length (now rules)) × (4 * nodes ≤ length (now links)) ⌝ }
+    requires { ⌜ (nodes ≤ length (now bars)) × (nodes ≤ length (now boxes)) ⌝ }
+    ensures { λ r. ⌜ LeavesJudged (now (rules .entry)) (now (links .entry)) nodes (now (bars .entry)) (now (boxes .entry)) (shown r) ⌝ }
 {
     let mut v: usize = 0;
     while v < nodes {
@@ -124,7 +118,7 @@ pub fn judge_loops(
     bars: &mut [u16],
     boxes: &mut [u16],
 ) -> Verdict
-    requires { ⌜ Tabled (now rules) (now starts) (now codes) nodes (now owners) × (nodes ≤ length (now bars)) × (nodes ≤ length (now boxes)) ⌝ }
+    requires { ⌜ Tabled (now rules) (now starts) (now codes) nodes (now owners) (now bars) (now boxes) ⌝ }
     requires { ⌜ (4 * nodes ≤ length (now links)) × Owned (proofOf (now rules) (now links) (now starts) (now codes) nodes) nodes (now owners) ×
         Linked (proofOf (now rules) (now links) (now starts) (now codes) nodes) ⌝ }
     ensures { λ r. ⌜ shown r ≡ loops-judged (proofOf (now (rules .entry)) (now (links .entry)) (now (starts .entry)) (now (codes .entry)) nodes) ⌝ }

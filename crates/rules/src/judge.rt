@@ -2,7 +2,6 @@
 ghost use mathlib.Core.Path.{_≡_};
 ghost use mathlib.Core.List.{List};
 ghost use Prim.Native.Nat.{ℕ, _<_, _≤_};
-ghost use lib.ListN.{length};
 ghost use Rattle.verdict.specs.Shown.{shown};
 ghost use Rattle.formula.specs.Rule.{BACK};
 ghost use Rattle.formula.specs.Held.{heldClaim, heldProof};
@@ -12,8 +11,8 @@ ghost use Rattle.calculus.specs.Judge.{keeps, judge as judged};
 ghost use Rattle.sequents.specs.Placed.{Members};
 ghost use Rattle.kept.specs.Judged.{Judged};
 ghost use Rattle.rules.specs.JudgeStages.{TreeReady, Laid, Fresh, rules-judged, nodes-judged, tree-rules-judged};
-ghost use Rattle.tree.specs.Owners.{OwnedBy, Parented};
-ghost use Rattle.tree.specs.Spans.{Counted};
+ghost use Rattle.tree.specs.Owners.{OwnedBy};
+ghost use Rattle.tree.specs.Spans.{Upward, Counted};
 use bits::wide;
 use formula::Rule;
 use kept::kept::kept;
@@ -124,8 +123,8 @@ fn judge_rules(
     entries: &mut [u16],
     exits: &mut [u16],
 ) -> Verdict
-    requires { ⌜ Judged (now kinds) (now a) (now b) count (now rules) (now links) (now starts) (now codes) nodes × (1 ≤ nodes) × (nodes ≤ length (now owners)) ⌝ }
-    requires { ⌜ Parented (now owners) nodes × OwnedBy (now rules) (now links) nodes nodes (now owners) × Counted (now owners) nodes nodes (now entries) (now exits) ⌝ }
+    requires { ⌜ Judged (now kinds) (now a) (now b) count (now rules) (now links) (now starts) (now codes) nodes × Upward (now owners) nodes ⌝ }
+    requires { ⌜ OwnedBy (now rules) (now links) nodes nodes (now owners) × Counted (now owners) nodes nodes (now entries) (now exits) ⌝ }
     ensures { λ r. ⌜ ((ms : List ℕ) (k : ℕ) → shown r ≡ nodes-judged (heldClaim (now (kinds .entry)) (now (a .entry)) (now (b .entry)) count ms k)
         (proofOf (now (rules .entry)) (now (links .entry)) (now (starts .entry)) (now (codes .entry)) nodes)) ⌝ }
 {
@@ -174,9 +173,8 @@ fn judge_tree(
     entries: &mut [u16],
     exits: &mut [u16],
 ) -> Verdict
-    requires { ⌜ Judged (now kinds) (now a) (now b) count (now rules) (now links) (now starts) (now codes) nodes × (1 ≤ nodes) × Members (now members) listed ⌝ }
-    requires { ⌜ (nodes ≤ length (now owners)) × Parented (now owners) nodes × OwnedBy (now rules) (now links) nodes nodes (now owners) ⌝ }
-    requires { ⌜ Counted (now owners) nodes nodes (now entries) (now exits) ⌝ }
+    requires { ⌜ Judged (now kinds) (now a) (now b) count (now rules) (now links) (now starts) (now codes) nodes × Members (now members) listed ⌝ }
+    requires { ⌜ Upward (now owners) nodes × OwnedBy (now rules) (now links) nodes nodes (now owners) × Counted (now owners) nodes nodes (now entries) (now exits) ⌝ }
     ensures { λ r. ⌜ shown r ≡ tree-rules-judged (heldClaim (now (kinds .entry)) (now (a .entry)) (now (b .entry)) count (now (members .entry)) listed)
         (proofOf (now (rules .entry)) (now (links .entry)) (now (starts .entry)) (now (codes .entry)) nodes) ⌝ }
 {

@@ -1,8 +1,8 @@
 -- the spans tell the proper ancestors: a node's span lies in that of each ancestor, and apart from that of any other smaller number
-use mathlib.Core.Path.{_≡_, refl, sym, _∙_}
-use mathlib.Core.Bool.{Bool, true, false, _&&_, or-false, false≢true, true≢false}
-use mathlib.Core.List.{List, _∷_}
-use Prim.Native.Nat.{ℕ, zero, suc, _+_, _-_, _<_, _≤_}
+use mathlib.Core.Path.{_≡_, refl}
+use mathlib.Core.Bool.{Bool, true, false, false≢true, true≢false}
+use mathlib.Core.List.{List}
+use Prim.Native.Nat.{ℕ, zero, suc, _+_, _<_, _≤_}
 use native.Mathlib.Decide.{ℕ-discrete, decLt}
 use native.Mathlib.Omega.{arith}
 use lib.ListN.{length, getD}
@@ -77,7 +77,11 @@ module _ (p : Proof) (owners : List ℕ) (R : Parents p owners) (entries exits :
 pub record AncestorsTold (p : Proof) (entries exits : List ℕ) : Type 0 where
   pub tells : (c v : ℕ) → c < v → v < length p → spanned entries exits c v ≡ ancestor (plain p) c v
 
-pub spans-tell : (owners : List ℕ) (n : ℕ) (entries exits : List ℕ) → Parented owners n → Spans owners n entries exits → (p : Proof) → length p ≡ n → Owned p n owners → AncestorsTold p entries exits
+-- of every proof with these parents
+abbrev pub SpansFilled : List ℕ → ℕ → List ℕ → List ℕ → Type 0
+SpansFilled owners n entries exits = (p : Proof) → length p ≡ n → Owned p n owners → AncestorsTold p entries exits
+
+pub spans-tell : (owners : List ℕ) (n : ℕ) (entries exits : List ℕ) → Parented owners n → Spans owners n entries exits → SpansFilled owners n entries exits
 spans-tell owners n entries exits P S p size O = record { tells = ancestor-is p owners (record { owned = rw size O; parented = rw size P }) entries exits (rw size S) }
 
 -- what has no larger number is no descendant

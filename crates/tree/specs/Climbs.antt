@@ -1,10 +1,10 @@
 -- the judge's walk up the parents, one step at a time, over a table of owners
 use mathlib.Core.Path.{_≡_, refl, sym, ap, _∙_}
 use mathlib.Core.List.{List, [], _∷_}
-use Prim.Native.Nat.{ℕ, zero, suc, _-_, _<_, _≤_}
+use Prim.Native.Nat.{ℕ, zero, suc, _<_, _≤_}
 use native.Mathlib.Decide.{decLe}
 use native.Mathlib.Omega.{arith}
-use lib.ListN.{length, getD}
+use lib.ListN.{length}
 use Rattle.formula.specs.Nodes.{Proof}
 use Rattle.calculus.specs.View.{plain}
 use Rattle.calculus.specs.Judge.{parent, climb}

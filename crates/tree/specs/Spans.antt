@@ -6,10 +6,18 @@ use mathlib.Core.List.{List, [], _∷_}
 use Prim.Native.Nat.{ℕ, zero, suc, _+_, _-_, _<_, _≤_}
 use lib.Dec.{ltb}
 use lib.ListN.{length, getD}
+use Rattle.tree.specs.Owners.{Parented}
 
 -- the parent of w in a table of owners
 abbrev pub up : List ℕ → ℕ → ℕ
 up owners w = getD owners w 0 - 1
+
+-- parents of one node to 1,024, each of a smaller number
+pub record Upward (owners : List ℕ) (n : ℕ) : Type 0 where
+  pub some : 1 ≤ n
+  pub few : n ≤ 1024
+  pub room : n ≤ length owners
+  pub parented : Parented owners n
 
 -- a child's span lies in its parent's, after the parent's own number; the spans of two children lie apart
 pub record Spans (owners : List ℕ) (n : ℕ) (entries exits : List ℕ) : Type 0 where

@@ -1,18 +1,15 @@
 // Entry and exit numbers of a walk of the tree from the root down, without the walk: sizes from the last node up, then numbers from the
 // root down. They tell in one step whether one node is above another.
 ghost use mathlib.Core.Path.{_≡_};
-ghost use Prim.Native.Nat.{ℕ, _<_, _≤_};
+ghost use Prim.Native.Nat.{_<_};
 ghost use lib.ListN.{length};
-ghost use Rattle.formula.specs.Nodes.{Proof};
-ghost use Rattle.tree.specs.Owners.{Owned, Parented};
-ghost use Rattle.tree.specs.Spans.{Counted, spanned};
-ghost use Rattle.tree.specs.Ancestors.{AncestorsTold};
+ghost use Rattle.tree.specs.Spans.{Upward, Counted, spanned};
+ghost use Rattle.tree.specs.Ancestors.{SpansFilled};
 use bits::wide;
 
 // By falling number each node is counted in its parent: its entry lies after all that is counted there before it.
 fn count_nodes(owners: &[u16], nodes: usize, offsets: &mut [u16], sizes: &mut [u16])
-    requires { ⌜ (1 ≤ nodes) × (nodes ≤ 1024) × (nodes ≤ length (now owners)) × Parented (now owners) nodes ⌝ }
-    requires { ⌜ Counted (now owners) nodes nodes (now offsets) (now sizes) ⌝ }
+    requires { ⌜ Upward (now owners) nodes × Counted (now owners) nodes nodes (now offsets) (now sizes) ⌝ }
     ensures { λ r. ⌜ Counted (now (owners .entry)) nodes 1 (now (offsets .exit)) (now (sizes .exit)) ⌝ }
 {
     let mut v = nodes;
@@ -27,9 +24,8 @@ fn count_nodes(owners: &[u16], nodes: usize, offsets: &mut [u16], sizes: &mut [u
 
 // By rising number each node is entered as far after its parent as was counted, and left once all below it is.
 fn number_nodes(owners: &[u16], nodes: usize, entries: &mut [u16], exits: &mut [u16])
-    requires { ⌜ (1 ≤ nodes) × (nodes ≤ 1024) × (nodes ≤ length (now owners)) × Parented (now owners) nodes ⌝ }
-    requires { ⌜ Counted (now owners) nodes 1 (now entries) (now exits) ⌝ }
-    ensures { λ r. ⌜ ((p : Proof) → length p ≡ nodes → Owned p nodes (now (owners .entry)) → AncestorsTold p (now (entries .exit)) (now (exits .exit))) ⌝ }
+    requires { ⌜ Upward (now owners) nodes × Counted (now owners) nodes 1 (now entries) (now exits) ⌝ }
+    ensures { λ r. ⌜ SpansFilled (now (owners .entry)) nodes (now (entries .exit)) (now (exits .exit)) ⌝ }
 {
     let mut v: usize = 1;
     while v < nodes {
@@ -42,9 +38,8 @@ fn number_nodes(owners: &[u16], nodes: usize, entries: &mut [u16], exits: &mut [
 
 // The entry and exit numbers, in tables that count each node once.
 pub fn fill_spans(owners: &[u16], nodes: usize, entries: &mut [u16], exits: &mut [u16])
-    requires { ⌜ (1 ≤ nodes) × (nodes ≤ 1024) × (nodes ≤ length (now owners)) × Parented (now owners) nodes ⌝ }
-    requires { ⌜ Counted (now owners) nodes nodes (now entries) (now exits) ⌝ }
-    ensures { λ r. ⌜ ((p : Proof) → length p ≡ nodes → Owned p nodes (now (owners .entry)) → AncestorsTold p (now (entries .exit)) (now (exits .exit))) ⌝ }
+    requires { ⌜ Upward (now owners) nodes × Counted (now owners) nodes nodes (now entries) (now exits) ⌝ }
+    ensures { λ r. ⌜ SpansFilled (now (owners .entry)) nodes (now (entries .exit)) (now (exits .exit)) ⌝ }
 {
     count_nodes(owners, nodes, entries, exits);
     number_nodes(owners, nodes, entries, exits);

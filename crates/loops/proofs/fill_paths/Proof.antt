@@ -19,10 +19,10 @@ loop-holds : tie.Need-loop-holds Inv-loop μ-loop
 loop-holds c = (omega arith, refl, refl, none-below _ _ _ _ _ _ _)
 
 may-loop-requires : tie.Need-may-loop-requires Inv-loop μ-loop
-may-loop-requires c κs = (omega (arith, c .before .before .before .before .before .before .before .before .pre .0 .room), omega (arith, c .before .before .before .before .before .before .before .before .pre .0 .room), c .before .before .before .before .before .before .before .before .pre .0 .within _ (c .loop-test .taken))
+may-loop-requires c κs = (omega (arith, c .before .before .before .before .before .before .before .before .pre .room), omega (arith, c .before .before .before .before .before .before .before .before .pre .room), c .before .before .before .before .before .before .before .before .pre .within _ (c .loop-test .taken))
 
 nearest-requires : tie.Need-nearest-requires Inv-loop μ-loop
-nearest-requires c κs = (omega (arith, c .before .before .before .before .before .before .before .before .before .before .pre .0 .few), omega (arith, c .before .before .before .before .before .before .before .before .before .before .pre .0 .room), omega arith, λ w k h. c .before .before .before .before .before .before .before .before .before .before .pre .0 .parented w k (omega arith))
+nearest-requires c κs = (omega (arith, c .before .before .before .before .before .before .before .before .before .before .pre .upward .few), omega (arith, c .before .before .before .before .before .before .before .before .before .before .pre .room), omega arith, λ w k h. c .before .before .before .before .before .before .before .before .before .before .pre .upward .parented w k (omega arith))
 
 mul-bars : tie.Need-mul-bars Inv-loop μ-loop
 mul-bars c = search needs
@@ -31,10 +31,10 @@ slice-write-bars : tie.Need-slice-write-bars Inv-loop μ-loop
 slice-write-bars c = search needs
 
 shared-slice-read-nearest : tie.Need-shared-slice-read-nearest Inv-loop μ-loop
-shared-slice-read-nearest c = omega (arith, c .before .before .before .before .before .before .before .before .before .before .before .before .before .pre .0 .room)
+shared-slice-read-nearest c = omega (arith, c .before .before .before .before .before .before .before .before .before .before .before .before .before .pre .room)
 
 nearest-requires-2 : tie.Need-nearest-requires-2 Inv-loop μ-loop
-nearest-requires-2 c κs = (omega (arith, c .before .before .before .before .before .before .before .before .before .before .before .before .before .pre .0 .few), omega (arith, c .before .before .before .before .before .before .before .before .before .before .before .before .before .pre .0 .room), omega arith, λ w k h. c .before .before .before .before .before .before .before .before .before .before .before .before .before .pre .0 .parented w k (omega arith))
+nearest-requires-2 c κs = (omega (arith, c .before .before .before .before .before .before .before .before .before .before .before .before .before .pre .upward .few), omega (arith, c .before .before .before .before .before .before .before .before .before .before .before .before .before .pre .room), omega arith, λ w k h. c .before .before .before .before .before .before .before .before .before .before .before .before .before .pre .upward .parented w k (omega arith))
 
 mul-boxes : tie.Need-mul-boxes Inv-loop μ-loop
 mul-boxes c = search needs
@@ -50,7 +50,7 @@ loop-less c = search needs
 
 loop-again : tie.Need-loop-again Inv-loop μ-loop
 loop-again c = rw (c .nearest2 .ensures, c .before .before .before .nearest .ensures)
-    (omega arith, length-set (c .before .before .before .before .before .before .before .loop .bars) _ _ ∙ c .before .before .before .before .before .before .before .loop .inv .1, length-set (c .before .before .before .before .before .before .before .loop .boxes) _ _ ∙ c .before .before .before .before .before .before .before .loop .inv .2, paths-more _ _ _ _ _ (c .before .before .before .before .before .before .before .before .before .before .before .before .before .before .pre .0 .parented) (c .before .before .before .before .before .before .loop-test .taken) _ _ (omega arith) (omega arith) (c .before .before .before .before .before .before .before .loop .inv .3) _ (c .before .before .before .before .before .may-loop .ensures))
+    (omega arith, length-set (c .before .before .before .before .before .before .before .loop .bars) _ _ ∙ c .before .before .before .before .before .before .before .loop .inv .1, length-set (c .before .before .before .before .before .before .before .loop .boxes) _ _ ∙ c .before .before .before .before .before .before .before .loop .inv .2, paths-more _ _ _ _ _ (c .before .before .before .before .before .before .before .before .before .before .before .before .before .before .pre .upward .parented) (c .before .before .before .before .before .before .loop-test .taken) _ _ (omega arith) (omega arith) (c .before .before .before .before .before .before .before .loop .inv .3) _ (c .before .before .before .before .before .may-loop .ensures))
 
 same-length : tie.Need-same-length Inv-loop μ-loop
 same-length c = c .before .loop .inv .1

@@ -1,6 +1,5 @@
 -- before node v: no leaf below it has a bad path
 use Prim.Native.Nat.{_-_, _≤_}
-use mathlib.Core.Path.{sym}
 use native.Mathlib.Omega.{arith}
 use borrow.Author.Needs.{needs}
 use borrow.Author.Tests.{not-true, not-false}
@@ -24,7 +23,7 @@ cast-t9 : tie.Need-cast-t9 Inv-loop μ-loop
 cast-t9 c = search needs
 
 returns : tie.Need-returns Inv-loop μ-loop
-returns c = λ ss cs T. sym (first-bad _ _ _ _ _ _ (c .before .before .before .loop .inv .1) (c .before .before .loop-test .taken) _ (c .before .path-good .ensures) (not-true _ (c .if1 .taken)) ss cs T)
+returns c = first-bad _ _ _ _ _ _ (c .before .before .before .loop .inv .1) (c .before .before .loop-test .taken) _ (c .before .path-good .ensures) (not-true _ (c .if1 .taken))
 
 add-v : tie.Need-add-v Inv-loop μ-loop
 add-v c = search needs
@@ -36,7 +35,7 @@ loop-again : tie.Need-loop-again Inv-loop μ-loop
 loop-again c = (omega arith, good-more _ _ _ _ _ _ (c .before .before .before .loop .inv .1) (c .before .before .loop-test .taken) _ (c .before .path-good .ensures) (not-false _ (c .if1 .left)))
 
 returns-2 : tie.Need-returns-2 Inv-loop μ-loop
-returns-2 c = λ ss cs T. sym (all-good _ _ _ _ _ _ (c .before .loop .inv .1) (c .loop-test .left) ss cs T)
+returns-2 c = all-good _ _ _ _ _ _ (c .before .loop .inv .1) (c .loop-test .left)
 
 pub judge-paths-spec : {M : Type 1} → statement M
 judge-paths-spec =

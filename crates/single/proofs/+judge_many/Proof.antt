@@ -29,7 +29,7 @@ judge-many-judge-many-requires : (t : ℕ) → judge-many-lts.Need-judge-many-re
   judge-in-reads.Asked,
   judge-in-reads.Learnt,
 ) (judge-many-at t) judge-many.Post
-judge-many-judge-many-requires t c κs = 
+judge-many-judge-many-requires t c κs =
     let s = c .before .before in
     (omega (arith, rw (c .if1 .taken) at (s .pre .0)), s .pre .1)
 
@@ -79,16 +79,18 @@ judge-many-judge-in-requires : (t : ℕ) → judge-many-lts.Need-judge-in-requir
   judge-in-reads.Asked,
   judge-in-reads.Learnt,
 ) (judge-many-at t) judge-many.Post
-judge-many-judge-in-requires t c κs = 
+judge-many-judge-in-requires t c κs =
     let s = c .before .before .before .before .before .before in
-    let few = count (s .pre .1) .1 in
-    (s .pre .1, record {
-      few = few;
-      rules = omega (arith, few, length-replicate {A = ℕ} 1024 0);
-      links = omega (arith, few, length-replicate {A = ℕ} 4096 0);
-      starts = omega (arith, few, length-replicate {A = ℕ} 1025 0);
-      codes = omega (arith, few, length-replicate {A = ℕ} 24576 0);
-    })
+    let few = count (s .pre .1) .1 in (
+      s .pre .1,
+      record {
+        few = few;
+        rules = omega (arith, few, length-replicate {A = ℕ} 1024 0);
+        links = omega (arith, few, length-replicate {A = ℕ} 4096 0);
+        starts = omega (arith, few, length-replicate {A = ℕ} 1025 0);
+        codes = omega (arith, few, length-replicate {A = ℕ} 24576 0);
+      },
+    )
 
 judge-many-returns-2 : (t : ℕ) → judge-many-lts.Need-returns-2 (
   judge-many-below t,

@@ -21,14 +21,16 @@ slice-aggregate-judge-in-4 c = search needs
 judge-in-requires : tie.Need-judge-in-requires
 judge-in-requires c κs =
     let s = c .before .before .before .before .before in
-    let few = s .pre .1 in
-    (s .pre .0, record {
-      few = omega (arith, few);
-      rules = omega (arith, few, length-replicate {A = ℕ} 32 0);
-      links = omega (arith, few, length-replicate {A = ℕ} 128 0);
-      starts = omega (arith, few, length-replicate {A = ℕ} 33 0);
-      codes = omega (arith, few, length-replicate {A = ℕ} 768 0);
-    })
+    let few = s .pre .1 in (
+      s .pre .0,
+      record {
+        few = omega (arith, few);
+        rules = omega (arith, few, length-replicate {A = ℕ} 32 0);
+        links = omega (arith, few, length-replicate {A = ℕ} 128 0);
+        starts = omega (arith, few, length-replicate {A = ℕ} 33 0);
+        codes = omega (arith, few, length-replicate {A = ℕ} 768 0);
+      },
+    )
 
 returns : tie.Need-returns
 returns c = search needs

@@ -21,8 +21,12 @@ judge-tree-requires c κs =
     let start = c .before .before .before .before .before .before .before .before .before .before .before .before .before .before .before .before in
     let (L, M, F) = start .pre in
     let filled = rw (c .before .before .before .enum-told .given .1) at (c .before .before .before .before .before .before .before .fill-owners .ensures) in (
-      (filled-judged filled L, L .some, M),
-      ((search needs, filled-parented _ _ _ _ filled, filled .owned refl), none-counted _ _ _ _ (F .room .1) (F .room .2) (F .first) (F .ones)),
+      (filled-judged filled L, M),
+      (
+        record { some = L .some; few = L .columns .few; room = search needs; parented = filled-parented _ _ _ _ filled },
+        filled .owned refl,
+        none-counted _ _ _ _ (F .room .1) (F .room .2) (F .first) (F .ones),
+      ),
     )
 
 enum-known-number : tie.Need-enum-known-number

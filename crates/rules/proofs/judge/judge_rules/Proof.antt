@@ -24,15 +24,15 @@ passed : (c : tie.After-enum-told) (ms : List ℕ) (k : ℕ) → rules-judged (c
 passed c ms k = sym (rw (c .enum-told .given .1) at (c .before .before .judge-nodes .ensures) ms k)
 
 fill-spans-requires : tie.Need-fill-spans-requires
-fill-spans-requires c κs = let start = c .before .before .before .before .before .before .before .before .before in ((start .pre .0 .1, start .pre .0 .0 .columns .few, start .pre .0 .2, start .pre .1 .0), start .pre .1 .2)
+fill-spans-requires c κs = let start = c .before .before .before .before .before .before .before .before .before in (start .pre .0 .1, start .pre .1 .1)
 
 judge-nodes-requires : tie.Need-judge-nodes-requires
 judge-nodes-requires c κs =
     let start = c .before .before .before .before .before .before .before .before .before .before .before .before .before .before .before .before in
     record {
       judged = start .pre .0 .0;
-      room = (omega (arith, start .pre .1 .2 .room), omega (arith, start .pre .1 .2 .room));
-      told = c .before .before .before .before .before .before .fill-spans .ensures _ (proofOf-length _ _ _ _ _) (start .pre .1 .1 _ _);
+      room = (omega (arith, start .pre .1 .1 .room), omega (arith, start .pre .1 .1 .room));
+      told = c .before .before .before .before .before .before .fill-spans .ensures _ (proofOf-length _ _ _ _ _) (start .pre .1 .0 _ _);
     }
 
 enum-told : tie.Need-enum-told
@@ -42,12 +42,12 @@ judge-loops-requires : tie.Need-judge-loops-requires
 judge-loops-requires c κs =
     let start = c .before .before .before .before .before .before .before .before .before .before .before .before .before .before .before .before .before .before .before .before .before in
     let J = start .pre .0 .0 in (
-      (
-        record { few = J .columns .few; room = (J .columns .rules, J .columns .starts, start .pre .0 .2); within = λ v h. J .rising v h .1; parented = start .pre .1 .0 },
-        omega (arith, start .pre .1 .2 .room),
-        omega (arith, start .pre .1 .2 .room),
-      ),
-      (J .columns .links, start .pre .1 .1 _ _, rules-linked (claim start [] 0) (proof start) (passed (c .before .before) [] 0)),
+      record {
+        upward = start .pre .0 .1;
+        room = (J .columns .rules, J .columns .starts, omega (arith, start .pre .1 .1 .room), omega (arith, start .pre .1 .1 .room));
+        within = λ v h. J .rising v h .1;
+      },
+      (J .columns .links, start .pre .1 .0 _ _, rules-linked (claim start [] 0) (proof start) (passed (c .before .before) [] 0)),
     )
 
 enum-known-number : tie.Need-enum-known-number

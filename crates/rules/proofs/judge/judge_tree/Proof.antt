@@ -22,20 +22,20 @@ proof s = heldProof (s .args .rules .now) (s .args .links .now) (s .args .starts
 rooted : (c : tie.Else1) → root (claim (c .before .before .before .before .before .before .before .before .before)) (plain (proof (c .before .before .before .before .before .before .before .before .before) .nodes)) ≡ true
 rooted c =
     let s = c .before .before .before .before .before .before .before .before .before in
-    sym (c .before .root-is-claim .ensures _ (s .args .rules .now) (s .args .links .now) (s .args .nodes) (s .pre .0 .1)) ∙ not-false _ (c .if1 .left)
+    sym (c .before .root-is-claim .ensures _ (s .args .rules .now) (s .args .links .now) (s .args .nodes) (s .pre .1 .0 .some)) ∙ not-false _ (c .if1 .left)
 
 root-is-claim-requires : tie.Need-root-is-claim-requires
-root-is-claim-requires c κs = let s = c .before .before .before .before .before .before .before in (s .pre .0 .2, placed (s .pre .0 .0) 0 (s .pre .0 .1))
+root-is-claim-requires c κs = let s = c .before .before .before .before .before .before .before in (s .pre .0 .1, placed (s .pre .0 .0) 0 (s .pre .1 .0 .some))
 
 returns : tie.Need-returns
 returns c =
     let s = c .before .before .before .before .before .before .before .before .before in
-    sym (other-root (claim s) (proof s) (sym (c .before .root-is-claim .ensures _ (s .args .rules .now) (s .args .links .now) (s .args .nodes) (s .pre .0 .1)) ∙ not-true _ (c .if1 .taken)))
+    sym (other-root (claim s) (proof s) (sym (c .before .root-is-claim .ensures _ (s .args .rules .now) (s .args .links .now) (s .args .nodes) (s .pre .1 .0 .some)) ∙ not-true _ (c .if1 .taken)))
 
 judge-rules-requires : tie.Need-judge-rules-requires
 judge-rules-requires c κs =
     let s = c .before .before .before .before .before .before .before .before .before .before .before in
-    ((s .pre .0 .0, s .pre .0 .1, s .pre .1 .0 .0), (s .pre .1 .0 .1, s .pre .1 .0 .2, s .pre .1 .1))
+    ((s .pre .0 .0, s .pre .1 .0), (s .pre .1 .1, s .pre .1 .2))
 
 same-length : tie.Need-same-length
 same-length c = search needs

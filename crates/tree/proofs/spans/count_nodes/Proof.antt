@@ -17,7 +17,7 @@ abbrev μ-loop : tie.MeasureT-loop
 
 below : (c : tie.In-loop Inv-loop μ-loop)
     → (0 < getD (c .before .before .before .before .before .args .owners .now) (c .before .loop .v - 1) 0) × (getD (c .before .before .before .before .before .args .owners .now) (c .before .loop .v - 1) 0 - 1 < c .before .loop .v - 1)
-below c = parent-below _ _ _ (c .before .before .before .before .before .pre .0 .3) (c .loop-test .taken) (c .before .loop .inv .1) _ _ (c .before .loop .inv .4)
+below c = parent-below _ _ _ (c .before .before .before .before .before .pre .0 .parented) (c .loop-test .taken) (c .before .loop .inv .1) _ _ (c .before .loop .inv .4)
 
 loop-holds : tie.Need-loop-holds Inv-loop μ-loop
 loop-holds c = (omega arith, omega arith, refl, refl, c .before .before .before .pre .1)
@@ -56,7 +56,7 @@ slice-read-sizes : tie.Need-slice-read-sizes Inv-loop μ-loop
 slice-read-sizes c = search needs
 
 add-sizes : tie.Need-add-sizes Inv-loop μ-loop
-add-sizes c = rw (c .before .before .wide .ensures) (omega (arith, size-fits _ _ _ (c .before .before .before .before .before .before .before .before .before .pre .0 .3) (c .before .before .before .before .loop-test .taken) (c .before .before .before .before .before .loop .inv .1) _ _ (c .before .before .before .before .before .loop .inv .4)))
+add-sizes c = rw (c .before .before .wide .ensures) (omega (arith, size-fits _ _ _ (c .before .before .before .before .before .before .before .before .before .pre .0 .parented) (c .before .before .before .before .loop-test .taken) (c .before .before .before .before .before .loop .inv .1) _ _ (c .before .before .before .before .before .loop .inv .4)))
 
 mul-sizes-2 : tie.Need-mul-sizes-2 Inv-loop μ-loop
 mul-sizes-2 c = omega (arith, below (c .before .before .before .before))
@@ -69,7 +69,7 @@ loop-less c = search needs
 
 loop-again : tie.Need-loop-again Inv-loop μ-loop
 loop-again c = rw (c .before .before .wide .ensures)
-    (omega arith, omega arith, length-set (c .before .before .before .before .before .loop .offsets) _ _ ∙ c .before .before .before .before .before .loop .inv .2, length-set (c .before .before .before .before .before .loop .sizes) _ _ ∙ c .before .before .before .before .before .loop .inv .3, count-more _ _ _ (c .before .before .before .before .before .before .before .before .before .pre .0 .3) (c .before .before .before .before .loop-test .taken) (c .before .before .before .before .before .loop .inv .1) _ _ (c .before .before .before .before .before .loop .inv .4))
+    (omega arith, omega arith, length-set (c .before .before .before .before .before .loop .offsets) _ _ ∙ c .before .before .before .before .before .loop .inv .2, length-set (c .before .before .before .before .before .loop .sizes) _ _ ∙ c .before .before .before .before .before .loop .inv .3, count-more _ _ _ (c .before .before .before .before .before .before .before .before .before .pre .0 .parented) (c .before .before .before .before .loop-test .taken) (c .before .before .before .before .before .loop .inv .1) _ _ (c .before .before .before .before .before .loop .inv .4))
 
 same-length : tie.Need-same-length Inv-loop μ-loop
 same-length c = c .before .loop .inv .2

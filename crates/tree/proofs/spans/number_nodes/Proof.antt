@@ -1,6 +1,6 @@
 -- before node v: all below v have their numbers, and v and those after it are only counted
 use mathlib.Core.Path.{_≡_, refl, _∙_}
-use Prim.Native.Nat.{_+_, _-_, _<_, _≤_}
+use Prim.Native.Nat.{_-_, _<_, _≤_}
 use native.Mathlib.Omega.{arith}
 use lib.ListN.{length, length-set, getD}
 use borrow.Author.Needs.{needs}
@@ -18,10 +18,10 @@ abbrev μ-loop : tie.MeasureT-loop
 
 up : (c : tie.In-loop Inv-loop μ-loop)
     → (0 < getD (c .before .before .before .before .before .args .owners .now) (c .before .loop .v) 0) × (getD (c .before .before .before .before .before .args .owners .now) (c .before .loop .v) 0 ≤ c .before .loop .v)
-up c = c .before .before .before .before .before .pre .0 .3 _ (c .before .loop .inv .0) (c .loop-test .taken)
+up c = c .before .before .before .before .before .pre .0 .parented _ (c .before .loop .inv .0) (c .loop-test .taken)
 
 loop-holds : tie.Need-loop-holds Inv-loop μ-loop
-loop-holds c = (omega arith, omega arith, refl, refl, root-numbered _ _ (c .before .before .before .pre .0 .3) (c .before .before .before .pre .0 .0) _ _ (c .before .before .before .pre .1))
+loop-holds c = (omega arith, omega arith, refl, refl, root-numbered _ _ (c .before .before .before .pre .0 .parented) (c .before .before .before .pre .0 .some) _ _ (c .before .before .before .pre .1))
 
 mul-wide : tie.Need-mul-wide Inv-loop μ-loop
 mul-wide c = search needs
@@ -48,7 +48,7 @@ slice-read-entry-2 : tie.Need-slice-read-entry-2 Inv-loop μ-loop
 slice-read-entry-2 c = search needs
 
 add-entry : tie.Need-add-entry Inv-loop μ-loop
-add-entry c = rw (c .before .before .wide .ensures) (omega (arith, exit-fits _ _ (c .before .before .before .before .before .before .before .before .before .pre .0 .3) (c .before .before .before .before .before .before .before .before .before .pre .0 .0) _ _ (c .before .before .before .before .before .before .before .before .before .pre .1) _ (c .before .before .before .before .before .loop .inv .0) (c .before .before .before .before .loop-test .taken) _ _ (c .before .before .before .before .before .loop .inv .4)))
+add-entry c = rw (c .before .before .wide .ensures) (omega (arith, exit-fits _ _ (c .before .before .before .before .before .before .before .before .before .pre .0 .parented) (c .before .before .before .before .before .before .before .before .before .pre .0 .some) _ _ (c .before .before .before .before .before .before .before .before .before .pre .1) _ (c .before .before .before .before .before .loop .inv .0) (c .before .before .before .before .loop-test .taken) _ _ (c .before .before .before .before .before .loop .inv .4)))
 
 mul-entries : tie.Need-mul-entries Inv-loop μ-loop
 mul-entries c = search needs
@@ -63,7 +63,7 @@ slice-read-exits : tie.Need-slice-read-exits Inv-loop μ-loop
 slice-read-exits c = search needs
 
 add-exits : tie.Need-add-exits Inv-loop μ-loop
-add-exits c = rw (c .before .before .before .wide .ensures) (omega (arith, exit-fits _ _ (c .before .before .before .before .before .before .before .before .before .before .pre .0 .3) (c .before .before .before .before .before .before .before .before .before .before .pre .0 .0) _ _ (c .before .before .before .before .before .before .before .before .before .before .pre .1) _ (c .before .before .before .before .before .before .loop .inv .0) (c .before .before .before .before .before .loop-test .taken) _ _ (c .before .before .before .before .before .before .loop .inv .4)))
+add-exits c = rw (c .before .before .before .wide .ensures) (omega (arith, exit-fits _ _ (c .before .before .before .before .before .before .before .before .before .before .pre .0 .parented) (c .before .before .before .before .before .before .before .before .before .before .pre .0 .some) _ _ (c .before .before .before .before .before .before .before .before .before .before .pre .1) _ (c .before .before .before .before .before .before .loop .inv .0) (c .before .before .before .before .before .loop-test .taken) _ _ (c .before .before .before .before .before .before .loop .inv .4)))
 
 mul-exits-2 : tie.Need-mul-exits-2 Inv-loop μ-loop
 mul-exits-2 c = search needs
@@ -79,7 +79,7 @@ loop-less c = search needs
 
 loop-again : tie.Need-loop-again Inv-loop μ-loop
 loop-again c = rw (c .before .before .before .wide .ensures)
-    (omega arith, omega arith, length-set (c .before .before .before .before .before .before .loop .entries) _ _ ∙ c .before .before .before .before .before .before .loop .inv .2, length-set (c .before .before .before .before .before .before .loop .exits) _ _ ∙ c .before .before .before .before .before .before .loop .inv .3, number-more _ _ (c .before .before .before .before .before .before .before .before .before .before .pre .0 .3) (c .before .before .before .before .before .before .before .before .before .before .pre .0 .0) _ _ (c .before .before .before .before .before .before .before .before .before .before .pre .1) _ (c .before .before .before .before .before .before .loop .inv .0) (c .before .before .before .before .before .loop-test .taken) _ _ (c .before .before .before .before .before .before .loop .inv .4))
+    (omega arith, omega arith, length-set (c .before .before .before .before .before .before .loop .entries) _ _ ∙ c .before .before .before .before .before .before .loop .inv .2, length-set (c .before .before .before .before .before .before .loop .exits) _ _ ∙ c .before .before .before .before .before .before .loop .inv .3, number-more _ _ (c .before .before .before .before .before .before .before .before .before .before .pre .0 .parented) (c .before .before .before .before .before .before .before .before .before .before .pre .0 .some) _ _ (c .before .before .before .before .before .before .before .before .before .before .pre .1) _ (c .before .before .before .before .before .before .loop .inv .0) (c .before .before .before .before .before .loop-test .taken) _ _ (c .before .before .before .before .before .before .loop .inv .4))
 
 same-length : tie.Need-same-length Inv-loop μ-loop
 same-length c = c .before .loop .inv .2
@@ -88,7 +88,7 @@ same-length-2 : tie.Need-same-length-2 Inv-loop μ-loop
 same-length-2 c = c .before .loop .inv .3
 
 returns : tie.Need-returns Inv-loop μ-loop
-returns c = let e : c .before .loop .v ≡ c .before .before .before .before .before .args .nodes = omega (arith, c .before .loop .inv .1, c .loop-test .left) in spans-tell _ _ _ _ (c .before .before .before .before .before .pre .0 .3) (spans-done _ _ (c .before .before .before .before .before .pre .0 .3) (c .before .before .before .before .before .pre .0 .0) _ _ (c .before .before .before .before .before .pre .1) _ _ (rw e at (c .before .loop .inv .4)))
+returns c = let e : c .before .loop .v ≡ c .before .before .before .before .before .args .nodes = omega (arith, c .before .loop .inv .1, c .loop-test .left) in spans-tell _ _ _ _ (c .before .before .before .before .before .pre .0 .parented) (spans-done _ _ (c .before .before .before .before .before .pre .0 .parented) (c .before .before .before .before .before .pre .0 .some) _ _ (c .before .before .before .before .before .pre .1) _ _ (rw e at (c .before .loop .inv .4)))
 
 pub number-nodes-spec : {M : Type 1} → statement M
 number-nodes-spec =
