@@ -2,3 +2,5 @@ pub mod Again
 pub mod Column
 pub mod Slice
 pub mod Local
+mod At
+mod Put
