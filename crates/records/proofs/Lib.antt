@@ -4,3 +4,7 @@ pub mod Slice
 pub mod Local
 mod At
 mod Put
+mod Count
+mod Store
+mod Between
+mod Load

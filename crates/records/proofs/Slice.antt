@@ -1,9 +1,10 @@
--- A `&κ mut [T]` together with its lifetime's token, through a walk: lent out for a call and taken back at its last list, or shared for a call and taken back as it was. `Column.antt` of a slice.
+-- A `&κ mut [T]` together with its lifetime's token, through a walk: lent out for a call and taken back at its last list, or shared for a call and taken back as it was.
 --     Slice            own (the `&κ mut [T]` at the list ys, whose machine value has n elements) ∗ [κ]_q
 --     slice-lent       given that ys has n elements:  Slice ys  ⊢ ⇛ ∃ α δ. [α] ∗ own (the `&α mut [T]` under the name δ at ys) ∗ what is kept of it (`Again.antt`'s `LentAgain`)
 --     slice-back       given `Room`, and that ys and zs have n elements:  [α] ∗ what was kept ∗ finally δ zs  ⊢ ⇛ Slice zs
 --     slice-shared     likewise:  Slice ys  ⊢ ⇛ ∃ α δ. [α] ∗ own (the `&α [T]` under the name δ at ys) ∗ what is kept of it
 --     slice-unshared   [α] ∗ what was kept  ⊢ ⇛ Slice ys
+--     goes-out, comes-in       `slice-lent` and `slice-back` as rules of `Types/Kit.antt`'s calculus
 use mathlib.Core.Path.{_≡_, refl, sym, subst, _∙_}
 use Prim.Native.Nat.{ℕ}
 use mathlib.Core.List.{List, [], _∷_}
@@ -15,7 +16,7 @@ use base.Logic.{ent, sep, ex}
 use base.Fml.{Lft, GName, Share, Fml, fsep, flft, flent, fobs, fauth, fobor}
 use prog.Wp.{Heap}
 use ghost.Atoms.{Atoms, sem}
-use types.Kit.{Given, ‵, _⊛_, some, later, _$_, _∵_, !, qed, move, use1, use2, use3, split, pick, fsplit, fjoin, feqI, feqL, frame, await, updating, now as at-once, show, done}
+use types.Kit.{Given, Item, ‵, _⊛_, some, later, Goal, Soaks, Seq, Step, step, _$_, _∵_, !, qed, move, use1, use2, use3, split, pick, fsplit, fjoin, feqI, feqL, frame, await, updating, now as at-once, show, done}
 use types.Tokens.{lft-new, lft-end, lent-back}
 use types.Share.{arr-parts}
 use denote.RattleType.{RattleType}
@@ -99,3 +100,14 @@ module _ (R : RattleType) (κ : Lft) (q : Share) (r : RefT (List (R .Denot))) {M
           -- [obs; auth; the open borrow; the cells]
           move ! (3 ∷ 2 ∷ 0 ∷ 1 ∷ []) $ closes-slice ! tt R ys ys refl (r .ptr .0) (r .ptr .1) $ at-once ! $
           fjoin ! $ pureI ! (at-slice R (renamed r (r .name) ys) (sliceVal (r .ptr) (length ys) ∷ [])) (tt, (tt, tt)) (refl, subst (Room R) (sym e) room) $ fjoin ! $ fjoin ! $ done !)
+
+module _ {M : Type 1} {𝓤 : URA M} {H : Heap 𝓤} {A : Atoms 𝓤} {K : Type 0} {W : Given 𝓤 H A} {Γ : List (Item 𝓤)} {G : Goal 𝓤 H} where
+  pub goes-out : K → Soaks G → (R : RattleType) (κ : Lft) (q : Share) (r : RefT (List (R .Denot))) (n : ℕ) (ys : List (R .Denot)) → length ys ≡ n
+      → ((p : ℕ × GName) → Seq K W (‵ (Lent R κ q r n p ys) ∷ ‵ (Kept R κ q r n p ys) ∷ ‵ (flft (p .0 ∷ []) fullShare) ∷ Γ) G) → Seq K W (‵ (Slice R κ q r n ys) ∷ Γ) G
+  goes-out t z R κ q r n ys e k =
+      use1 W (later (some (λ (p : ℕ × GName). ‵ (flft (p .0 ∷ []) fullShare) ⊛ (‵ (Lent R κ q r n p ys) ⊛ ‵ (Kept R κ q r n p ys))))) (slice-lent R κ q r 𝓤 H A W n ys e) $ await t z $
+      pick t (λ p. split t $ move t (1 ∷ []) $ split t $ k p)
+
+  pub comes-in : K → Soaks G → (R : RattleType) (κ : Lft) (q : Share) (r : RefT (List (R .Denot))) (n : ℕ) (p : ℕ × GName) (ys zs : List (R .Denot)) → Room R n → length ys ≡ n → length zs ≡ n
+      → Step K W (‵ (Slice R κ q r n zs) ∷ Γ) G (‵ (flft (p .0 ∷ []) fullShare) ∷ ‵ (Kept R κ q r n p ys) ∷ ‵ (finally R (p .1) zs) ∷ Γ) G
+  comes-in t z R κ q r n p ys zs room e l = step (λ s. use3 W (later (‵ (Slice R κ q r n zs))) (slice-back R κ q r 𝓤 H A W n p ys zs room e l) $ await t z $ s)

@@ -2,7 +2,7 @@
 use mathlib.Core.Path.{_≡_}
 use mathlib.Core.List.{List, [], _∷_, map}
 use Prim.Native.Nat.{ℕ, _+_, _*_, _-_, _<_, _≤_}
-use lib.ListN.{getD, set, take}
+use lib.ListN.{length, getD, set, take}
 use Rattle.verdict.specs.Lists.{valuesFrom, written}
 use Rattle.formula.specs.Table as tables
 use Rattle.formula.specs.Table.{Table}
@@ -38,6 +38,13 @@ firstEntries es n = shownEntries (take n es)
 
 abbrev pub firstNodes : List Node → ℕ → List NodeRecord
 firstNodes vs n = shownNodes (take n vs)
+
+-- the columns have room for n entries; for n nodes, four links each and a start more
+abbrev pub EntryRoom : List ℕ → List ℕ → List ℕ → ℕ → Type 0
+EntryRoom ks xs ys n = (n ≤ length ks) × (n ≤ length xs) × (n ≤ length ys)
+
+abbrev pub NodeRoom : List ℕ → List ℕ → List ℕ → ℕ → Type 0
+NodeRoom rs ls ss n = (n ≤ length rs) × (4 * n ≤ length ls) × (n < length ss)
 
 -- the record of entry i of the columns
 abbrev pub entryOf : List ℕ → List ℕ → List ℕ → ℕ → Entry

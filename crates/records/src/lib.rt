@@ -1,11 +1,11 @@
 // "The decoded nodes stand as records in a slice the caller lends", and so do the entries: the records, read and written one at a time,
 // stored from columns of plain numbers and loaded into them.
 ghost use mathlib.Core.Path.{_≡_};
-ghost use Prim.Native.Nat.{_+_, _<_, _≤_};
+ghost use Prim.Native.Nat.{_+_, _*_, _<_, _≤_};
 ghost use lib.ListN.{length, getD, set};
 ghost use Rattle.verdict.specs.Lists.{written};
 ghost use Rattle.records.specs.Records.{blankEntry, blankNode, entryOf, entriesOf, nodeOf, nodesOf};
-ghost use Rattle.records.specs.Records.{CountFits, CountsFit, firstNodes, total, linksSet, RowSet, NodeRowSet, EntriesLoaded, NodesLoaded};
+ghost use Rattle.records.specs.Records.{EntryRoom, NodeRoom, CountFits, CountsFit, firstNodes, total, linksSet, RowSet, NodeRowSet, EntriesLoaded, NodesLoaded};
 
 // "An entry's record is its kind, A and B."
 #[repr(C)]
@@ -55,8 +55,8 @@ fn put_node(nodes: &mut [Node], i: usize, node: Node)
 }
 
 // Entry i of the columns, in one record.
-fn entry_of(kinds: &[u8; 256], a: &[u16; 256], b: &[u16; 256], i: usize) -> Entry
-    requires { ⌜ i < 256 ⌝ }
+fn entry_of(kinds: &[u8], a: &[u16], b: &[u16], i: usize) -> Entry
+    requires { ⌜ EntryRoom (now kinds) (now a) (now b) (i + 1) ⌝ }
     ensures { λ r. ⌜ r ≡ entryOf (now (kinds .entry)) (now (a .entry)) (now (b .entry)) i ⌝ }
 {
     Entry {
@@ -67,8 +67,8 @@ fn entry_of(kinds: &[u8; 256], a: &[u16; 256], b: &[u16; 256], i: usize) -> Entr
 }
 
 // A record's fields, in the columns at i.
-fn set_entry(kinds: &mut [u8; 256], a: &mut [u16; 256], b: &mut [u16; 256], i: usize, entry: Entry)
-    requires { ⌜ i < 256 ⌝ }
+fn set_entry(kinds: &mut [u8], a: &mut [u16], b: &mut [u16], i: usize, entry: Entry)
+    requires { ⌜ EntryRoom (now kinds) (now a) (now b) (i + 1) ⌝ }
     ensures { λ _. ⌜ RowSet (now (kinds .entry)) (now (a .entry)) (now (b .entry)) i entry (now (kinds .exit)) (now (a .exit)) (now (b .exit)) ⌝ }
 {
     kinds[i] = entry.kind;
@@ -77,14 +77,8 @@ fn set_entry(kinds: &mut [u8; 256], a: &mut [u16; 256], b: &mut [u16; 256], i: u
 }
 
 // The first records are those of the columns, and the slice is unchanged beyond them.
-pub fn store_entries(
-    entries: &mut [Entry],
-    kinds: &[u8; 256],
-    a: &[u16; 256],
-    b: &[u16; 256],
-    count: usize,
-)
-    requires { ⌜ (count ≤ 256) × (count ≤ length (now entries)) ⌝ }
+pub fn store_entries(entries: &mut [Entry], kinds: &[u8], a: &[u16], b: &[u16], count: usize)
+    requires { ⌜ EntryRoom (now kinds) (now a) (now b) count × (count ≤ length (now entries)) ⌝ }
     ensures { λ _. ⌜ now (entries .exit) ≡ written (entriesOf (now (kinds .entry)) (now (a .entry)) (now (b .entry)) count) (now (entries .entry)) ⌝ }
 {
     let mut i: usize = 0;
@@ -96,14 +90,8 @@ pub fn store_entries(
 }
 
 // The columns that the judge reads are those of the first records that stand in the slice, and unchanged beyond them.
-pub fn load_entries(
-    entries: &[Entry],
-    count: usize,
-    kinds: &mut [u8; 256],
-    a: &mut [u16; 256],
-    b: &mut [u16; 256],
-)
-    requires { ⌜ (count ≤ 256) × (count ≤ length (now entries)) ⌝ }
+pub fn load_entries(entries: &[Entry], count: usize, kinds: &mut [u8], a: &mut [u16], b: &mut [u16])
+    requires { ⌜ EntryRoom (now kinds) (now a) (now b) count × (count ≤ length (now entries)) ⌝ }
     ensures { λ _. ⌜ EntriesLoaded (now (entries .entry)) count (now (kinds .entry)) (now (a .entry)) (now (b .entry)) (now (kinds .exit))
         (now (a .exit)) (now (b .exit)) ⌝ }
 {
@@ -116,8 +104,8 @@ pub fn load_entries(
 }
 
 // Node v of the columns, in one record.
-fn node_of(rules: &[u8; 1024], links: &[u16; 4096], starts: &[u16; 1025], v: usize) -> Node
-    requires { ⌜ (v < 1024) × CountFits (now starts) v ⌝ }
+fn node_of(rules: &[u8], links: &[u16], starts: &[u16], v: usize) -> Node
+    requires { ⌜ NodeRoom (now rules) (now links) (now starts) (v + 1) × CountFits (now starts) v ⌝ }
     ensures { λ r. ⌜ r ≡ nodeOf (now (rules .entry)) (now (links .entry)) (now (starts .entry)) v ⌝ }
 {
     let count = starts[v + 1] - starts[v];
@@ -132,14 +120,15 @@ fn node_of(rules: &[u8; 1024], links: &[u16; 4096], starts: &[u16; 1025], v: usi
 }
 
 // The codes of the first node start at 0.
-fn start_at_zero(starts: &mut [u16; 1025])
+fn start_at_zero(starts: &mut [u16])
+    requires { ⌜ 0 < length (now starts) ⌝ }
     ensures { λ _. ⌜ now (starts .exit) ≡ set (now (starts .entry)) 0 0 ⌝ }
 {
     starts[0] = 0;
 }
 
-fn set_links(links: &mut [u16; 4096], v: usize, node: Node)
-    requires { ⌜ v < 1024 ⌝ }
+fn set_links(links: &mut [u16], v: usize, node: Node)
+    requires { ⌜ 4 * (v + 1) ≤ length (now links) ⌝ }
     ensures { λ _. ⌜ now (links .exit) ≡ linksSet (now (links .entry)) v node ⌝ }
 {
     links[4 * v] = node.principal;
@@ -149,14 +138,8 @@ fn set_links(links: &mut [u16; 4096], v: usize, node: Node)
 }
 
 // A record's fields, in the columns at v; its codes end where the next node's start.
-fn set_node(
-    rules: &mut [u8; 1024],
-    links: &mut [u16; 4096],
-    starts: &mut [u16; 1025],
-    v: usize,
-    node: Node,
-)
-    requires { ⌜ (v < 1024) × (getD (now starts) v 0 + node .count < 65536) ⌝ }
+fn set_node(rules: &mut [u8], links: &mut [u16], starts: &mut [u16], v: usize, node: Node)
+    requires { ⌜ NodeRoom (now rules) (now links) (now starts) (v + 1) × (getD (now starts) v 0 + node .count < 65536) ⌝ }
     ensures { λ _. ⌜ NodeRowSet (now (rules .entry)) (now (links .entry)) (now (starts .entry)) v node (now (rules .exit)) (now (links .exit))
         (now (starts .exit)) ⌝ }
 {
@@ -166,14 +149,8 @@ fn set_node(
 }
 
 // The first records are those of the columns, and the slice is unchanged beyond them.
-pub fn store_nodes(
-    nodes: &mut [Node],
-    rules: &[u8; 1024],
-    links: &[u16; 4096],
-    starts: &[u16; 1025],
-    count: usize,
-)
-    requires { ⌜ (count ≤ 1024) × (count ≤ length (now nodes)) × CountsFit (now starts) count ⌝ }
+pub fn store_nodes(nodes: &mut [Node], rules: &[u8], links: &[u16], starts: &[u16], count: usize)
+    requires { ⌜ NodeRoom (now rules) (now links) (now starts) count × (count ≤ length (now nodes)) × CountsFit (now starts) count ⌝ }
     ensures { λ _. ⌜ now (nodes .exit) ≡ written (nodesOf (now (rules .entry)) (now (links .entry)) (now (starts .entry)) count) (now (nodes .entry))
         ⌝ }
 {
@@ -189,11 +166,11 @@ pub fn store_nodes(
 pub fn load_nodes(
     nodes: &[Node],
     count: usize,
-    rules: &mut [u8; 1024],
-    links: &mut [u16; 4096],
-    starts: &mut [u16; 1025],
+    rules: &mut [u8],
+    links: &mut [u16],
+    starts: &mut [u16],
 )
-    requires { ⌜ (count ≤ 1024) × (count ≤ length (now nodes)) × (total (firstNodes (now nodes) count) ≤ 24576) ⌝ }
+    requires { ⌜ NodeRoom (now rules) (now links) (now starts) count × (count ≤ length (now nodes)) × (total (firstNodes (now nodes) count) ≤ 24576) ⌝ }
     ensures { λ _. ⌜ NodesLoaded (now (nodes .entry)) count (now (rules .entry)) (now (links .entry)) (now (starts .entry)) (now (rules .exit))
         (now (links .exit)) (now (starts .exit)) ⌝ }
 {
