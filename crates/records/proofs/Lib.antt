@@ -2,6 +2,8 @@ pub mod Again
 pub mod Column
 pub mod Slice
 pub mod Local
+pub mod LocalSlice
+pub mod Locals
 mod At
 mod Put
 mod Count
