@@ -1,17 +1,14 @@
 -- A loop that counts local 6 up to n, of a walk: its code, that each turn is nearer to n, and that the count stays a number of 64 bits.
 --     while            the test of a turn, and its work.        counting     the loop from 0 on, and the return of `()`
 --     lend             a lent slice is lent again: the reference in local p is made anew in the local ref, and the slice in the local new
---     Nearer           the order of the turns.        is-unit      a callee's result is `()`
-use mathlib.Core.Path.{_≡_, sym, ap, subst}
+--     Nearer           the order of the turns
 use Prim.Native.Nat.{ℕ, _+_, _-_, _<_, _^_}
 use native.Mathlib.Omega.{arith}
 use mathlib.Core.List.{[], _∷_}
 use mathlib.Core.WellFounded.{WellFounded, InvImage·wf}
 use lib.WfN.{Nat·lt-wfRel}
 use lib.Dec.{T, ltb, ltb→lt}
-use mir.Syntax.{Ty, Body, place, deref, field, copy, int, opdUnit, op2, lt, add, unsigned, rvOpd, addrOf, aggregate, skip, seq, assign, block, loop, cond, exit, return, tyUnit, w64}
-use mir.Val.{Val, vunit, hasTy, WT}
-use denote.Steps.{only}
+use mir.Syntax.{Ty, Body, place, deref, field, copy, int, opdUnit, op2, lt, add, unsigned, rvOpd, addrOf, aggregate, skip, seq, assign, block, loop, cond, exit, return, w64}
 
 abbrev pub while : (test n : ℕ) → Body → Body
 while test n work = seq (assign (place test []) (op2 (lt unsigned) (copy (place 6 [])) (copy (place n [])))) (seq (cond (copy (place test [])) skip (exit 1)) work)
@@ -43,6 +40,3 @@ module _ (i n : ℕ) (less : T (ltb i n)) where
 
   pub next-nearer : n - (i + 1) < n - i
   next-nearer = let l : i < n = ltb→lt i n less in omega arith
-
-pub is-unit : (v : Val) → v ∷ [] ≡ vunit ∷ [] → T (hasTy tyUnit v) × WT v
-is-unit v e = subst (λ (y : Val). T (hasTy tyUnit y) × WT y) (sym (ap only e)) (tt, tt)

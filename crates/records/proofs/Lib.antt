@@ -4,6 +4,7 @@ pub mod Slice
 pub mod Local
 pub mod LocalSlice
 pub mod Locals
+pub mod Returned
 mod At
 mod Put
 mod Count

@@ -47,7 +47,8 @@ use denote.Exit.{yes}
 use Rattle.records.proofs.At as get
 use Rattle.records.proofs.Between.{Blocks, Rooms, env, past, past-is, alloc-all, free-all, from-is}
 use Rattle.records.proofs.Column.{renamed}
-use Rattle.records.proofs.Count.{while, adds-one, ends, counting, lend, Nearer, nearer-wf, next-fits, next-nearer, is-unit}
+use Rattle.records.proofs.Count.{while, adds-one, ends, counting, lend, Nearer, nearer-wf, next-fits, next-nearer}
+use Rattle.records.proofs.Returned.{is-unit}
 use Rattle.records.proofs.Slice.{Slice, Lent, goes-out, comes-in}
 
 -- row i of the columns set to a record, and what its setter asks; the columns loaded from the first n records, what the load asks, and that each turn loads one more

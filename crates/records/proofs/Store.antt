@@ -45,7 +45,8 @@ use denote.Triple.Walked.{says, needs, Stays, stay-slice, stay-none, stay-none-s
 use denote.Exit.{yes}
 use Rattle.verdict.specs.Lists.{valuesFrom, written}
 use Rattle.records.specs.RecordLaws.{values-more}
-use Rattle.records.proofs.Count.{while, adds-one, ends, counting, lend, Nearer, nearer-wf, next-fits, next-nearer, is-unit}
+use Rattle.records.proofs.Count.{while, adds-one, ends, counting, lend, Nearer, nearer-wf, next-fits, next-nearer}
+use Rattle.records.proofs.Returned.{is-unit}
 use Rattle.records.proofs.Put as put
 use Rattle.records.proofs.Slice.{Slice, Lent, goes-out, comes-in}
 

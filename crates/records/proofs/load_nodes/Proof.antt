@@ -33,7 +33,8 @@ use denote.Triple.Walked.{says}
 use Rattle.records.specs.Records.{blankNode, firstNodes, total, NodeRoom, NodeRowSet, NodesLoaded}
 use Rattle.records.specs.RecordLaws.{nodes-none, nodes-more, start-fits}
 use Rattle.records.proofs.Column.{renamed}
-use Rattle.records.proofs.Count.{lend, is-unit}
+use Rattle.records.proofs.Count.{lend}
+use Rattle.records.proofs.Returned.{is-unit}
 use Rattle.records.proofs.Load as load
 use Rattle.records.proofs.Load.{Loads, Ahead, thin}
 use Rattle.records.proofs.Node as T
