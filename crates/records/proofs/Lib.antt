@@ -5,6 +5,7 @@ pub mod Local
 pub mod LocalSlice
 pub mod Locals
 pub mod Returned
+pub mod Literal
 mod At
 mod Put
 mod Count
