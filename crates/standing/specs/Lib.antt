@@ -1,3 +1,2 @@
-pub mod ReadableLaws
 pub mod Standing
 pub mod StandingLaws

@@ -1,85 +1,133 @@
-// The table and the proof that stand in lent records, judged by the rules: the columns are loaded from the records, the codes read where they were lent.
-ghost use mathlib.Core.Path.{_≡_};
-ghost use Prim.Native.Nat.{_≤_};
-ghost use Rattle.verdict.specs.Verdict.{accepted};
+// The nodes of a proof that was read, stored as records in the slices that a caller lends and judged as they stand there: the columns that
+// the rules read are loaded from the records, the codes read where they were lent.
 ghost use Rattle.verdict.specs.Shown.{shown};
-ghost use Rattle.formula.specs.Plain.{tableOf};
-ghost use Rattle.formula.specs.PlainNodes.{proofOf};
-ghost use Rattle.records.specs.Records.{firstEntries, firstNodes};
-ghost use Rattle.standing.specs.Standing.{standing, Ruled, FitsEntries, FitsNodes, Judgeable, LaidOut};
-use reader::Found;
-use records::Entry;
+ghost use Rattle.formula.specs.Held.{heldClaim};
+ghost use Rattle.laid.specs.Readable.{Readable, proofAt};
+ghost use Rattle.standing.specs.Standing.{RoomFor, JudgedStored};
+use nodes::decode_proof;
 use records::Node;
-use records::load_entries;
 use records::load_nodes;
+use records::store_nodes;
+use rules::judge::judge;
 use verdict::Verdict;
 
-// The rules over columns and the lent codes, where nothing was refused before.
-fn judge_columns(
-    found: Found,
-    codes: &[u16],
+// In columns with room for 32 nodes: a small proof clears no more.
+fn judge_few(
+    proof: &[u8],
     kinds: &[u8; 256],
     a: &[u16; 256],
     b: &[u16; 256],
-    rules: &[u8; 1024],
-    links: &[u16; 4096],
-    starts: &[u16; 1025],
+    entries: usize,
+    members: &[u16; 24],
+    listed: usize,
+    count: usize,
+    nodes: &mut [Node],
+    codes: &mut [u16],
 ) -> Verdict
-    requires { ⌜ (shown (found .verdict) ≡ accepted → LaidOut found (now kinds) (now a) (now b) (now rules) (now links) (now starts) (now codes)) ⌝ }
-    ensures { λ r. ⌜ Ruled found (tableOf (now (kinds .entry)) (now (a .entry)) (now (b .entry)) (found .entries))
-        (proofOf (now (rules .entry)) (now (links .entry)) (now (starts .entry)) (now (codes .entry)) (found .nodes)) (shown r) ⌝ }
+    requires { ⌜ Readable (now kinds) (now a) (now b) entries (now members) listed (now proof) count × RoomFor 32 count (now nodes) (now codes) ⌝ }
+    ensures { λ r. ⌜ JudgedStored (heldClaim (now (kinds .entry)) (now (a .entry)) (now (b .entry)) entries (now (members .entry)) listed)
+        (proofAt (now (proof .entry))) (now (nodes .entry)) (now (codes .entry)) (shown r) (now (nodes .exit)) (now (codes .exit)) ⌝ }
 {
-    let verdict = found.verdict;
-    let members = found.members;
-    match verdict {
-        Verdict::Refused { number, place } => Verdict::Refused { number, place },
-        Verdict::Accepted => rules::judge::judge(
-            kinds,
-            a,
-            b,
-            found.entries,
-            &members,
-            found.listed,
-            rules,
-            links,
-            starts,
-            codes,
-            found.nodes,
-        ),
-    }
+    let mut rules = [0u8; 32];
+    let mut links = [0u16; 128];
+    let mut starts = [0u16; 33];
+    decode_proof(proof, &mut rules, &mut links, &mut starts, codes);
+    store_nodes(nodes, &rules, &links, &starts, count);
+    load_nodes(nodes, count, &mut rules, &mut links, &mut starts);
+    judge(
+        kinds,
+        a,
+        b,
+        entries,
+        members,
+        listed,
+        &rules,
+        &links,
+        &starts,
+        codes,
+        count,
+    )
 }
 
-// The rules over the proof that stands in the lent records and codes, and a table in columns.
-fn judge_nodes(
-    found: Found,
-    nodes: &[Node],
-    codes: &[u16],
+// In columns with room for all 1,024.
+fn judge_many(
+    proof: &[u8],
     kinds: &[u8; 256],
     a: &[u16; 256],
     b: &[u16; 256],
+    entries: usize,
+    members: &[u16; 24],
+    listed: usize,
+    count: usize,
+    nodes: &mut [Node],
+    codes: &mut [u16],
 ) -> Verdict
-    requires { ⌜ (found .entries ≤ 256) × FitsNodes found (now nodes) (now codes) × Judgeable found
-        (tableOf (now kinds) (now a) (now b) (found .entries)) (standing (firstNodes (now nodes) (found .nodes)) (now codes)) (now codes) ⌝ }
-    ensures { λ r. ⌜ Ruled found (tableOf (now (kinds .entry)) (now (a .entry)) (now (b .entry)) (found .entries))
-        (standing (firstNodes (now (nodes .entry)) (found .nodes)) (now (codes .entry))) (shown r) ⌝ }
+    requires { ⌜ Readable (now kinds) (now a) (now b) entries (now members) listed (now proof) count × RoomFor 1024 count (now nodes) (now codes) ⌝ }
+    ensures { λ r. ⌜ JudgedStored (heldClaim (now (kinds .entry)) (now (a .entry)) (now (b .entry)) entries (now (members .entry)) listed)
+        (proofAt (now (proof .entry))) (now (nodes .entry)) (now (codes .entry)) (shown r) (now (nodes .exit)) (now (codes .exit)) ⌝ }
 {
     let mut rules = [0u8; 1024];
     let mut links = [0u16; 4096];
     let mut starts = [0u16; 1025];
-    load_nodes(nodes, found.nodes, &mut rules, &mut links, &mut starts);
-    judge_columns(found, codes, kinds, a, b, &rules, &links, &starts)
+    decode_proof(proof, &mut rules, &mut links, &mut starts, codes);
+    store_nodes(nodes, &rules, &links, &starts, count);
+    load_nodes(nodes, count, &mut rules, &mut links, &mut starts);
+    judge(
+        kinds,
+        a,
+        b,
+        entries,
+        members,
+        listed,
+        &rules,
+        &links,
+        &starts,
+        codes,
+        count,
+    )
 }
 
-// The rules over the table and the proof that stand in the lent records, where nothing was refused before.
-pub fn judge_records(found: Found, entries: &[Entry], nodes: &[Node], codes: &[u16]) -> Verdict
-    requires { ⌜ FitsEntries found (now entries) × FitsNodes found (now nodes) (now codes) × Judgeable found
-        (firstEntries (now entries) (found .entries)) (standing (firstNodes (now nodes) (found .nodes)) (now codes)) (now codes) ⌝ }
-    ensures { λ r. ⌜ Ruled found (firstEntries (now (entries .entry)) (found .entries))
-        (standing (firstNodes (now (nodes .entry)) (found .nodes)) (now (codes .entry))) (shown r) ⌝ }
+// In columns of the size that the count asks for.
+pub fn judge_stored(
+    proof: &[u8],
+    kinds: &[u8; 256],
+    a: &[u16; 256],
+    b: &[u16; 256],
+    entries: usize,
+    members: &[u16; 24],
+    listed: usize,
+    count: usize,
+    nodes: &mut [Node],
+    codes: &mut [u16],
+) -> Verdict
+    requires { ⌜ Readable (now kinds) (now a) (now b) entries (now members) listed (now proof) count × RoomFor 1024 count (now nodes) (now codes) ⌝ }
+    ensures { λ r. ⌜ JudgedStored (heldClaim (now (kinds .entry)) (now (a .entry)) (now (b .entry)) entries (now (members .entry)) listed)
+        (proofAt (now (proof .entry))) (now (nodes .entry)) (now (codes .entry)) (shown r) (now (nodes .exit)) (now (codes .exit)) ⌝ }
 {
-    let mut kinds = [0u8; 256];
-    let mut a = [0u16; 256];
-    let mut b = [0u16; 256];
-    load_entries(entries, found.entries, &mut kinds, &mut a, &mut b);
-    judge_nodes(found, nodes, codes, &kinds, &a, &b)
+    if count <= 32 {
+        return judge_few(
+            proof,
+            kinds,
+            a,
+            b,
+            entries,
+            members,
+            listed,
+            count,
+            nodes,
+            codes,
+        );
+    }
+    judge_many(
+        proof,
+        kinds,
+        a,
+        b,
+        entries,
+        members,
+        listed,
+        count,
+        nodes,
+        codes,
+    )
 }
