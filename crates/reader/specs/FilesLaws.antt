@@ -111,24 +111,17 @@ module _ {r : Reading (Files Derivation)} (ks xs ys ms : List ℕ) {w : FilesRea
   files-as-refused e = rw e at t
 
 -- what was found, by value
-module _ (r : Reading (Files Derivation)) (f : Found) where
-  pub found-unread : {n q : ℕ} → RefusedWith r n q → Unread n q f → Tells r f
+module _ (r : Reading (Files Derivation)) (ks xs ys ms : List ℕ) (f : Found) where
+  pub found-unread : {n q : ℕ} → RefusedWith r n q → Unread n q f → Tells r ks xs ys ms f
   found-unread u k = rw (u .was) k
 
-  pub found-read : {ks xs ys ms : List ℕ} {n k m : ℕ} → FilesGot r ks xs ys ms n k m → shown (f .verdict) ≡ accepted → f .entries ≡ n → f .listed ≡ k → f .nodes ≡ m → f .members ≡ ms → Tells r f
-  found-read {ks} {xs} {ys} g v a b c d = rw (g .was) (record {
-    verdict = v;
-    entries = a ∙ sym (tableOf-length ks xs ys _) ∙ ap (λ (c : Claim). length (c .entries)) (g .held .same);
-    nodes = c ∙ g .nodes;
-    members = rw (b, d) (ap (λ (c : Claim). c .members) (g .held .same));
-    few = omega (arith, g .held .members);
-    room = rw (b, d) (g .held .listed);
-  })
+  pub found-read : FilesGot r ks xs ys ms (f .entries) (f .listed) (f .nodes) → Tells r ks xs ys ms f
+  found-read g = rw (g .was) (record { files = g .files; was = refl; held = g .held; nodes = g .nodes })
 
 -- whatever stands first, when it refuses
-module _ (before : Verdict) (next : Reading (Files Derivation)) (f : Found) where
-  pub first-unread : {n q : ℕ} → before ≡ verdicts.refused n q → Unread n q f → Tells (firstly before next) f
+module _ (before : Verdict) (next : Reading (Files Derivation)) (ks xs ys ms : List ℕ) (f : Found) where
+  pub first-unread : {n q : ℕ} → before ≡ verdicts.refused n q → Unread n q f → Tells (firstly before next) ks xs ys ms f
   first-unread h u = rw h u
 
-  pub first-passed : before ≡ accepted → Tells next f → Tells (firstly before next) f
+  pub first-passed : before ≡ accepted → Tells next ks xs ys ms f → Tells (firstly before next) ks xs ys ms f
   first-passed h d = rw h d

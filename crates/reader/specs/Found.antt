@@ -1,10 +1,10 @@
 -- what was found of a claim and a proof
 use mathlib.Core.Path.{_≡_}
 use mathlib.Core.List.{List}
-use Prim.Native.Nat.{ℕ, _≤_}
-use lib.ListN.{length, take, replicate}
+use Prim.Native.Nat.{ℕ}
+use lib.ListN.{length}
 use Rattle.verdict.specs.Verdict as verdicts
-use Rattle.verdict.specs.Verdict.{Verdict, accepted}
+use Rattle.verdict.specs.Verdict.{Verdict}
 use Rattle.verdict.specs.Shown.{shown}
 use Rattle.encoding.specs.Encode.{Bytes}
 use Rattle.encoding.specs.File.{Reading, refused, good}
@@ -27,33 +27,17 @@ abbrev pub FilesTell : Reading (Files Derivation) → List ℕ → List ℕ → 
 FilesTell r ks xs ys ms (Read n k m) = FilesGot r ks xs ys ms n k m
 FilesTell r ks xs ys ms (Refused n q) = RefusedWith r n q
 
--- the same by value. A refusal: no entry, no member and no node
+-- the same by value. A refusal, and no node
 pub record Unread (n q : ℕ) (f : Found) : Type 0 where
   pub verdict : shown (f .verdict) ≡ verdicts.refused n q
-  pub entries : f .entries ≡ 0
-  pub listed : f .listed ≡ 0
   pub nodes : f .nodes ≡ 0
-  pub members : f .members ≡ replicate 24 0
 
-pub record Readable (fs : Files Derivation) (f : Found) : Type 0 where
-  pub verdict : shown (f .verdict) ≡ accepted
-  pub entries : f .entries ≡ length (fs .claim .entries)
-  pub nodes : f .nodes ≡ length (fs .beside .nodes)
-  pub members : take (f .listed) (f .members) ≡ fs .claim .members
-  pub few : f .listed ≤ 24
-  pub room : f .listed ≤ length (f .members)
-
-abbrev pub Tells : Reading (Files Derivation) → Found → Type 0
-Tells (refused n q) f = Unread n q f
-Tells (good fs) f = Readable fs f
+abbrev pub Tells : Reading (Files Derivation) → List ℕ → List ℕ → List ℕ → List ℕ → Found → Type 0
+Tells (refused n q) ks xs ys ms f = Unread n q f
+Tells (good fs) ks xs ys ms f = FilesGot (good fs) ks xs ys ms (f .entries) (f .listed) (f .nodes)
 
 -- what is told of two lent files behind what stands before them, and that a lent slice of bytes holds bytes
-pub record FilesTold (before : Verdict) (claim proof : List ℕ) (f : Found) : Type 0 where
-  pub told : Tells (firstly before (files claim proof)) f
+pub record FilesTold (before : Verdict) (claim proof ks xs ys ms : List ℕ) (f : Found) : Type 0 where
+  pub told : Tells (firstly before (files claim proof)) ks xs ys ms f
   pub claim-bytes : Bytes claim
   pub proof-bytes : Bytes proof
-
--- a refusal that stands, or what the rules say
-abbrev pub ruled : Verdict → Verdict → Verdict
-ruled accepted next = next
-ruled (verdicts.refused n q) next = verdicts.refused n q

@@ -3,7 +3,7 @@
 ghost use Rattle.claims.specs.ClaimWalk.{ClaimArrays, ClaimTells};
 ghost use Rattle.reader.specs.Files.{readFormed, files};
 ghost use Rattle.verdict.specs.Shown.{shown};
-ghost use Rattle.reader.specs.Found.{FilesTell, Unread, Tells, FilesTold};
+ghost use Rattle.reader.specs.Found.{FilesTell, Unread, FilesTold};
 use claims::ClaimRead;
 use claims::read_claim;
 use conditions::judge;
@@ -89,59 +89,55 @@ pub fn read_files(
     }
 }
 
-// What was found of a claim and a proof, by value: a refusal, or how many entries, members and nodes there are, and the members.
+// What was found of a claim and a proof, by value: a refusal, and no node, or how many entries, members and nodes there are.
 pub struct Found {
     pub verdict: Verdict,
     pub entries: usize,
     pub listed: usize,
     pub nodes: usize,
-    pub members: [u16; 24],
 }
 
-// A refusal: no entry and no node is to be stored.
 fn unread(number: u16, place: u16) -> Found
     ensures { λ r. ⌜ Unread number place r ⌝ }
 {
-    let members = [0u16; 24];
     Found {
         verdict: Verdict::Refused { number, place },
         entries: 0,
         listed: 0,
         nodes: 0,
-        members,
-    }
-}
-
-// Both files, read on memory of its own.
-fn find_both(claim: &[u8], proof: &[u8]) -> Found
-    ensures { λ r. ⌜ Tells (files (now (claim .entry)) (now (proof .entry))) r ⌝ }
-{
-    let mut kinds = [0u8; 256];
-    let mut a = [0u16; 256];
-    let mut b = [0u16; 256];
-    let mut members = [0u16; 24];
-    match read_files(claim, proof, &mut kinds, &mut a, &mut b, &mut members) {
-        FilesRead::Refused { number, place } => unread(number as u16, place as u16),
-        FilesRead::Read {
-            entries,
-            listed,
-            nodes,
-        } => Found {
-            verdict: Verdict::Accepted,
-            entries,
-            listed,
-            nodes,
-            members,
-        },
     }
 }
 
 // Both files, where nothing was refused before.
-pub fn find_files(before: Verdict, claim: &[u8], proof: &[u8]) -> Found
-    ensures { λ r. ⌜ FilesTold (shown before) (now (claim .entry)) (now (proof .entry)) r ⌝ }
+pub fn find_files(
+    before: Verdict,
+    claim: &[u8],
+    proof: &[u8],
+    kinds: &mut [u8; 256],
+    a: &mut [u16; 256],
+    b: &mut [u16; 256],
+    members: &mut [u16; 24],
+) -> Found
+    requires { ⌜ ClaimArrays (now kinds) (now a) (now b) (now members) ⌝ }
+    ensures { λ r. ⌜ FilesTold (shown before) (now (claim .entry)) (now (proof .entry)) (now (kinds .exit)) (now (a .exit)) (now (b .exit))
+        (now (members .exit)) r ⌝ }
 {
     match before {
         Verdict::Refused { number, place } => unread(number, place),
-        Verdict::Accepted => find_both(claim, proof),
+        Verdict::Accepted => {
+            match read_files(claim, proof, kinds, a, b, members) {
+                FilesRead::Refused { number, place } => unread(number as u16, place as u16),
+                FilesRead::Read {
+                    entries,
+                    listed,
+                    nodes,
+                } => Found {
+                    verdict: Verdict::Accepted,
+                    entries,
+                    listed,
+                    nodes,
+                },
+            }
+        }
     }
 }

@@ -1,10 +1,11 @@
--- a refusal before the files stands, and no file is read
+-- a refusal before the files stands, and no file is read; else a refusal of theirs, or the counts
 use mathlib.Core.Path.{ap}
+use native.Mathlib.Omega.{arith}
 use borrow.Author.Needs.{needs}
 use Rattle.verdict.specs.Shown.{shown}
 use Rattle.encoding.specs.Encode.{Bytes}
 use Rattle.encoding.specs.ByteLaws.{lent-bytes}
-use Rattle.reader.specs.FilesLaws.{first-unread, first-passed}
+use Rattle.reader.specs.FilesLaws.{files-as-read, files-as-refused, found-unread, found-read, first-unread, first-passed}
 use Rattle.reader.proofs.find_files.Statement.{statement}
 use Rattle.reader.proofs.find_files.Tie as tie
 
@@ -17,8 +18,23 @@ unread-requires c κs = search needs
 enum-told : tie.Need-enum-told
 enum-told c = search needs
 
-find-both-requires : tie.Need-find-both-requires
-find-both-requires c κs = search needs
+read-files-requires : tie.Need-read-files-requires
+read-files-requires c κs = search needs
+
+enum-known-number : tie.Need-enum-known-number
+enum-known-number c = search needs
+
+cast-unread : tie.Need-cast-unread
+cast-unread c = omega (arith, files-as-refused _ _ _ _ (c .before .before .before .read-files .ensures) (c .before .number .given .1) .small)
+
+cast-unread-2 : tie.Need-cast-unread-2
+cast-unread-2 c = omega (arith, files-as-refused _ _ _ _ (c .before .before .before .read-files .ensures) (c .before .number .given .1) .small)
+
+unread-requires-2 : tie.Need-unread-requires-2
+unread-requires-2 c κs = search needs
+
+enum-known-entries : tie.Need-enum-known-entries
+enum-known-entries c = search needs
 
 -- a lent slice of bytes holds bytes
 module _ (c : tie.After-shared-slice-known2) where
@@ -31,14 +47,41 @@ module _ (c : tie.After-shared-slice-known2) where
 returns : tie.Need-returns
 returns c =
     let entry = c .before .before .before .before in
-    record { told = first-unread _ _ _ (ap shown (c .before .before .before2 .given .1)) (c .unread .ensures); claim-bytes = claim-bytes entry; proof-bytes = proof-bytes entry }
+    record { told = first-unread _ _ _ _ _ _ _ (ap shown (c .before .before .before2 .given .1)) (c .unread .ensures); claim-bytes = claim-bytes entry; proof-bytes = proof-bytes entry }
 
 returns-2 : tie.Need-returns-2
 returns-2 c =
-    let entry = c .before .before .before in
-    record { told = first-passed _ _ _ (ap shown (c .before .enum-told .given .1)) (c .find-both .ensures); claim-bytes = claim-bytes entry; proof-bytes = proof-bytes entry }
+    let entry = c .before .before .before .before .before .before .before .before .before .before .before in
+    let refusal = files-as-refused _ _ _ _ (c .before .before .before .before .read-files .ensures) (c .before .before .number .given .1) in
+    record {
+      told = first-passed _ _ _ _ _ _ _ (ap shown (c .before .before .before .before .before .before .before .before .before .enum-told .given .1)) (found-unread _ _ _ _ _ _ refusal (c .unread2 .ensures));
+      claim-bytes = claim-bytes entry;
+      proof-bytes = proof-bytes entry;
+    }
+
+returns-3 : tie.Need-returns-3
+returns-3 c =
+    let entry = c .before .before .before .before .before .before .before .before .before .before in
+    let got = files-as-read _ _ _ _ (c .before .before .before .read-files .ensures) (c .before .entries .given .1) in
+    record {
+      told = first-passed _ _ _ _ _ _ _ (ap shown (c .before .before .before .before .before .before .before .before .enum-told .given .1)) (found-read _ _ _ _ _ _ got);
+      claim-bytes = claim-bytes entry;
+      proof-bytes = proof-bytes entry;
+    }
 
 pub find-files-spec : {M : Type 1} → statement M
 find-files-spec =
     tie.close
-    (tie.spec enum-known-before unread-requires enum-told find-both-requires returns returns-2)
+    (tie.spec
+    enum-known-before
+    unread-requires
+    enum-told
+    read-files-requires
+    enum-known-number
+    cast-unread
+    cast-unread-2
+    unread-requires-2
+    enum-known-entries
+    returns
+    returns-2
+    returns-3)
