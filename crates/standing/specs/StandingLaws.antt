@@ -14,7 +14,7 @@ use Rattle.formula.specs.Held.{heldClaim, heldProof}
 use Rattle.formula.specs.Nodes.{Proof, node}
 use Rattle.formula.specs.PlainNodes.{proofOf}
 use Rattle.formula.specs.Records.{NodeRecord, nodeRecords, allCodes}
-use Rattle.formula.specs.NodeColumns.{Columns, startsFrom, startsOf, start-stands}
+use Rattle.formula.specs.NodeColumns.{Columns, rulesOf, linksOf, startsFrom, startsOf, start-stands}
 use Rattle.formula.specs.CodeCounts.{few-codes, more-codes}
 use Rattle.proofs.specs.ProofRecords.{codes-few}
 use Rattle.nodes.specs.ProofDecode.{proofIn, Decodes}
@@ -74,9 +74,9 @@ module _ {ks xs ys : List ℕ} {n : ℕ} {ms : List ℕ} {k : ℕ} {s : List ℕ
   module _ {rs ls ss cs : List ℕ} (w : NodesStored p rs₀ ls₀ ss₀ cs₀ rs ls ss cs) where
     node-room : NodeRoom rs ls ss m
     node-room = (
-      omega (arith, columns .rules, ap length (w .rules), no-shorter _ rs₀),
-      omega (arith, columns .links, ap length (w .links), no-shorter _ ls₀),
-      omega (arith, columns .starts, ap length (w .starts), no-shorter _ ss₀),
+      omega (arith, columns .rules, ap length (w .rules), no-shorter (rulesOf p) rs₀),
+      omega (arith, columns .links, ap length (w .links), no-shorter (linksOf p) ls₀),
+      omega (arith, columns .starts, ap length (w .starts), no-shorter (startsOf p) ss₀),
     )
 
     codes-long : 24 * m ≤ length cs
@@ -90,10 +90,10 @@ module _ {ks xs ys : List ℕ} {n : ℕ} {ms : List ℕ} {k : ℕ} {s : List ℕ
         (omega (arith, here, next, one, more-codes p v), omega (arith, here, next, one, at-most p (codes-few (r .file)) v))
 
     -- what the store asks
-    pub may-store : {vs : List Node} → m ≤ length vs → NodeRoom rs ls ss m × (m ≤ length vs) × CountsFit ss m
-    may-store there = (node-room, there, fit)
+    pub may-store : (vs : List Node) → m ≤ length vs → NodeRoom rs ls ss m × (m ≤ length vs) × CountsFit ss m
+    may-store vs there = (node-room, there, fit)
 
-    module _ {vs vs′ : List Node} (there : m ≤ length vs) (e : vs′ ≡ written (nodesOf rs ls ss m) vs) where
+    module _ (vs : List Node) {vs′ : List Node} (there : m ≤ length vs) (e : vs′ ≡ written (nodesOf rs ls ss m) vs) where
       within : (v : ℕ) → v < m → getD ss (v + 1) 0 ≤ length cs
       within v l = omega (arith, stored-starts r w (v + 1) (omega arith), few-codes p (codes-few (r .file)) (v + 1), codes-long)
 
@@ -129,8 +129,11 @@ module _ {ks xs ys : List ℕ} {n : ℕ} {ms : List ℕ} {k : ℕ} {s : List ℕ
         starts-same : (v : ℕ) → v ≤ m → getD ss′ v 0 ≡ length (allCodes (take v p))
         unfolding startsOf
         starts-same v l =
-            ap (λ (x : List ℕ). getD x v 0) (loaded .starts ∙ ap (λ (l : List NodeRecord). written (startColumn 0 l) ss) stand ∙ ap (λ (c : List ℕ). written c ss) (starts-made 0 p))
+            ap (λ (x : List ℕ). getD x v 0) (loaded .starts ∙ ap (λ (l : List NodeRecord). written (startColumn 0 l) ss) stand ∙ ap (λ (c : List ℕ). written c ss) (starts-made 0 p ∙ from-zero))
             ∙ start-stands p ss v (omega (arith, r .nodes))
+          where
+            from-zero : startsFrom 0 p ++ ((0 + length (allCodes p)) ∷ []) ≡ startsFrom 0 p ++ (length (allCodes p) ∷ [])
+            from-zero = ap (λ (n : ℕ). startsFrom 0 p ++ (n ∷ [])) (omega arith)
 
         columns-long : Columns m rs′ ls′ ss′ cs
         columns-long = record {
