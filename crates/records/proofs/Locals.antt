@@ -3,6 +3,7 @@
 --     Three            the widths, lengths and places of three locals: the columns of entries, or of nodes
 --     three-lent       `[0; n]` three times: the tokens, what is lent, and the lenders' parts
 --     three-turned     the tokens, the lenders' parts and the last lists: the tokens, what is shared, the lenders' parts, and that each list has its local's length
+--     three-relent     the tokens and the lenders' parts of what is shared: the tokens, what is lent, at the lists that were shared, and the lenders' parts
 --     three-ended      the tokens and the lenders' parts: the rooms of the cells
 -- These are rules of `Types/Kit.antt`'s calculus, on the first items of the context. The three and the ways come before the `!`, since the items are computed from them.
 use mathlib.Core.Path.{_≡_, sym, subst}
@@ -68,10 +69,15 @@ module _ (w : Width) (n l : ℕ) where
     shared-in slice = slices.shared-in w n l 𝓤 H A W
 
   module _ (way : Way) {M : Type 1} {𝓤 : URA M} {H : Heap 𝓤} {A : Atoms 𝓤} {K : Type 0} {W : Given 𝓤 H A} {Γ : List (Item 𝓤)} {G : Goal 𝓤 H} where
+    one-out : K → Soaks G → Room (UInt w) n → (x : List ℕ) → ((p : Loan) → Seq K W (‵ (Token w n l p) ∷ ‵ (Lent way p x) ∷ ‵ (Kept way p) ∷ Γ) G) → Seq K W (‵ (Lies w n l x) ∷ Γ) G
+    one-out t z room x k = use1 W (later (some (λ (p : Loan). ‵ (Token w n l p) ⊛ (‵ (Lent way p x) ⊛ ‵ (Kept way p))))) (lent-out 𝓤 H A W way room x) $ await t z $ pick t (λ p. split3 t $ k p)
+
+  module _ (way : Way) {M : Type 1} {𝓤 : URA M} {H : Heap 𝓤} {A : Atoms 𝓤} {K : Type 0} {W : Given 𝓤 H A} {Γ : List (Item 𝓤)} {G : Goal 𝓤 H} where
     one-lent : K → Soaks G → Room (UInt w) n → ((p : Loan) → Seq K W (‵ (Token w n l p) ∷ ‵ (Lent way p (replicate n 0)) ∷ ‵ (Kept way p) ∷ Γ) G) → Seq K W (‵ (Zeros w n l) ∷ Γ) G
-    one-lent t z room k =
-        use1 W (‵ (Lies w n l (replicate n 0))) (lies-made w n l 𝓤 H A W) $
-        use1 W (later (some (λ (p : Loan). ‵ (Token w n l p) ⊛ (‵ (Lent way p (replicate n 0)) ⊛ ‵ (Kept way p))))) (lent-out 𝓤 H A W way room (replicate n 0)) $ await t z $ pick t (λ p. split3 t $ k p)
+    one-lent t z room k = use1 W (‵ (Lies w n l (replicate n 0))) (lies-made w n l 𝓤 H A W) $ one-out way t z room (replicate n 0) k
+
+    one-relent : (how : Way) → K → Soaks G → Room (UInt w) n → (r : Loan) (x : List ℕ) → ((p : Loan) → Seq K W (‵ (Token w n l p) ∷ ‵ (Lent how p x) ∷ ‵ (Kept how p) ∷ Γ) G) → Seq K W (‵ (Token w n l r) ∷ ‵ (KeptShared way r x) ∷ Γ) G
+    one-relent how t z room r x k = use2 W (later (‵ (Lies w n l x))) (shared-in 𝓤 H A W way r x) $ await t z $ one-out how t z room x k
 
     one-turned : (how : Way) → K → Soaks G → Room (UInt w) n → (p : Loan) (x : List ℕ) → ((r : Loan) → length x ≡ n → Seq K W (‵ (Token w n l r) ∷ ‵ (Shared how r x) ∷ ‵ (KeptShared how r x) ∷ Γ) G)
         → Seq K W (‵ (Token w n l p) ∷ ‵ (Kept way p) ∷ ‵ (Last way p x) ∷ Γ) G
@@ -121,8 +127,8 @@ module _ (s : Three) where
     abbrev pub tokens : Loans → List (Item 𝓤)
     tokens p = ‵ (Token (s .w₁) (s .n₁) (s .l₁) (p .0)) ∷ ‵ (Token (s .w₂) (s .n₂) (s .l₂) (p .1 .0)) ∷ ‵ (Token (s .w₃) (s .n₃) (s .l₃) (p .1 .1)) ∷ []
 
-    abbrev pub lent : Way → Loans → List (Item 𝓤)
-    lent way p = ‵ (Lent (s .w₁) (s .n₁) (s .l₁) way (p .0) (replicate (s .n₁) 0)) ∷ ‵ (Lent (s .w₂) (s .n₂) (s .l₂) way (p .1 .0) (replicate (s .n₂) 0)) ∷ ‵ (Lent (s .w₃) (s .n₃) (s .l₃) way (p .1 .1) (replicate (s .n₃) 0)) ∷ []
+    abbrev pub lent : Way → Loans → Lists → List (Item 𝓤)
+    lent way p x = ‵ (Lent (s .w₁) (s .n₁) (s .l₁) way (p .0) (x .0)) ∷ ‵ (Lent (s .w₂) (s .n₂) (s .l₂) way (p .1 .0) (x .1 .0)) ∷ ‵ (Lent (s .w₃) (s .n₃) (s .l₃) way (p .1 .1) (x .1 .1)) ∷ []
 
     abbrev pub kept : Way → Loans → List (Item 𝓤)
     kept way p = ‵ (Kept (s .w₁) (s .n₁) (s .l₁) way (p .0)) ∷ ‵ (Kept (s .w₂) (s .n₂) (s .l₂) way (p .1 .0)) ∷ ‵ (Kept (s .w₃) (s .n₃) (s .l₃) way (p .1 .1)) ∷ []
@@ -140,7 +146,7 @@ module _ (s : Three) where
     freed = ‵ (Freed (s .w₁) (s .n₁) (s .l₁)) ∷ ‵ (Freed (s .w₂) (s .n₂) (s .l₂)) ∷ ‵ (Freed (s .w₃) (s .n₃) (s .l₃)) ∷ []
 
   module _ (way : Way) {M : Type 1} {𝓤 : URA M} {H : Heap 𝓤} {A : Atoms 𝓤} {K : Type 0} {W : Given 𝓤 H A} {Γ : List (Item 𝓤)} {G : Goal 𝓤 H} where
-    pub three-lent : K → Soaks G → Rooms → ((p : Loans) → Seq K W (tokens 𝓤 p ++ lent 𝓤 way p ++ kept 𝓤 way p ++ Γ) G) → Seq K W (made 𝓤 ++ Γ) G
+    pub three-lent : K → Soaks G → Rooms → ((p : Loans) → Seq K W (tokens 𝓤 p ++ lent 𝓤 way p noughts ++ kept 𝓤 way p ++ Γ) G) → Seq K W (made 𝓤 ++ Γ) G
     three-lent t z room k =
         one-lent (s .w₁) (s .n₁) (s .l₁) way t z (room .0) (λ p₁. move t (3 ∷ []) $ one-lent (s .w₂) (s .n₂) (s .l₂) way t z (room .1) (λ p₂. move t (6 ∷ []) $ one-lent (s .w₃) (s .n₃) (s .l₃) way t z (room .2) (λ p₃.
         move t (6 ∷ 3 ∷ 0 ∷ 7 ∷ 4 ∷ 1 ∷ 8 ∷ 5 ∷ 2 ∷ []) $ k (p₁, (p₂, p₃)))))
@@ -153,6 +159,13 @@ module _ (s : Three) where
         move t (6 ∷ 7 ∷ 8 ∷ []) $ one-turned (s .w₃) (s .n₃) (s .l₃) way how t z (room .2) (p .1 .1) (x .1 .1) (λ r₃ e₃.
         move t (6 ∷ 3 ∷ 0 ∷ 7 ∷ 4 ∷ 1 ∷ 8 ∷ 5 ∷ 2 ∷ []) $ k (r₁, (r₂, r₃)) (e₁, e₂, e₃))))
 
+    pub three-relent : (how : Way) → K → Soaks G → Rooms → (r : Loans) (x : Lists) → ((p : Loans) → Seq K W (tokens 𝓤 p ++ lent 𝓤 how p x ++ kept 𝓤 how p ++ Γ) G) → Seq K W (tokens 𝓤 r ++ kept-shared 𝓤 way r x ++ Γ) G
+    three-relent how t z room r x k =
+        move t (0 ∷ 3 ∷ []) $ one-relent (s .w₁) (s .n₁) (s .l₁) way how t z (room .0) (r .0) (x .0) (λ p₁.
+        move t (3 ∷ 5 ∷ []) $ one-relent (s .w₂) (s .n₂) (s .l₂) way how t z (room .1) (r .1 .0) (x .1 .0) (λ p₂.
+        move t (6 ∷ 7 ∷ []) $ one-relent (s .w₃) (s .n₃) (s .l₃) way how t z (room .2) (r .1 .1) (x .1 .1) (λ p₃.
+        move t (6 ∷ 3 ∷ 0 ∷ 7 ∷ 4 ∷ 1 ∷ 8 ∷ 5 ∷ 2 ∷ []) $ k (p₁, (p₂, p₃)))))
+
     pub three-ended : K → Soaks G → (r : Loans) (x : Lists) → Step K W (freed 𝓤 ++ Γ) G (tokens 𝓤 r ++ kept-shared 𝓤 way r x ++ Γ) G
     three-ended t z r x = step (λ q.
         move t (0 ∷ 3 ∷ []) $ one-ended (s .w₁) (s .n₁) (s .l₁) way t z (r .0) (x .0) $
@@ -160,12 +173,15 @@ module _ (s : Three) where
         move t (2 ∷ 3 ∷ []) $ one-ended (s .w₃) (s .n₃) (s .l₃) way t z (r .1 .1) (x .1 .1) $ move t (2 ∷ 1 ∷ 0 ∷ []) $ q)
 
 -- ---- the columns of entries, and of nodes
+abbrev pub columnsOf : (n₁ n₂ n₃ l₁ l₂ l₃ : ℕ) → Three
+columnsOf n₁ n₂ n₃ l₁ l₂ l₃ = record { w₁ = w8; w₂ = w16; w₃ = w16; n₁ = n₁; n₂ = n₂; n₃ = n₃; l₁ = l₁; l₂ = l₂; l₃ = l₃ }
+
 module _ (l₁ l₂ l₃ : ℕ) where
   abbrev pub entryColumns : Three
-  entryColumns = record { w₁ = w8; w₂ = w16; w₃ = w16; n₁ = 256; n₂ = 256; n₃ = 256; l₁ = l₁; l₂ = l₂; l₃ = l₃ }
+  entryColumns = columnsOf 256 256 256 l₁ l₂ l₃
 
   abbrev pub nodeColumns : Three
-  nodeColumns = record { w₁ = w8; w₂ = w16; w₃ = w16; n₁ = 1024; n₂ = 4096; n₃ = 1025; l₁ = l₁; l₂ = l₂; l₃ = l₃ }
+  nodeColumns = columnsOf 1024 4096 1025 l₁ l₂ l₃
 
   pub entry-rooms : Rooms entryColumns
   entry-rooms = ((lit< tt, lit< tt), (lit< tt, lit< tt), (lit< tt, lit< tt))

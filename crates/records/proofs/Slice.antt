@@ -4,7 +4,7 @@
 --     slice-back       given `Room`, and that ys and zs have n elements:  [α] ∗ what was kept ∗ finally δ zs  ⊢ ⇛ Slice zs
 --     slice-shared     likewise:  Slice ys  ⊢ ⇛ ∃ α δ. [α] ∗ own (the `&α [T]` under the name δ at ys) ∗ what is kept of it
 --     slice-unshared   [α] ∗ what was kept  ⊢ ⇛ Slice ys
---     goes-out, comes-in       `slice-lent` and `slice-back` as rules of `Types/Kit.antt`'s calculus
+--     goes-out, comes-in, goes-shared, comes-unshared       these four as rules of `Types/Kit.antt`'s calculus
 use mathlib.Core.Path.{_≡_, refl, sym, subst, _∙_}
 use Prim.Native.Nat.{ℕ}
 use mathlib.Core.List.{List, [], _∷_}
@@ -111,3 +111,13 @@ module _ {M : Type 1} {𝓤 : URA M} {H : Heap 𝓤} {A : Atoms 𝓤} {K : Type 
   pub comes-in : K → Soaks G → (R : RattleType) (κ : Lft) (q : Share) (r : RefT (List (R .Denot))) (n : ℕ) (p : ℕ × GName) (ys zs : List (R .Denot)) → Room R n → length ys ≡ n → length zs ≡ n
       → Step K W (‵ (Slice R κ q r n zs) ∷ Γ) G (‵ (flft (p .0 ∷ []) fullShare) ∷ ‵ (Kept R κ q r n p ys) ∷ ‵ (finally R (p .1) zs) ∷ Γ) G
   comes-in t z R κ q r n p ys zs room e l = step (λ s. use3 W (later (‵ (Slice R κ q r n zs))) (slice-back R κ q r 𝓤 H A W n p ys zs room e l) $ await t z $ s)
+
+  pub goes-shared : K → Soaks G → (R : RattleType) (κ : Lft) (q : Share) (r : RefT (List (R .Denot))) (n : ℕ) (ys : List (R .Denot)) → Room R n → length ys ≡ n
+      → ((p : ℕ × GName) → Seq K W (‵ (Shared R κ q r n p ys) ∷ ‵ (KeptShared R κ q r n p ys) ∷ ‵ (flft (p .0 ∷ []) fullShare) ∷ Γ) G) → Seq K W (‵ (Slice R κ q r n ys) ∷ Γ) G
+  goes-shared t z R κ q r n ys room e k =
+      use1 W (later (some (λ (p : ℕ × GName). ‵ (flft (p .0 ∷ []) fullShare) ⊛ (‵ (Shared R κ q r n p ys) ⊛ ‵ (KeptShared R κ q r n p ys))))) (slice-shared R κ q r 𝓤 H A W n ys room e) $ await t z $
+      pick t (λ p. split t $ move t (1 ∷ []) $ split t $ k p)
+
+  pub comes-unshared : K → Soaks G → (R : RattleType) (κ : Lft) (q : Share) (r : RefT (List (R .Denot))) (n : ℕ) (p : ℕ × GName) (ys : List (R .Denot)) → Room R n → length ys ≡ n
+      → Step K W (‵ (Slice R κ q r n ys) ∷ Γ) G (‵ (flft (p .0 ∷ []) fullShare) ∷ ‵ (KeptShared R κ q r n p ys) ∷ Γ) G
+  comes-unshared t z R κ q r n p ys room e = step (λ s. use2 W (later (‵ (Slice R κ q r n ys))) (slice-unshared R κ q r 𝓤 H A W n p ys room e) $ await t z $ s)

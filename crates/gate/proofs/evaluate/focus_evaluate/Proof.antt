@@ -44,7 +44,7 @@ use Rattle.records.specs.Records.{entriesOf}
 use Rattle.records.specs.declared.Entry.{Entry}
 use Rattle.records.proofs.Entry as T
 use Rattle.records.proofs.Local.{ref, Token, zeros-typed}
-use Rattle.records.proofs.Locals.{array, slice, Loans, Lists, Long, noughts-long, tokens, lent, shared, entryColumns, entry-rooms, entry-room, three-lent, three-turned, three-ended}
+use Rattle.records.proofs.Locals.{array, slice, Loans, Lists, Long, noughts, noughts-long, tokens, lent, shared, entryColumns, entry-rooms, entry-room, three-lent, three-turned, three-ended}
 use Rattle.records.proofs.Returned.{is-unit}
 use Rattle.records.proofs.store_entries as store-rows
 use Rattle.records.proofs.store_entries.Symbol as store-def
@@ -155,7 +155,7 @@ module _ {M : Type 1} (𝓤 : URA M) (H : Heap 𝓤) (A : Atoms 𝓤) (W : Given
     to-evaluate p = ((evaluate-lfts p, (q₀, (q₁, (fullShare, (fullShare, (fullShare, (q₃, tt)))))), tt, evaluate-args p, (vint w64 (length (entries .now)) ∷ [], (v-claim ∷ [], (v-model ∷ [], (vptr l₅ 0 ∷ [], (vptr l₆ 0 ∷ [], (vptr l₇ 0 ∷ [], (v-words ∷ [], tt)))))))), tt)
 
     abbrev to-be-evaluated : Loans → List (Item 𝓤)
-    to-be-evaluated p = ‵ Own-claim ∷ ‵ Own-model ∷ lent (entryColumns l₅ l₆ l₇) 𝓤 array p ++ ‵ Own-words ∷ ‵ (flft κ₀ q₀) ∷ ‵ (flft κ₁ q₁) ∷ tokens (entryColumns l₅ l₆ l₇) 𝓤 p ++ ‵ (flft κ₃ q₃) ∷ []
+    to-be-evaluated p = ‵ Own-claim ∷ ‵ Own-model ∷ lent (entryColumns l₅ l₆ l₇) 𝓤 array p (noughts (entryColumns l₅ l₆ l₇)) ++ ‵ Own-words ∷ ‵ (flft κ₀ q₀) ∷ ‵ (flft κ₁ q₁) ∷ tokens (entryColumns l₅ l₆ l₇) 𝓤 p ++ ‵ (flft κ₃ q₃) ∷ []
 
     goes-evaluate : (p : Loans) → ent 𝓤 (⋆ 𝓤 H A (to-be-evaluated p)) (Evaluate 𝓤 H A mem run .pre (to-evaluate p))
     goes-evaluate p =
