@@ -52,10 +52,10 @@ module _ (claim proof : List ℕ) (bc : Bytes claim) (bp : Bytes proof) {ks xs y
   formed : reader.WellFormed claim proof (g .files)
   formed = files-exactly claim proof bc bp .given (g .files) (g .was)
 
-  same-proof : proofAt proof ≡ g .files .beside
+  pub same-proof : proofAt proof ≡ g .files .beside
   same-proof = ap (λ (p : Proof). record { nodes = p }) (sym (good-decoded (g .files .claim) proof (proof-good (formed .beside-formed)) .same))
 
-  same-entries : g .files .claim .entries ≡ tableOf ks xs ys n
+  pub same-entries : g .files .claim .entries ≡ tableOf ks xs ys n
   same-entries = ap (λ (c : Claim). c .entries) (sym (g .held .same))
 
   pub readable : Readable ks xs ys n ms k proof m

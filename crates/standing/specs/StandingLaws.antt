@@ -39,7 +39,7 @@ module _ {A B : Type 0} (f : A → B) where
   first-shown l new old n e many = map-take n l ∙ ap (take n) e ∙ take-at new (drop (length new) old) n (sym many)
 
 -- what is written is no shorter than what was there
-no-shorter : {A : Type 0} (new old : List A) → length old ≤ length (written new old)
+pub no-shorter : {A : Type 0} (new old : List A) → length old ≤ length (written new old)
 no-shorter new old = omega (arith, length-append new (drop (length new) old), length-drop (length new) old)
 
 records-length : (p : Proof) → length (nodeRecords p) ≡ length p

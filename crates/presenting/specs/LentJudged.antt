@@ -1,0 +1,117 @@
+-- the files behind what stands before them, judged as they stand in the lent slices
+use mathlib.Core.Path.{_≡_, refl, sym, ap, _∙_}
+use mathlib.Core.List.{List}
+use Prim.Native.Nat.{ℕ, _*_, _≤_}
+use native.Mathlib.Omega.{arith}
+use lib.ListN.{length}
+use Rattle.verdict.specs.Verdict as verdicts
+use Rattle.verdict.specs.Verdict.{Verdict, accepted}
+use Rattle.verdict.specs.Lists.{written}
+use Rattle.verdict.specs.Shown.{shown}
+use Rattle.encoding.specs.Encode.{Bytes}
+use Rattle.encoding.specs.File.{Reading, refused, good}
+use Rattle.formula.specs.Table.{Table}
+use Rattle.formula.specs.Claim.{Claim, Derivation}
+use Rattle.formula.specs.Plain.{tableOf, tableOf-length}
+use Rattle.formula.specs.Held.{heldClaim}
+use Rattle.calculus.specs.Judge.{judge}
+use Rattle.records.specs.Records.{shownEntry, shownEntries, firstEntries, entriesOf, EntryRoom, EntriesLoaded}
+use Rattle.records.specs.Shown.{map-written, entries-shown, loaded-table}
+use Rattle.records.specs.declared.Entry.{Entry}
+use Rattle.records.specs.declared.Node.{Node}
+use Rattle.reader.specs.Files.{Files, firstly, files}
+use Rattle.reader.specs.Found.{FilesGot, Unread, Tells}
+use Rattle.reader.specs.declared.Found.{Found}
+use Rattle.laid.specs.Readable.{Readable, proofAt, count, same-proof, same-entries, readable, readable-judged}
+use Rattle.standing.specs.Standing.{RoomFor, JudgedStored}
+use Rattle.standing.specs.StandingLaws.{first-shown, no-shorter}
+use Rattle.demands.specs.Slices.{decodedInto}
+use Rattle.demands.specs.Present.{presentedBy}
+use Rattle.presenting.specs.LentSlices.{lentOf}
+
+-- what is answered, and what is left in the slices: as presenting is defined, whatever the tag
+pub record LentJudged (x : Reading (Files Derivation)) (es : List Entry) (vs : List Node) (cs : List ℕ) (v : Verdict) (es′ : List Entry) (vs′ : List Node) (cs′ : List ℕ) : Type 0 where
+  pub answer : (tag : ℕ) → v ≡ presentedBy x tag (lentOf es vs cs) .answer
+  pub lent : (tag : ℕ) → lentOf es′ vs′ cs′ ≡ presentedBy x tag (lentOf es vs cs) .lent
+
+-- the slices that "slices long enough" asks for
+pub record AllLong (es : List Entry) (vs : List Node) (cs : List ℕ) : Type 0 where
+  pub entries : 256 ≤ length es
+  pub nodes : 1024 ≤ length vs
+  pub codes : 24576 ≤ length cs
+
+module _ (claim proof : List ℕ) (bc : Bytes claim) (bp : Bytes proof) (ks xs ys ms : List ℕ) (f : Found) where
+  abbrev Got : Type 0
+  Got = FilesGot (files claim proof) ks xs ys ms (f .entries) (f .listed) (f .nodes)
+
+  -- a node was found: nothing was refused, neither before the files nor in them
+  passed : (x : Reading (Files Derivation)) → files claim proof ≡ x → Tells x ks xs ys ms f → (f .nodes ≡ 0 → ⊥) → Got
+  passed (refused n q) e u some = absurd (some (u .nodes))
+  passed (good fs) e g some = record { files = g .files; was = e ∙ g .was; held = g .held; nodes = g .nodes }
+
+  pub nothing-refused : (before : Verdict) → Tells (firstly before (files claim proof)) ks xs ys ms f → (f .nodes ≡ 0 → ⊥) → (before ≡ accepted) × Got
+  nothing-refused accepted told some = (refl, passed (files claim proof) refl told some)
+  nothing-refused (verdicts.refused n q) u some = absurd (some (u .nodes))
+
+  module _ (es : List Entry) (vs : List Node) (cs : List ℕ) (none : f .nodes ≡ 0) where
+    -- no node was found: the files were refused, since a proof that is read has one
+    unread : (x : Reading (Files Derivation)) → files claim proof ≡ x → Tells x ks xs ys ms f → LentJudged x es vs cs (shown (f .verdict)) es vs cs
+    unread (refused n q) e u = record { answer = λ tag. u .verdict; lent = λ tag. refl }
+    unread (good fs) e g = absurd (omega (arith, none, count (readable claim proof bc bp (record { files = g .files; was = e ∙ g .was; held = g .held; nodes = g .nodes })) .0))
+
+    -- a refusal leaves the slices as they were
+    pub refusal-stands : (before : Verdict) → Tells (firstly before (files claim proof)) ks xs ys ms f → LentJudged (firstly before (files claim proof)) es vs cs (shown (f .verdict)) es vs cs
+    refusal-stands accepted told = unread (files claim proof) refl told
+    refusal-stands (verdicts.refused n q) u = record { answer = λ tag. u .verdict; lent = λ tag. refl }
+
+-- both files are read: their entries are stored, loaded from where they stand, and judged with the nodes
+module _ (claim proof : List ℕ) (bc : Bytes claim) (bp : Bytes proof) {ks xs ys ms : List ℕ} {n k m : ℕ} (g : FilesGot (files claim proof) ks xs ys ms n k m)
+    {es : List Entry} {vs : List Node} {cs : List ℕ} (long : AllLong es vs cs) where
+  r : Readable ks xs ys n ms k proof m
+  r = readable claim proof bc bp g
+
+  entry-room : EntryRoom ks xs ys n
+  entry-room = (g .held .kinds, g .held .a-fields, g .held .b-fields)
+
+  pub may-store : EntryRoom ks xs ys n × (n ≤ length es)
+  may-store = (entry-room, omega (arith, g .held .entries, long .entries))
+
+  module _ {es′ : List Entry} (e : es′ ≡ written (entriesOf ks xs ys n) es) where
+    table-stored : shownEntries es′ ≡ written (tableOf ks xs ys n) (shownEntries es)
+    table-stored = ap shownEntries e ∙ map-written shownEntry (entriesOf ks xs ys n) es ∙ ap (λ (t : Table). written t (shownEntries es)) (entries-shown ks xs ys n)
+
+    there : n ≤ length es′
+    there = omega (arith, ap length e, may-store .1, entries-kept)
+      where
+        entries-kept : length es ≤ length (written (entriesOf ks xs ys n) es)
+        entries-kept = no-shorter (entriesOf ks xs ys n) es
+
+    pub may-load : EntryRoom ks xs ys n × (n ≤ length es′)
+    may-load = (entry-room, there)
+
+    module _ {ks′ xs′ ys′ : List ℕ} (loaded : EntriesLoaded es′ n ks xs ys ks′ xs′ ys′) where
+      table-same : tableOf ks′ xs′ ys′ n ≡ tableOf ks xs ys n
+      table-same =
+          loaded-table es′ n there loaded
+          ∙ first-shown shownEntry es′ (tableOf ks xs ys n) (shownEntries es) n table-stored (sym (tableOf-length ks xs ys n))
+
+      claim-same : heldClaim ks′ xs′ ys′ n ms k ≡ heldClaim ks xs ys n ms k
+      claim-same = ap (λ (t : Table). record { entries = t; members = heldClaim ks xs ys n ms k .members }) table-same
+
+      pub may-judge : Readable ks′ xs′ ys′ n ms k proof m × RoomFor 1024 m vs cs
+      may-judge = (
+        record { entries = r .entries; members = r .members; well = rw table-same (r .well); decodes = r .decodes; file = rw claim-same (r .file); nodes = r .nodes },
+        record { rows = count r .1; nodes = omega (arith, count r .1, long .nodes); codes = omega (arith, count r .1, long .codes) },
+      )
+
+      module _ {before : Verdict} (first : before ≡ accepted) {v : Verdict} {vs′ : List Node} {cs′ : List ℕ} (judged : JudgedStored (heldClaim ks′ xs′ ys′ n ms k) (proofAt proof) vs cs v vs′ cs′) where
+        verdict-is : v ≡ judge (g .files .claim) (g .files .beside)
+        verdict-is = judged .verdict ∙ ap (λ (c : Claim). judge c (proofAt proof)) claim-same ∙ sym (readable-judged claim proof bc bp g)
+
+        lent-is : lentOf es′ vs′ cs′ ≡ decodedInto (g .files) (lentOf es vs cs)
+        lent-is =
+            let nodes-are = same-proof claim proof bc bp g in
+            rw (table-stored, sym (same-entries claim proof bc bp g), judged .stored .nodes, judged .stored .codes, sym nodes-are) refl
+
+        pub lent-judged : LentJudged (firstly before (files claim proof)) es vs cs v es′ vs′ cs′
+        lent-judged = rw (first, g .was) (record { answer = λ tag. verdict-is; lent = λ tag. lent-is })
