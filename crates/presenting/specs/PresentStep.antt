@@ -60,7 +60,7 @@ module _ (s : State) (tag : ℕ) (claim proof : List ℕ) (es : List Entry) (vs 
 
   -- nothing stands before the files: the slices are long enough
   long-by : (b : Bool) → few ≡ b → pick b (verdicts.refused 1 0) accepted ≡ accepted → AllLong es vs cs
-  long-by true h e = absurd (accepted-not-refused (sym e))
+  long-by true h e = absurd (accepted-not-refused e)
   long-by false h e =
       let (a, bc) = both-false (ltb (length es) 256) (ltb (length vs) 1024 || ltb (length cs) 24576) h in
       let (b, c) = both-false (ltb (length vs) 1024) (ltb (length cs) 24576) bc in
@@ -68,9 +68,9 @@ module _ (s : State) (tag : ℕ) (claim proof : List ℕ) (es : List Entry) (vs 
 
   pub all-long : (g : Gate) → firstOf g ≡ accepted → AllLong es vs cs
   unfolding standsBefore
-  all-long closed e = absurd (accepted-not-refused (sym e))
+  all-long closed e = absurd (accepted-not-refused e)
   all-long opened e = long-by few refl e
-  all-long (holding old) e = absurd (accepted-not-refused (sym e))
+  all-long (holding old) e = absurd (accepted-not-refused e)
 
   -- what the files behind it leave is what presenting leaves
   record Left (x : Presented) (r : Reading (Files Derivation)) : Type 0 where
