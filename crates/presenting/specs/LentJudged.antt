@@ -34,6 +34,12 @@ pub record LentJudged (x : Reading (Files Derivation)) (es : List Entry) (vs : L
   pub answer : (tag : ℕ) → v ≡ presentedBy x tag (lentOf es vs cs) .answer
   pub lent : (tag : ℕ) → lentOf es′ vs′ cs′ ≡ presentedBy x tag (lentOf es vs cs) .lent
 
+-- the same of two lent files behind what stands before them, and that a lent slice of bytes holds bytes
+pub record LentTold (before : Verdict) (claim proof : List ℕ) (es : List Entry) (vs : List Node) (cs : List ℕ) (v : Verdict) (es′ : List Entry) (vs′ : List Node) (cs′ : List ℕ) : Type 0 where
+  pub judged : LentJudged (firstly before (files claim proof)) es vs cs v es′ vs′ cs′
+  pub claim-bytes : Bytes claim
+  pub proof-bytes : Bytes proof
+
 -- the slices that "slices long enough" asks for
 pub record AllLong (es : List Entry) (vs : List Node) (cs : List ℕ) : Type 0 where
   pub entries : 256 ≤ length es

@@ -3,8 +3,7 @@
 ghost use mathlib.Core.Path.{_≡_};
 ghost use Rattle.verdict.specs.Verdict.{accepted};
 ghost use Rattle.verdict.specs.Shown.{shown};
-ghost use Rattle.reader.specs.Files.{firstly, files};
-ghost use Rattle.presenting.specs.LentJudged.{AllLong, LentJudged};
+ghost use Rattle.presenting.specs.LentJudged.{AllLong, LentTold};
 ghost use Rattle.presenting.specs.PresentCall.{PresentCall};
 use permit::State;
 use permit::numbered::Numbered;
@@ -29,8 +28,8 @@ fn judge_lent(
     codes: &mut [u16],
 ) -> Verdict
     requires { ⌜ (shown before ≡ accepted → AllLong (now entries) (now nodes) (now codes)) ⌝ }
-    ensures { λ r. ⌜ LentJudged (firstly (shown before) (files (now (claim .entry)) (now (proof .entry)))) (now (entries .entry)) (now (nodes .entry))
-        (now (codes .entry)) (shown r) (now (entries .exit)) (now (nodes .exit)) (now (codes .exit)) ⌝ }
+    ensures { λ r. ⌜ LentTold (shown before) (now (claim .entry)) (now (proof .entry)) (now (entries .entry)) (now (nodes .entry)) (now (codes .entry))
+        (shown r) (now (entries .exit)) (now (nodes .exit)) (now (codes .exit)) ⌝ }
 {
     let mut kinds = [0u8; 256];
     let mut a = [0u16; 256];
