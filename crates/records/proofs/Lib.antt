@@ -8,7 +8,7 @@ pub mod Returned
 pub mod Literal
 mod At
 mod Put
-mod Count
+pub mod Count
 mod Store
 mod Between
 mod Load
