@@ -1,1 +1,2 @@
+mod Terms
 mod Stored

@@ -1,7 +1,6 @@
 -- A proof's nodes stored, loaded and judged in columns of any size: one walk of the MIR of `judge_few` and `judge_many`, which cite it.
 --     Size             the rows of the three columns, and that they are enough for as many nodes as the first has rows
---     function         the MIR.        clauses      requires `Readable` and `RoomFor`;  ensures `JudgedStored`
---     meets            the MIR meets the clauses. The columns are locals (`records`' `Locals.antt`): they are lent to `decode_proof`, with the lent codes, shared with `store_nodes`, to which the lent nodes go, lent to `load_nodes`, with which the nodes are shared, and shared with the judge, as the codes are (`Slice.antt`)
+--     function         the MIR.        meets        it meets `Terms.antt`'s clauses. The columns are locals (`records`' `Locals.antt`): they are lent to `decode_proof`, with the lent codes, shared with `store_nodes`, to which the lent nodes go, lent to `load_nodes`, with which the nodes are shared, and shared with the judge, as the codes are (`Slice.antt`)
 -- All that the walk knows of the four is that each meets its contract; why each may be called is said in `StandingLaws.antt`.
 use mathlib.Core.Path.{_≡_, refl}
 use Prim.Native.Nat.{ℕ, _+_, _*_, _≤_, _<_, _^_}
@@ -31,10 +30,10 @@ use denote.Memory.{pointee}
 use denote.Laws.{Is, shows}
 use denote.Plain.{Nothing, uint-vals, uint-tells, uint-makes, uint-lawful}
 use denote.Array.{Array}
-use denote.Builtin.{u8, u16, usize, ArrayOf}
-use denote.Ref.{RefT, ShrRef, ptr-vals, shr-tells, shr-copy}
-use denote.Slice.{sliceTy, sliceVal, MutSlice, ShrSlice, Room, slice-vals, mut-slice-tells, shr-slice-tells, shr-slice-copy}
-use denote.Signature.{plain, mutSliceOf, shrSliceOf, shrRefTo}
+use denote.Builtin.{u8, u16, usize}
+use denote.Ref.{RefT, ShrRef, ptr-vals, shr-tells}
+use denote.Slice.{sliceTy, sliceVal, MutSlice, ShrSlice, Room, slice-vals, mut-slice-tells, shr-slice-tells}
+use denote.Signature.{plain}
 use denote.Steps.{owned, peeks, heard, nothing}
 use denote.Struct.Declared.{shape}
 use denote.Struct.Struct.{layout}
@@ -43,8 +42,8 @@ use denote.Triple.Statement.{Contract, Triple}
 use denote.Triple.Call.{calls-at}
 use denote.Triple.Entry.{onEntry}
 use denote.Triple.Spec.{Meets, tripleOf}
-use denote.Triple.Clauses.{Ended, Clauses, closing, ensured, lasts}
-use denote.Triple.Walked.{says, needs, Stays, stay-slice, stay-none, stay-none-ref, stay-none-slice, walkOf, goes-slice, goes-none, goes-none-ref, goes-none-slice, ends-at, walked, walk-meets}
+use denote.Triple.Clauses.{closing, ensured, lasts}
+use denote.Triple.Walked.{says, needs, Stay, Stays, stay-slice, walkOf, goes-slice, ends-at, walked, walk-meets}
 use denote.Exit.{yes}
 use Rattle.verdict.specs.Lists.{written}
 use Rattle.verdict.specs.Shown.{shown}
@@ -58,7 +57,6 @@ use Rattle.nodes.specs.ProofStored.{NodesStored}
 use Rattle.calculus.specs.Judge.{judge as judged}
 use Rattle.rules.specs.JudgeStages.{Laid}
 use Rattle.sequents.specs.Placed.{Members}
-use Rattle.laid.specs.Readable.{Readable, proofAt}
 use Rattle.records.specs.Records.{nodesOf, firstNodes, total, NodeRoom, CountsFit, NodesLoaded}
 use Rattle.records.specs.declared.Node.{Node}
 use Rattle.records.proofs.Node as T
@@ -77,7 +75,7 @@ use Rattle.records.proofs.load_nodes as load
 use Rattle.records.proofs.load_nodes.Symbol.{name as #load}
 use Rattle.rules.proofs.judge.judge as judge
 use Rattle.rules.proofs.judge.judge.Symbol.{name as #judge}
-use Rattle.standing.specs.Standing.{RoomFor, JudgedStored}
+use Rattle.standing.proofs.Terms.{nodes-slot, codes-slot, ended, stays, all-go, Asked, Told, clauses}
 use Rattle.standing.specs.StandingLaws.{may-decode, may-store, may-load, may-judge, judged-stored}
 
 -- the rows of the columns of rules, links and starts. MIR writes a constant above 1023 in another way (`records`' `Literal.antt`)
@@ -149,49 +147,15 @@ module _ (s : Size) where
   abbrev pub function : Fn
   function = record { lifetimes = 7; outlives = []; params = 10; locals = locals; body = body }
 
--- ---- the contract
-abbrev pub ended : Ended
-ended = record {
-  signature = record {
-    lifetimes = 7;
-    outlives = [];
-    params = shrSliceOf (0 ∷ []) tt (plain (λ _. u8)) ∷ shrRefTo (1 ∷ []) tt (ArrayOf (plain (λ _. u8)) (λ _. tt) 256) ∷ shrRefTo (2 ∷ []) tt (ArrayOf (plain (λ _. u16)) (λ _. tt) 256) ∷ shrRefTo (3 ∷ []) tt (ArrayOf (plain (λ _. u16)) (λ _. tt) 256)
-        ∷ plain (λ _. usize) ∷ shrRefTo (4 ∷ []) tt (ArrayOf (plain (λ _. u16)) (λ _. tt) 24) ∷ plain (λ _. usize) ∷ plain (λ _. usize) ∷ mutSliceOf (5 ∷ []) tt (plain (λ _. T.the-row)) ∷ mutSliceOf (6 ∷ []) tt (plain (λ _. u16)) ∷ [];
-    result = plain (λ _. Ver.the-row);
-  };
-  kept = (yes, (yes, (yes, (yes, (yes, (yes, (yes, (yes, (yes, (yes, tt))))))))));
-}
+-- what is had of the two `&mut` at exit: each is still owned
+abbrev nodes-stay : Stay nodes-slot yes
+nodes-stay = stay-slice (5 ∷ []) tt (plain (λ _. T.the-row))
+
+abbrev codes-stay : Stay codes-slot yes
+codes-stay = stay-slice (6 ∷ []) tt (plain (λ _. u16))
 
 abbrev stayed : Stays (ended .signature .params) (ended .kept)
-stayed = (
-  stay-none-slice (0 ∷ []) tt (plain (λ _. u8)) yes,
-  (
-    stay-none-ref (1 ∷ []) tt (ArrayOf (plain (λ _. u8)) (λ _. tt) 256) yes,
-    (
-      stay-none-ref (2 ∷ []) tt (ArrayOf (plain (λ _. u16)) (λ _. tt) 256) yes,
-      (
-        stay-none-ref (3 ∷ []) tt (ArrayOf (plain (λ _. u16)) (λ _. tt) 256) yes,
-        (stay-none (λ _. usize) yes, (stay-none-ref (4 ∷ []) tt (ArrayOf (plain (λ _. u16)) (λ _. tt) 24) yes, (stay-none (λ _. usize) yes, (stay-none (λ _. usize) yes, (stay-slice (5 ∷ []) tt (plain (λ _. T.the-row)), (stay-slice (6 ∷ []) tt (plain (λ _. u16)), tt)))))),
-      ),
-    ),
-  ),
-)
-
--- what is asked and told of arrays, numbers and lists: all that the walk cites of the definitions
-module _ (ks xs ys : List ℕ) (entries : ℕ) (ms : List ℕ) (listed : ℕ) (file : List ℕ) (count : ℕ) (vs : List Node) (cs : List ℕ) where
-  abbrev pub Asked : ℕ → Type 0
-  Asked n = Readable ks xs ys entries ms listed file count × RoomFor n count vs cs
-
-  abbrev pub Told : Verdict → List Node → List ℕ → Type 0
-  Told j vs′ cs′ = JudgedStored (heldClaim ks xs ys entries ms listed) (proofAt file) vs cs (shown j) vs′ cs′
-
-module _ (n : ℕ) {M : Type 1} (𝓤 : URA M) where
-  abbrev pub clauses : Clauses 𝓤 ended
-  clauses κs a = record {
-    ghost = Unit {0};
-    requires = λ _. fact 𝓤 (Asked (a .1 .0 .now) (a .1 .1 .0 .now) (a .1 .1 .1 .0 .now) (a .1 .1 .1 .1 .0) (a .1 .1 .1 .1 .1 .0 .now) (a .1 .1 .1 .1 .1 .1 .0) (a .0 .now) (a .1 .1 .1 .1 .1 .1 .1 .0) (a .1 .1 .1 .1 .1 .1 .1 .1 .0 .now) (a .1 .1 .1 .1 .1 .1 .1 .1 .1 .0 .now) n);
-    ensures = λ _ r end. fact 𝓤 (Told (a .1 .0 .now) (a .1 .1 .0 .now) (a .1 .1 .1 .0 .now) (a .1 .1 .1 .1 .0) (a .1 .1 .1 .1 .1 .0 .now) (a .1 .1 .1 .1 .1 .1 .0) (a .0 .now) (a .1 .1 .1 .1 .1 .1 .1 .0) (a .1 .1 .1 .1 .1 .1 .1 .1 .0 .now) (a .1 .1 .1 .1 .1 .1 .1 .1 .1 .0 .now) r (end .1 .1 .1 .1 .1 .1 .1 .1 .0 .now) (end .1 .1 .1 .1 .1 .1 .1 .1 .1 .0 .now));
-  }
+stayed = stays nodes-stay codes-stay
 
 module _ {M : Type 1} (𝓤 : URA M) (H : Heap 𝓤) (A : Atoms 𝓤) (mem : Memory → SProp 𝓤) (run : Routine → Fun 𝓤) where
   -- the contracts of the four callees
@@ -243,8 +207,7 @@ module _ (s : Size) {M : Type 1} (𝓤 : URA M) (H : Heap 𝓤) (A : Atoms 𝓤)
   Own-members = ShrRef (named 4) κ₄ (Array u16 24) .own members (ptr-vals members)
 
   abbrev left : Verdict → Val → List Node → List ℕ → List (Item 𝓤)
-  left r v zs cs = ‵ Own-proof ∷ ‵ Own-kinds ∷ ‵ Own-a ∷ ‵ Own-b ∷ ‵ Own-members
-      ∷ ‵ (MutSlice (named 5) κ₅ T.the-row .own (renamed nodes (nodes .name) zs) (slice-vals nodes)) ∷ ‵ (MutSlice (named 6) κ₆ u16 .own (renamed codes (codes .name) cs) (slice-vals codes))
+  left r v zs cs = ‵ (MutSlice (named 5) κ₅ T.the-row .own (renamed nodes (nodes .name) zs) (slice-vals nodes)) ∷ ‵ (MutSlice (named 6) κ₆ u16 .own (renamed codes (codes .name) cs) (slice-vals codes))
       ∷ ‵ (flft κ₀ q₀) ∷ ‵ (flft κ₁ q₁) ∷ ‵ (flft κ₂ q₂) ∷ ‵ (flft κ₃ q₃) ∷ ‵ (flft κ₄ q₄) ∷ ‵ (flft κ₅ q₅) ∷ ‵ (flft κ₆ q₆) ∷ ‵ (Ver.the-row .own r (v ∷ [])) ∷ []
 
   exits : (r : Verdict) (v : Val) (zs : List Node) (cs : List ℕ) → length zs ≡ length (nodes .now) → length cs ≡ length (codes .now)
@@ -252,8 +215,8 @@ module _ (s : Size) {M : Type 1} (𝓤 : URA M) (H : Heap 𝓤) (A : Atoms 𝓤)
   exits r v zs cs len-nodes len-codes e =
       qed W (left r v zs cs) ∵
       suffices ! _ (ends-at 𝓤 H A ended stayed (clauses (s .rows) 𝓤) W bound v r (tt, (tt, (tt, (tt, (tt, (tt, (tt, (tt, (zs, (cs, tt)))))))))) (tt, (tt, (tt, (tt, (tt, (tt, (tt, (tt, (len-nodes, (len-codes, tt))))))))))) $ says ! e $
-      nothing ! $ move ! (14 ∷ 0 ∷ []) $ join ! $ move ! (13 ∷ 0 ∷ []) $ join ! $ move ! (12 ∷ 0 ∷ []) $ join ! $ move ! (11 ∷ 0 ∷ []) $ join ! $ move ! (10 ∷ 0 ∷ []) $ join ! $ move ! (9 ∷ 0 ∷ []) $ join ! $ move ! (8 ∷ 0 ∷ []) $ join ! $ frame ! $
-      nothing ! $ move ! (7 ∷ 0 ∷ []) $ fjoin ! $ move ! (6 ∷ 0 ∷ []) $ fjoin ! $ owned ! usize (Is usize) (uint-makes 𝓤 H A W w64) count _ (refl, g-count) $ fjoin ! $ owned ! usize (Is usize) (uint-makes 𝓤 H A W w64) listed _ (refl, g-listed) $ fjoin ! $ move ! (5 ∷ 0 ∷ []) $ fjoin ! $ owned ! usize (Is usize) (uint-makes 𝓤 H A W w64) entries _ (refl, g-entries) $ fjoin ! $ move ! (4 ∷ 0 ∷ []) $ fjoin ! $ move ! (3 ∷ 0 ∷ []) $ fjoin ! $ move ! (2 ∷ 0 ∷ []) $ fjoin ! $ move ! (1 ∷ 0 ∷ []) $ fjoin ! $ frame ! $ done !
+      nothing ! $ move ! (9 ∷ 0 ∷ []) $ join ! $ move ! (8 ∷ 0 ∷ []) $ join ! $ move ! (7 ∷ 0 ∷ []) $ join ! $ move ! (6 ∷ 0 ∷ []) $ join ! $ move ! (5 ∷ 0 ∷ []) $ join ! $ move ! (4 ∷ 0 ∷ []) $ join ! $ move ! (3 ∷ 0 ∷ []) $ join ! $ frame ! $
+      nothing ! $ move ! (2 ∷ 0 ∷ []) $ fjoin ! $ move ! (1 ∷ 0 ∷ []) $ fjoin ! $ nothing ! $ fjoin ! $ nothing ! $ fjoin ! $ nothing ! $ fjoin ! $ nothing ! $ fjoin ! $ nothing ! $ fjoin ! $ nothing ! $ fjoin ! $ nothing ! $ fjoin ! $ nothing ! $ fjoin ! $ frame ! $ done !
 
   -- the columns are long enough
   first : Columns count (replicate (s .rows) 0) (replicate (s .links) 0) (replicate (s .starts) 0) (codes .now)
@@ -401,93 +364,76 @@ module _ (s : Size) {M : Type 1} (𝓤 : URA M) (H : Heap 𝓤) (A : Atoms 𝓤)
         -- the columns and the codes are lent: `decode_proof(proof, &mut rules, &mut links, &mut starts, codes)`
         move ! (72 ∷ 70 ∷ 68 ∷ []) $ three-lent (columnsOf (s .rows) (s .links) (s .starts) l₁₁ l₁₂ l₁₃) slice ! tt (s .rooms) (λ p.
         move ! (102 ∷ []) $ goes-out ! tt u16 κ₆ q₆ codes (length (codes .now)) (codes .now) refl (λ c.
-        move ! (106 ∷ []) $ use1 W (‵ Own-proof ⊛ ‵ Own-proof) (shr-slice-copy 𝓤 H A W (named 0) κ₀ u8 .twice proof (slice-vals proof)) $ split ! $
-        move ! (0 ∷ 8 ∷ 9 ∷ 10 ∷ 2 ∷ 112 ∷ 5 ∷ 6 ∷ 7 ∷ 4 ∷ []) $ cut (decode-passed l₁₁ l₁₂ l₁₃ p c) (raw (Decode 𝓤 H A mem run .pre (to-decode l₁₁ l₁₂ l₁₃ p c)) ∷ []) _ (goes-decode l₁₁ l₁₂ l₁₃ p c (may-decode (asked .0) first)) $
-        calls-at ! (fmOf 𝓤 H (W .laws) 𝓣) (Decode 𝓤 H A mem run) known-decode (to-decode l₁₁ l₁₂ l₁₃ p c) (and-then ! (reads ! (from ! (stop !)) (look ! 95 refl)) (and-then ! (reads ! (from ! (stop !)) (look ! 68 refl)) (and-then ! (reads ! (from ! (stop !)) (look ! 64 refl)) (and-then ! (reads ! (from ! (stop !)) (look ! 60 refl)) (and-then ! (reads ! (from ! (stop !)) (look ! 56 refl)) (no-more !)))))) (λ v₁.
+        move ! (106 ∷ 6 ∷ 7 ∷ 8 ∷ 0 ∷ 111 ∷ 3 ∷ 4 ∷ 5 ∷ 2 ∷ []) $ cut (decode-passed l₁₁ l₁₂ l₁₃ p c) (raw (Decode 𝓤 H A mem run .pre (to-decode l₁₁ l₁₂ l₁₃ p c)) ∷ []) _ (goes-decode l₁₁ l₁₂ l₁₃ p c (may-decode (asked .0) first)) $
+        calls-at ! (fmOf 𝓤 H (W .laws) 𝓣) (Decode 𝓤 H A mem run) known-decode (to-decode l₁₁ l₁₂ l₁₃ p c) (and-then ! (reads ! (from ! (stop !)) (look ! 94 refl)) (and-then ! (reads ! (from ! (stop !)) (look ! 67 refl)) (and-then ! (reads ! (from ! (stop !)) (look ! 63 refl)) (and-then ! (reads ! (from ! (stop !)) (look ! 59 refl)) (and-then ! (reads ! (from ! (stop !)) (look ! 55 refl)) (no-more !)))))) (λ v₁.
         use1 W (later (some (λ (many : ℕ). ((‵ (flft κ₀ q₀) ⊛ (‵ (Token w8 (s .rows) l₁₁ (p .0)) ⊛ (‵ (Token w16 (s .links) l₁₂ (p .1 .0)) ⊛ (‵ (Token w16 (s .starts) l₁₃ (p .1 .1)) ⊛ (‵ (flft (c .0 ∷ []) fullShare) ⊛ ‵ ftrue))))) ⊛ ‵ (usize .own many (v₁ ∷ []))) ⊛ raw (ensured 𝓤 H A decode.ended (decode.clauses 𝓤 H A mem run) (decode-lfts l₁₁ l₁₂ l₁₃ p c) (decode-args l₁₁ l₁₂ l₁₃ p c) tt many)))) (id⊢ 𝓤 _) $ await ! tt $ pick ! (λ many.
         split ! $ move ! (1 ∷ []) $ use1 W (some (λ (ws : Decoded). ‵ (lasts decode.ended (decode-lfts l₁₁ l₁₂ l₁₃ p c) (decode-args l₁₁ l₁₂ l₁₃ p c) ws) ⊛ (raw (fact 𝓤 (many ≡ length (proofIn (proof .now)))) ⊛ raw (fact 𝓤 (Filled ws))))) (id⊢ 𝓤 _) $ pick ! (λ ws.
         split ! $ move ! (1 ∷ []) $ split ! $ drop ! $ heard ! (Filled ws) (λ filled.
         fsplit ! $ move ! (1 ∷ []) $ fsplit ! $ move ! (1 ∷ []) $ fsplit ! $ move ! (1 ∷ []) $ fsplit ! $ move ! (1 ∷ []) $ fsplit ! $ move ! (1 ∷ []) $ drop ! $ move ! (4 ∷ []) $ drop ! $ move ! (3 ∷ []) $ fsplit ! $ move ! (1 ∷ []) $ drop ! $ move ! (3 ∷ []) $ fsplit ! $ move ! (1 ∷ []) $ drop ! $ move ! (3 ∷ []) $ fsplit ! $ move ! (1 ∷ []) $ drop ! $ move ! (3 ∷ []) $ fsplit ! $ move ! (1 ∷ []) $ feqL ! (λ len-codes.
         move ! (4 ∷ []) $ split ! $ split ! $ move ! (1 ∷ []) $ split ! $ move ! (1 ∷ []) $ split ! $ move ! (1 ∷ []) $ split ! $ move ! (1 ∷ []) $ split ! $ move ! (1 ∷ []) $ drop ! $ move ! (5 ∷ []) $ peeks ! usize (Is usize) (shows 𝓤 H A usize) many (v₁ ∷ []) (λ is-many.
-        drop ! $ land ! (from ! (stop !)) (init ! 80 refl (uint-lawful 𝓤 H A W w64 .typed many _ is-many .0)) $
+        drop ! $ land ! (from ! (stop !)) (init ! 79 refl (uint-lawful 𝓤 H A W w64 .typed many _ is-many .0)) $
         -- the codes come back, and the columns, which are shared: `store_nodes(nodes, &rules, &links, &starts, count)`
-        move ! (0 ∷ 10 ∷ 5 ∷ []) $ comes-in ! tt u16 κ₆ q₆ codes (length (codes .now)) c (codes .now) (codes-in ws) g-codes refl len-codes $
-        move ! (3 ∷ 2 ∷ 1 ∷ 9 ∷ 10 ∷ 11 ∷ 7 ∷ 6 ∷ 5 ∷ []) $ three-turned (columnsOf (s .rows) (s .links) (s .starts) l₁₁ l₁₂ l₁₃) slice slice ! tt (s .rooms) p (columns-in ws) (λ r _.
-        assigns ! (addr ! (from ! (fld ! refl (hop ! (look-in ! 85 (sub ! 0 refl (whole !))) (stop !))))) (from ! (stop !)) (init ! 58 refl (tt, tt)) $
-        assigns ! (agg ! (and-then ! (reads ! (from ! (stop !)) (look ! 58 refl)) (and-then ! (reads ! (from ! (fld ! refl (stop !))) (look-in ! 85 (sub ! 1 refl (whole !)))) (no-more !)))) (from ! (stop !)) (init ! 56 refl (tt, (tt, (record { fits = g-nodes .0 }, tt)))) $
-        assigns ! (addr ! (from ! (stop !))) (from ! (stop !)) (init ! 54 refl (tt, tt)) $ assigns ! (agg ! (and-then ! (reads ! (from ! (stop !)) (look ! 54 refl)) (and-then ! (sized ! (s .big) (s .rooms .0 .0)) (no-more !)))) (from ! (stop !)) (init ! 52 refl (tt, (tt, (record { fits = s .rooms .0 .0 }, tt)))) $
-        assigns ! (addr ! (from ! (stop !))) (from ! (stop !)) (init ! 50 refl (tt, tt)) $ assigns ! (agg ! (and-then ! (reads ! (from ! (stop !)) (look ! 50 refl)) (and-then ! (sized ! (s .big) (s .rooms .1 .0)) (no-more !)))) (from ! (stop !)) (init ! 48 refl (tt, (tt, (record { fits = s .rooms .1 .0 }, tt)))) $
-        assigns ! (addr ! (from ! (stop !))) (from ! (stop !)) (init ! 46 refl (tt, tt)) $ assigns ! (agg ! (and-then ! (reads ! (from ! (stop !)) (look ! 46 refl)) (and-then ! (sized ! (s .big) (s .rooms .2 .0)) (no-more !)))) (from ! (stop !)) (init ! 44 refl (tt, (tt, (record { fits = s .rooms .2 .0 }, tt)))) $
-        move ! (105 ∷ []) $ goes-out ! tt T.the-row κ₅ q₅ nodes (length (nodes .now)) (nodes .now) refl (λ m.
+        move ! (0 ∷ 9 ∷ 5 ∷ []) $ comes-in ! tt u16 κ₆ q₆ codes (length (codes .now)) c (codes .now) (codes-in ws) g-codes refl len-codes $
+        move ! (3 ∷ 2 ∷ 1 ∷ 8 ∷ 9 ∷ 10 ∷ 7 ∷ 6 ∷ 5 ∷ []) $ three-turned (columnsOf (s .rows) (s .links) (s .starts) l₁₁ l₁₂ l₁₃) slice slice ! tt (s .rooms) p (columns-in ws) (λ r _.
+        assigns ! (addr ! (from ! (fld ! refl (hop ! (look-in ! 84 (sub ! 0 refl (whole !))) (stop !))))) (from ! (stop !)) (init ! 57 refl (tt, tt)) $
+        assigns ! (agg ! (and-then ! (reads ! (from ! (stop !)) (look ! 57 refl)) (and-then ! (reads ! (from ! (fld ! refl (stop !))) (look-in ! 84 (sub ! 1 refl (whole !)))) (no-more !)))) (from ! (stop !)) (init ! 55 refl (tt, (tt, (record { fits = g-nodes .0 }, tt)))) $
+        assigns ! (addr ! (from ! (stop !))) (from ! (stop !)) (init ! 53 refl (tt, tt)) $ assigns ! (agg ! (and-then ! (reads ! (from ! (stop !)) (look ! 53 refl)) (and-then ! (sized ! (s .big) (s .rooms .0 .0)) (no-more !)))) (from ! (stop !)) (init ! 51 refl (tt, (tt, (record { fits = s .rooms .0 .0 }, tt)))) $
+        assigns ! (addr ! (from ! (stop !))) (from ! (stop !)) (init ! 49 refl (tt, tt)) $ assigns ! (agg ! (and-then ! (reads ! (from ! (stop !)) (look ! 49 refl)) (and-then ! (sized ! (s .big) (s .rooms .1 .0)) (no-more !)))) (from ! (stop !)) (init ! 47 refl (tt, (tt, (record { fits = s .rooms .1 .0 }, tt)))) $
+        assigns ! (addr ! (from ! (stop !))) (from ! (stop !)) (init ! 45 refl (tt, tt)) $ assigns ! (agg ! (and-then ! (reads ! (from ! (stop !)) (look ! 45 refl)) (and-then ! (sized ! (s .big) (s .rooms .2 .0)) (no-more !)))) (from ! (stop !)) (init ! 43 refl (tt, (tt, (record { fits = s .rooms .2 .0 }, tt)))) $
+        move ! (104 ∷ []) $ goes-out ! tt T.the-row κ₅ q₅ nodes (length (nodes .now)) (nodes .now) refl (λ m.
         move ! (0 ∷ 6 ∷ 7 ∷ 8 ∷ 2 ∷ 3 ∷ 4 ∷ 5 ∷ []) $ cut (store-passed l₁₁ l₁₂ l₁₃ r m (columns-in ws)) (raw (Store 𝓤 H A mem run .pre (to-store l₁₁ l₁₂ l₁₃ r m (columns-in ws))) ∷ []) _ (goes-store l₁₁ l₁₂ l₁₃ r m (columns-in ws) (may-store (asked .0) first filled (nodes .now) (asked .1 .nodes))) $
-        calls-at ! (fmOf 𝓤 H (W .laws) 𝓣) (Store 𝓤 H A mem run) known-store (to-store l₁₁ l₁₂ l₁₃ r m (columns-in ws)) (and-then ! (reads ! (from ! (stop !)) (look ! 52 refl)) (and-then ! (reads ! (from ! (stop !)) (look ! 48 refl)) (and-then ! (reads ! (from ! (stop !)) (look ! 44 refl)) (and-then ! (reads ! (from ! (stop !)) (look ! 40 refl)) (and-then ! (reads ! (from ! (stop !)) (look ! 83 refl)) (no-more !)))))) (λ v₂.
+        calls-at ! (fmOf 𝓤 H (W .laws) 𝓣) (Store 𝓤 H A mem run) known-store (to-store l₁₁ l₁₂ l₁₃ r m (columns-in ws)) (and-then ! (reads ! (from ! (stop !)) (look ! 51 refl)) (and-then ! (reads ! (from ! (stop !)) (look ! 47 refl)) (and-then ! (reads ! (from ! (stop !)) (look ! 43 refl)) (and-then ! (reads ! (from ! (stop !)) (look ! 39 refl)) (and-then ! (reads ! (from ! (stop !)) (look ! 82 refl)) (no-more !)))))) (λ v₂.
         use1 W (later (some (λ (u₂ : Unit {0}). ((‵ (flft (m .0 ∷ []) fullShare) ⊛ (‵ (Token w8 (s .rows) l₁₁ (r .0)) ⊛ (‵ (Token w16 (s .links) l₁₂ (r .1 .0)) ⊛ (‵ (Token w16 (s .starts) l₁₃ (r .1 .1)) ⊛ ‵ ftrue)))) ⊛ ‵ (Nothing .own u₂ (v₂ ∷ []))) ⊛ raw (ensured 𝓤 H A store.ended (store.clauses 𝓤 H A mem run) (store-lfts l₁₁ l₁₂ l₁₃ r m (columns-in ws)) (store-args l₁₁ l₁₂ l₁₃ r m (columns-in ws)) tt u₂)))) (id⊢ 𝓤 _) $ await ! tt $ pick ! (λ u₂.
         split ! $ move ! (1 ∷ []) $ use1 W (some (λ (zs : Stores). ‵ (lasts store.ended (store-lfts l₁₁ l₁₂ l₁₃ r m (columns-in ws)) (store-args l₁₁ l₁₂ l₁₃ r m (columns-in ws)) zs) ⊛ raw (fact 𝓤 (Stored ws (zs .0))))) (id⊢ 𝓤 _) $ pick ! (λ zs.
         split ! $ move ! (1 ∷ []) $ heard ! (Stored ws (zs .0)) (λ stored.
         fsplit ! $ move ! (1 ∷ []) $ fsplit ! $ move ! (1 ∷ []) $ fsplit ! $ move ! (1 ∷ []) $ fsplit ! $ move ! (1 ∷ []) $ fsplit ! $ move ! (1 ∷ []) $ drop ! $ move ! (3 ∷ []) $ drop ! $ move ! (2 ∷ []) $ drop ! $ move ! (1 ∷ []) $ drop ! $ drop ! $ fsplit ! $ move ! (1 ∷ []) $ feqL ! (λ len-nodes.
         move ! (1 ∷ []) $ split ! $ split ! $ move ! (1 ∷ []) $ split ! $ move ! (1 ∷ []) $ split ! $ move ! (1 ∷ []) $ split ! $ move ! (1 ∷ []) $ drop ! $ move ! (4 ∷ []) $ feqL ! (λ unit₂.
-        land ! (from ! (stop !)) (init ! 60 refl (is-unit v₂ unit₂)) $
+        land ! (from ! (stop !)) (init ! 59 refl (is-unit v₂ unit₂)) $
         -- the nodes come back and are shared, the columns lent again: `load_nodes(nodes, count, &mut rules, &mut links, &mut starts)`
         move ! (3 ∷ 5 ∷ 4 ∷ []) $ comes-in ! tt T.the-row κ₅ q₅ nodes (length (nodes .now)) m (nodes .now) (zs .0) g-nodes refl len-nodes $
         move ! (3 ∷ 2 ∷ 1 ∷ 4 ∷ 5 ∷ 6 ∷ []) $ three-relent (columnsOf (s .rows) (s .links) (s .starts) l₁₁ l₁₂ l₁₃) slice slice ! tt (s .rooms) r (columns-in ws) (λ p₂.
-        assigns ! (addr ! (from ! (fld ! refl (hop ! (look-in ! 86 (sub ! 0 refl (whole !))) (stop !))))) (from ! (stop !)) (init ! 43 refl (tt, tt)) $
-        assigns ! (agg ! (and-then ! (reads ! (from ! (stop !)) (look ! 43 refl)) (and-then ! (reads ! (from ! (fld ! refl (stop !))) (look-in ! 86 (sub ! 1 refl (whole !)))) (no-more !)))) (from ! (stop !)) (init ! 41 refl (tt, (tt, (record { fits = g-nodes .0 }, tt)))) $
-        assigns ! (addr ! (from ! (stop !))) (from ! (stop !)) (init ! 39 refl (tt, tt)) $ assigns ! (agg ! (and-then ! (reads ! (from ! (stop !)) (look ! 39 refl)) (and-then ! (sized ! (s .big) (s .rooms .0 .0)) (no-more !)))) (from ! (stop !)) (init ! 37 refl (tt, (tt, (record { fits = s .rooms .0 .0 }, tt)))) $
-        assigns ! (addr ! (from ! (stop !))) (from ! (stop !)) (init ! 35 refl (tt, tt)) $ assigns ! (agg ! (and-then ! (reads ! (from ! (stop !)) (look ! 35 refl)) (and-then ! (sized ! (s .big) (s .rooms .1 .0)) (no-more !)))) (from ! (stop !)) (init ! 33 refl (tt, (tt, (record { fits = s .rooms .1 .0 }, tt)))) $
-        assigns ! (addr ! (from ! (stop !))) (from ! (stop !)) (init ! 31 refl (tt, tt)) $ assigns ! (agg ! (and-then ! (reads ! (from ! (stop !)) (look ! 31 refl)) (and-then ! (sized ! (s .big) (s .rooms .2 .0)) (no-more !)))) (from ! (stop !)) (init ! 29 refl (tt, (tt, (record { fits = s .rooms .2 .0 }, tt)))) $
+        assigns ! (addr ! (from ! (fld ! refl (hop ! (look-in ! 85 (sub ! 0 refl (whole !))) (stop !))))) (from ! (stop !)) (init ! 42 refl (tt, tt)) $
+        assigns ! (agg ! (and-then ! (reads ! (from ! (stop !)) (look ! 42 refl)) (and-then ! (reads ! (from ! (fld ! refl (stop !))) (look-in ! 85 (sub ! 1 refl (whole !)))) (no-more !)))) (from ! (stop !)) (init ! 40 refl (tt, (tt, (record { fits = g-nodes .0 }, tt)))) $
+        assigns ! (addr ! (from ! (stop !))) (from ! (stop !)) (init ! 38 refl (tt, tt)) $ assigns ! (agg ! (and-then ! (reads ! (from ! (stop !)) (look ! 38 refl)) (and-then ! (sized ! (s .big) (s .rooms .0 .0)) (no-more !)))) (from ! (stop !)) (init ! 36 refl (tt, (tt, (record { fits = s .rooms .0 .0 }, tt)))) $
+        assigns ! (addr ! (from ! (stop !))) (from ! (stop !)) (init ! 34 refl (tt, tt)) $ assigns ! (agg ! (and-then ! (reads ! (from ! (stop !)) (look ! 34 refl)) (and-then ! (sized ! (s .big) (s .rooms .1 .0)) (no-more !)))) (from ! (stop !)) (init ! 32 refl (tt, (tt, (record { fits = s .rooms .1 .0 }, tt)))) $
+        assigns ! (addr ! (from ! (stop !))) (from ! (stop !)) (init ! 30 refl (tt, tt)) $ assigns ! (agg ! (and-then ! (reads ! (from ! (stop !)) (look ! 30 refl)) (and-then ! (sized ! (s .big) (s .rooms .2 .0)) (no-more !)))) (from ! (stop !)) (init ! 28 refl (tt, (tt, (record { fits = s .rooms .2 .0 }, tt)))) $
         move ! (9 ∷ []) $ goes-shared ! tt T.the-row κ₅ q₅ nodes (length (nodes .now)) (zs .0) g-nodes len-nodes (λ m₂.
         move ! (0 ∷ 6 ∷ 7 ∷ 8 ∷ 2 ∷ 3 ∷ 4 ∷ 5 ∷ []) $ cut (load-passed l₁₁ l₁₂ l₁₃ p₂ m₂ (columns-in ws) (zs .0)) (raw (Load 𝓤 H A mem run .pre (to-load l₁₁ l₁₂ l₁₃ p₂ m₂ (columns-in ws) (zs .0))) ∷ []) _ (goes-load l₁₁ l₁₂ l₁₃ p₂ m₂ (columns-in ws) (zs .0) (may-load (asked .0) first filled (nodes .now) (asked .1 .nodes) stored)) $
-        calls-at ! (fmOf 𝓤 H (W .laws) 𝓣) (Load 𝓤 H A mem run) known-load (to-load l₁₁ l₁₂ l₁₃ p₂ m₂ (columns-in ws) (zs .0)) (and-then ! (reads ! (from ! (stop !)) (look ! 36 refl)) (and-then ! (reads ! (from ! (stop !)) (look ! 83 refl)) (and-then ! (reads ! (from ! (stop !)) (look ! 32 refl)) (and-then ! (reads ! (from ! (stop !)) (look ! 28 refl)) (and-then ! (reads ! (from ! (stop !)) (look ! 24 refl)) (no-more !)))))) (λ v₃.
+        calls-at ! (fmOf 𝓤 H (W .laws) 𝓣) (Load 𝓤 H A mem run) known-load (to-load l₁₁ l₁₂ l₁₃ p₂ m₂ (columns-in ws) (zs .0)) (and-then ! (reads ! (from ! (stop !)) (look ! 35 refl)) (and-then ! (reads ! (from ! (stop !)) (look ! 82 refl)) (and-then ! (reads ! (from ! (stop !)) (look ! 31 refl)) (and-then ! (reads ! (from ! (stop !)) (look ! 27 refl)) (and-then ! (reads ! (from ! (stop !)) (look ! 23 refl)) (no-more !)))))) (λ v₃.
         use1 W (later (some (λ (u₃ : Unit {0}). ((‵ (flft (m₂ .0 ∷ []) fullShare) ⊛ (‵ (Token w8 (s .rows) l₁₁ (p₂ .0)) ⊛ (‵ (Token w16 (s .links) l₁₂ (p₂ .1 .0)) ⊛ (‵ (Token w16 (s .starts) l₁₃ (p₂ .1 .1)) ⊛ ‵ ftrue)))) ⊛ ‵ (Nothing .own u₃ (v₃ ∷ []))) ⊛ raw (ensured 𝓤 H A load.ended (load.clauses 𝓤 H A mem run) (load-lfts l₁₁ l₁₂ l₁₃ p₂ m₂ (columns-in ws) (zs .0)) (load-args l₁₁ l₁₂ l₁₃ p₂ m₂ (columns-in ws) (zs .0)) tt u₃)))) (id⊢ 𝓤 _) $ await ! tt $ pick ! (λ u₃.
         split ! $ move ! (1 ∷ []) $ use1 W (some (λ (ds : Loads). ‵ (lasts load.ended (load-lfts l₁₁ l₁₂ l₁₃ p₂ m₂ (columns-in ws) (zs .0)) (load-args l₁₁ l₁₂ l₁₃ p₂ m₂ (columns-in ws) (zs .0)) ds) ⊛ raw (fact 𝓤 (Loaded ws (zs .0) ds)))) (id⊢ 𝓤 _) $ pick ! (λ ds.
         split ! $ move ! (1 ∷ []) $ heard ! (Loaded ws (zs .0) ds) (λ loaded.
         fsplit ! $ move ! (1 ∷ []) $ fsplit ! $ move ! (1 ∷ []) $ fsplit ! $ move ! (1 ∷ []) $ fsplit ! $ move ! (1 ∷ []) $ fsplit ! $ move ! (1 ∷ []) $ drop ! $ move ! (4 ∷ []) $ drop ! $ move ! (3 ∷ []) $ drop ! $ move ! (2 ∷ []) $ fsplit ! $ move ! (1 ∷ []) $ drop ! $ move ! (2 ∷ []) $ fsplit ! $ move ! (1 ∷ []) $ drop ! $ move ! (2 ∷ []) $ fsplit ! $ move ! (1 ∷ []) $ drop ! $ move ! (3 ∷ []) $ split ! $ split ! $ move ! (1 ∷ []) $ split ! $ move ! (1 ∷ []) $ split ! $ move ! (1 ∷ []) $ split ! $ move ! (1 ∷ []) $ drop ! $ move ! (4 ∷ []) $ feqL ! (λ unit₃.
-        land ! (from ! (stop !)) (writes ! 62 refl (is-unit v₃ unit₃)) $
+        land ! (from ! (stop !)) (writes ! 61 refl (is-unit v₃ unit₃)) $
         -- the nodes come back, and the columns, which are shared, as the codes are: `judge(kinds, a, b, entries, members, listed, &rules, &links, &starts, codes, count)`
         move ! (3 ∷ 7 ∷ []) $ comes-unshared ! tt T.the-row κ₅ q₅ nodes (length (nodes .now)) m₂ (zs .0) g-nodes len-nodes $
         move ! (3 ∷ 2 ∷ 1 ∷ 7 ∷ 8 ∷ 9 ∷ 6 ∷ 5 ∷ 4 ∷ []) $ three-turned (columnsOf (s .rows) (s .links) (s .starts) l₁₁ l₁₂ l₁₃) slice slice ! tt (s .rooms) p₂ (columns-out ds) (λ r₂ _.
-        assigns ! (addr ! (from ! (stop !))) (from ! (stop !)) (init ! 27 refl (tt, tt)) $ assigns ! (agg ! (and-then ! (reads ! (from ! (stop !)) (look ! 27 refl)) (and-then ! (sized ! (s .big) (s .rooms .0 .0)) (no-more !)))) (from ! (stop !)) (init ! 25 refl (tt, (tt, (record { fits = s .rooms .0 .0 }, tt)))) $
-        assigns ! (addr ! (from ! (stop !))) (from ! (stop !)) (init ! 23 refl (tt, tt)) $ assigns ! (agg ! (and-then ! (reads ! (from ! (stop !)) (look ! 23 refl)) (and-then ! (sized ! (s .big) (s .rooms .1 .0)) (no-more !)))) (from ! (stop !)) (init ! 21 refl (tt, (tt, (record { fits = s .rooms .1 .0 }, tt)))) $
-        assigns ! (addr ! (from ! (stop !))) (from ! (stop !)) (init ! 19 refl (tt, tt)) $ assigns ! (agg ! (and-then ! (reads ! (from ! (stop !)) (look ! 19 refl)) (and-then ! (sized ! (s .big) (s .rooms .2 .0)) (no-more !)))) (from ! (stop !)) (init ! 17 refl (tt, (tt, (record { fits = s .rooms .2 .0 }, tt)))) $
-        assigns ! (addr ! (from ! (fld ! refl (hop ! (look-in ! 84 (sub ! 0 refl (whole !))) (stop !))))) (from ! (stop !)) (init ! 15 refl (tt, tt)) $
-        assigns ! (agg ! (and-then ! (reads ! (from ! (stop !)) (look ! 15 refl)) (and-then ! (reads ! (from ! (fld ! refl (stop !))) (look-in ! 84 (sub ! 1 refl (whole !)))) (no-more !)))) (from ! (stop !)) (init ! 13 refl (tt, (tt, (record { fits = g-codes .0 }, tt)))) $
+        assigns ! (addr ! (from ! (stop !))) (from ! (stop !)) (init ! 26 refl (tt, tt)) $ assigns ! (agg ! (and-then ! (reads ! (from ! (stop !)) (look ! 26 refl)) (and-then ! (sized ! (s .big) (s .rooms .0 .0)) (no-more !)))) (from ! (stop !)) (init ! 24 refl (tt, (tt, (record { fits = s .rooms .0 .0 }, tt)))) $
+        assigns ! (addr ! (from ! (stop !))) (from ! (stop !)) (init ! 22 refl (tt, tt)) $ assigns ! (agg ! (and-then ! (reads ! (from ! (stop !)) (look ! 22 refl)) (and-then ! (sized ! (s .big) (s .rooms .1 .0)) (no-more !)))) (from ! (stop !)) (init ! 20 refl (tt, (tt, (record { fits = s .rooms .1 .0 }, tt)))) $
+        assigns ! (addr ! (from ! (stop !))) (from ! (stop !)) (init ! 18 refl (tt, tt)) $ assigns ! (agg ! (and-then ! (reads ! (from ! (stop !)) (look ! 18 refl)) (and-then ! (sized ! (s .big) (s .rooms .2 .0)) (no-more !)))) (from ! (stop !)) (init ! 16 refl (tt, (tt, (record { fits = s .rooms .2 .0 }, tt)))) $
+        assigns ! (addr ! (from ! (fld ! refl (hop ! (look-in ! 83 (sub ! 0 refl (whole !))) (stop !))))) (from ! (stop !)) (init ! 14 refl (tt, tt)) $
+        assigns ! (agg ! (and-then ! (reads ! (from ! (stop !)) (look ! 14 refl)) (and-then ! (reads ! (from ! (fld ! refl (stop !))) (look-in ! 83 (sub ! 1 refl (whole !)))) (no-more !)))) (from ! (stop !)) (init ! 12 refl (tt, (tt, (record { fits = g-codes .0 }, tt)))) $
         move ! (10 ∷ []) $ goes-shared ! tt u16 κ₆ q₆ codes (length (codes .now)) (codes-in ws) g-codes len-codes (λ c₂.
-        move ! (108 ∷ []) $ use1 W (‵ Own-kinds ⊛ ‵ Own-kinds) (shr-copy 𝓤 H A W (named 1) κ₁ (Array u8 256) .twice kinds (ptr-vals kinds)) $ split ! $
-        move ! (110 ∷ []) $ use1 W (‵ Own-a ⊛ ‵ Own-a) (shr-copy 𝓤 H A W (named 2) κ₂ (Array u16 256) .twice a (ptr-vals a)) $ split ! $
-        move ! (112 ∷ []) $ use1 W (‵ Own-b ⊛ ‵ Own-b) (shr-copy 𝓤 H A W (named 3) κ₃ (Array u16 256) .twice b (ptr-vals b)) $ split ! $
-        move ! (114 ∷ []) $ use1 W (‵ Own-members ⊛ ‵ Own-members) (shr-copy 𝓤 H A W (named 4) κ₄ (Array u16 24) .twice members (ptr-vals members)) $ split ! $
-        move ! (6 ∷ 4 ∷ 2 ∷ 0 ∷ 14 ∷ 15 ∷ 16 ∷ 8 ∷ 116 ∷ 117 ∷ 118 ∷ 119 ∷ 11 ∷ 12 ∷ 13 ∷ 10 ∷ []) $ cut (judge-passed l₁₁ l₁₂ l₁₃ r₂ c₂ (columns-out ds) (codes-in ws)) (raw (Judge 𝓤 H A mem run .pre (to-judge l₁₁ l₁₂ l₁₃ r₂ c₂ (columns-out ds) (codes-in ws))) ∷ []) _ (goes-judge l₁₁ l₁₂ l₁₃ r₂ c₂ (columns-out ds) (codes-in ws) (may-judge (asked .0) first filled (nodes .now) (asked .1 .nodes) stored loaded)) $
-        calls-at ! (fmOf 𝓤 H (W .laws) 𝓣) (Judge 𝓤 H A mem run) known-judge (to-judge l₁₁ l₁₂ l₁₃ r₂ c₂ (columns-out ds) (codes-in ws)) (and-then ! (reads ! (from ! (stop !)) (look ! 99 refl)) (and-then ! (reads ! (from ! (stop !)) (look ! 97 refl)) (and-then ! (reads ! (from ! (stop !)) (look ! 95 refl)) (and-then ! (reads ! (from ! (stop !)) (look ! 93 refl)) (and-then ! (reads ! (from ! (stop !)) (look ! 91 refl)) (and-then ! (reads ! (from ! (stop !)) (look ! 89 refl)) (and-then ! (reads ! (from ! (stop !)) (look ! 24 refl)) (and-then ! (reads ! (from ! (stop !)) (look ! 20 refl)) (and-then ! (reads ! (from ! (stop !)) (look ! 16 refl)) (and-then ! (reads ! (from ! (stop !)) (look ! 12 refl)) (and-then ! (reads ! (from ! (stop !)) (look ! 87 refl)) (no-more !)))))))))))) (λ v.
+        move ! (107 ∷ 108 ∷ 109 ∷ 110 ∷ 6 ∷ 7 ∷ 8 ∷ 0 ∷ 111 ∷ 112 ∷ 113 ∷ 114 ∷ 3 ∷ 4 ∷ 5 ∷ 2 ∷ []) $ cut (judge-passed l₁₁ l₁₂ l₁₃ r₂ c₂ (columns-out ds) (codes-in ws)) (raw (Judge 𝓤 H A mem run .pre (to-judge l₁₁ l₁₂ l₁₃ r₂ c₂ (columns-out ds) (codes-in ws))) ∷ []) _ (goes-judge l₁₁ l₁₂ l₁₃ r₂ c₂ (columns-out ds) (codes-in ws) (may-judge (asked .0) first filled (nodes .now) (asked .1 .nodes) stored loaded)) $
+        calls-at ! (fmOf 𝓤 H (W .laws) 𝓣) (Judge 𝓤 H A mem run) known-judge (to-judge l₁₁ l₁₂ l₁₃ r₂ c₂ (columns-out ds) (codes-in ws)) (and-then ! (reads ! (from ! (stop !)) (look ! 94 refl)) (and-then ! (reads ! (from ! (stop !)) (look ! 92 refl)) (and-then ! (reads ! (from ! (stop !)) (look ! 90 refl)) (and-then ! (reads ! (from ! (stop !)) (look ! 88 refl)) (and-then ! (reads ! (from ! (stop !)) (look ! 86 refl)) (and-then ! (reads ! (from ! (stop !)) (look ! 84 refl)) (and-then ! (reads ! (from ! (stop !)) (look ! 19 refl)) (and-then ! (reads ! (from ! (stop !)) (look ! 15 refl)) (and-then ! (reads ! (from ! (stop !)) (look ! 11 refl)) (and-then ! (reads ! (from ! (stop !)) (look ! 7 refl)) (and-then ! (reads ! (from ! (stop !)) (look ! 82 refl)) (no-more !)))))))))))) (λ v.
         use1 W (later (some (λ (j : Verdict). ((‵ (flft κ₁ q₁) ⊛ (‵ (flft κ₂ q₂) ⊛ (‵ (flft κ₃ q₃) ⊛ (‵ (flft κ₄ q₄) ⊛ (‵ (Token w8 (s .rows) l₁₁ (r₂ .0)) ⊛ (‵ (Token w16 (s .links) l₁₂ (r₂ .1 .0)) ⊛ (‵ (Token w16 (s .starts) l₁₃ (r₂ .1 .1)) ⊛ (‵ (flft (c₂ .0 ∷ []) fullShare) ⊛ ‵ ftrue)))))))) ⊛ ‵ (Ver.the-row .own j (v ∷ []))) ⊛ raw (ensured 𝓤 H A judge.ended (judge.clauses 𝓤 H A mem run) (judge-lfts l₁₁ l₁₂ l₁₃ r₂ c₂ (columns-out ds) (codes-in ws)) (judge-args l₁₁ l₁₂ l₁₃ r₂ c₂ (columns-out ds) (codes-in ws)) tt j)))) (id⊢ 𝓤 _) $ await ! tt $ pick ! (λ j.
         split ! $ move ! (1 ∷ []) $ use1 W (some (λ (ends : Ends). ‵ (lasts judge.ended (judge-lfts l₁₁ l₁₂ l₁₃ r₂ c₂ (columns-out ds) (codes-in ws)) (judge-args l₁₁ l₁₂ l₁₃ r₂ c₂ (columns-out ds) (codes-in ws)) ends) ⊛ raw (fact 𝓤 (Judged ws ds j)))) (id⊢ 𝓤 _) $ pick ! (λ ends.
         split ! $ move ! (1 ∷ []) $ heard ! (Judged ws ds j) (λ said.
         drop ! $ split ! $ split ! $ move ! (1 ∷ []) $ split ! $ move ! (1 ∷ []) $ split ! $ move ! (1 ∷ []) $ split ! $ move ! (1 ∷ []) $ split ! $ move ! (1 ∷ []) $ split ! $ move ! (1 ∷ []) $ split ! $ move ! (1 ∷ []) $ split ! $ move ! (1 ∷ []) $ drop ! $ move ! (8 ∷ []) $ peeks ! Ver.the-row (Is Ver.the-row) (shows 𝓤 H A Ver.the-row) j (v ∷ []) (λ is.
-        land ! (from ! (stop !)) (init ! 111 refl (EL.lawful Ver.the-type Ver′.the-laws 𝓤 H A W tt .typed j _ is .0)) $
+        land ! (from ! (stop !)) (init ! 106 refl (EL.lawful Ver.the-type Ver′.the-laws 𝓤 H A W tt .typed j _ is .0)) $
         -- the codes come back, and the columns are room again
-        move ! (1 ∷ 13 ∷ []) $ comes-unshared ! tt u16 κ₆ q₆ codes (length (codes .now)) c₂ (codes-in ws) g-codes len-codes $
-        move ! (4 ∷ 3 ∷ 2 ∷ 13 ∷ 14 ∷ 15 ∷ []) $ three-ended (columnsOf (s .rows) (s .links) (s .starts) l₁₁ l₁₂ l₁₃) slice ! tt r₂ (columns-out ds) $
-        returns ! (look ! 107 refl) $ forget ! 107 refl $ forget ! 105 refl $ forget ! 103 refl $ forget ! 101 refl $ forget ! 99 refl $ forget ! 97 refl $ forget ! 95 refl $ forget ! 93 refl $ forget ! 91 refl $ forget ! 89 refl $ forget ! 87 refl $ forget ! 82 refl $ forget ! 80 refl $ forget ! 78 refl $ forget ! 76 refl $ forget ! 74 refl $ forget ! 72 refl $ forget ! 70 refl $ forget ! 68 refl $ forget ! 66 refl $ forget ! 64 refl $ forget ! 62 refl $ forget ! 60 refl $ forget ! 58 refl $ forget ! 56 refl $ forget ! 54 refl $ forget ! 52 refl $ forget ! 50 refl $ forget ! 48 refl $ forget ! 46 refl $ forget ! 44 refl $ forget ! 42 refl $ forget ! 40 refl $ forget ! 38 refl $ forget ! 36 refl $ forget ! 34 refl $ forget ! 32 refl $ forget ! 30 refl $ forget ! 28 refl $ forget ! 26 refl $ forget ! 24 refl $ forget ! 22 refl $ forget ! 20 refl $ forget ! 18 refl $ forget ! 16 refl $
-        move ! (107 ∷ 108 ∷ []) $ free1 ! $ move ! (105 ∷ 106 ∷ []) $ free1 ! $ move ! (103 ∷ 104 ∷ []) $ free1 ! $ move ! (101 ∷ 102 ∷ []) $ free1 ! $ move ! (99 ∷ 100 ∷ []) $ free1 ! $ move ! (97 ∷ 98 ∷ []) $ free1 ! $ move ! (95 ∷ 96 ∷ []) $ free1 ! $ move ! (93 ∷ 94 ∷ []) $ free1 ! $ move ! (91 ∷ 92 ∷ []) $ free1 ! $ move ! (89 ∷ 90 ∷ []) $ free1 ! $ move ! (87 ∷ 88 ∷ []) $ free1 ! $ move ! (0 ∷ 86 ∷ []) $ free1 ! $ move ! (0 ∷ 84 ∷ []) $ free1 ! $ move ! (0 ∷ 82 ∷ []) $ free1 ! $ move ! (79 ∷ 80 ∷ []) $ free1 ! $ move ! (77 ∷ 78 ∷ []) $ free1 ! $ move ! (75 ∷ 76 ∷ []) $ free1 ! $ move ! (73 ∷ 74 ∷ []) $ free1 ! $ move ! (71 ∷ 72 ∷ []) $ free1 ! $ move ! (69 ∷ 70 ∷ []) $ free1 ! $ move ! (67 ∷ 68 ∷ []) $ free1 ! $ move ! (65 ∷ 66 ∷ []) $ free1 ! $ move ! (63 ∷ 64 ∷ []) $ free1 ! $ move ! (61 ∷ 62 ∷ []) $ free1 ! $ move ! (59 ∷ 60 ∷ []) $ free1 ! $ move ! (57 ∷ 58 ∷ []) $ free1 ! $ move ! (55 ∷ 56 ∷ []) $ free1 ! $ move ! (53 ∷ 54 ∷ []) $ free1 ! $ move ! (51 ∷ 52 ∷ []) $ free1 ! $ move ! (49 ∷ 50 ∷ []) $ free1 ! $ move ! (47 ∷ 48 ∷ []) $ free1 ! $ move ! (45 ∷ 46 ∷ []) $ free1 ! $ move ! (43 ∷ 44 ∷ []) $ free1 ! $ move ! (41 ∷ 42 ∷ []) $ free1 ! $ move ! (39 ∷ 40 ∷ []) $ free1 ! $ move ! (37 ∷ 38 ∷ []) $ free1 ! $ move ! (35 ∷ 36 ∷ []) $ free1 ! $ move ! (33 ∷ 34 ∷ []) $ free1 ! $ move ! (31 ∷ 32 ∷ []) $ free1 ! $ move ! (29 ∷ 30 ∷ []) $ free1 ! $ move ! (27 ∷ 28 ∷ []) $ free1 ! $ move ! (25 ∷ 26 ∷ []) $ free1 ! $ move ! (23 ∷ 24 ∷ []) $ free1 ! $ move ! (21 ∷ 22 ∷ []) $ free1 ! $ move ! (19 ∷ 20 ∷ []) $ free1 ! $ move ! (17 ∷ 18 ∷ []) $ free1 ! $ move ! (15 ∷ 16 ∷ []) $ free1 ! $ move ! (13 ∷ 14 ∷ []) $ free1 ! $ free0 ! $
-        move ! (10 ∷ []) $ fsplit ! $ move ! (2 ∷ []) $ fsplit ! $ keep ! (14 ∷ 12 ∷ 11 ∷ 10 ∷ 9 ∷ 2 ∷ 0 ∷ 13 ∷ 8 ∷ 7 ∷ 6 ∷ 5 ∷ 3 ∷ 1 ∷ 4 ∷ []) $ by ! (exits j v (zs .0) (codes-in ws) len-nodes len-codes (judged-stored (asked .0) first filled (nodes .now) (asked .1 .nodes) stored loaded said))))))))))))))))))))))))))))))))))))))))))))))))))))))))))))))))))))))))))))))))
+        move ! (1 ∷ 9 ∷ []) $ comes-unshared ! tt u16 κ₆ q₆ codes (length (codes .now)) c₂ (codes-in ws) g-codes len-codes $
+        move ! (4 ∷ 3 ∷ 2 ∷ 9 ∷ 10 ∷ 11 ∷ []) $ three-ended (columnsOf (s .rows) (s .links) (s .starts) l₁₁ l₁₂ l₁₃) slice ! tt r₂ (columns-out ds) $
+        returns ! (look ! 102 refl) $ forget ! 102 refl $ forget ! 100 refl $ forget ! 98 refl $ forget ! 96 refl $ forget ! 94 refl $ forget ! 92 refl $ forget ! 90 refl $ forget ! 88 refl $ forget ! 86 refl $ forget ! 84 refl $ forget ! 82 refl $ forget ! 77 refl $ forget ! 75 refl $ forget ! 73 refl $ forget ! 71 refl $ forget ! 69 refl $ forget ! 67 refl $ forget ! 65 refl $ forget ! 63 refl $ forget ! 61 refl $ forget ! 59 refl $ forget ! 57 refl $ forget ! 55 refl $ forget ! 53 refl $ forget ! 51 refl $ forget ! 49 refl $ forget ! 47 refl $ forget ! 45 refl $ forget ! 43 refl $ forget ! 41 refl $ forget ! 39 refl $ forget ! 37 refl $ forget ! 35 refl $ forget ! 33 refl $ forget ! 31 refl $ forget ! 29 refl $ forget ! 27 refl $ forget ! 25 refl $ forget ! 23 refl $ forget ! 21 refl $ forget ! 19 refl $ forget ! 17 refl $ forget ! 15 refl $ forget ! 13 refl $ forget ! 11 refl $
+        move ! (102 ∷ 103 ∷ []) $ free1 ! $ move ! (100 ∷ 101 ∷ []) $ free1 ! $ move ! (98 ∷ 99 ∷ []) $ free1 ! $ move ! (96 ∷ 97 ∷ []) $ free1 ! $ move ! (94 ∷ 95 ∷ []) $ free1 ! $ move ! (92 ∷ 93 ∷ []) $ free1 ! $ move ! (90 ∷ 91 ∷ []) $ free1 ! $ move ! (88 ∷ 89 ∷ []) $ free1 ! $ move ! (86 ∷ 87 ∷ []) $ free1 ! $ move ! (84 ∷ 85 ∷ []) $ free1 ! $ move ! (82 ∷ 83 ∷ []) $ free1 ! $ move ! (0 ∷ 81 ∷ []) $ free1 ! $ move ! (0 ∷ 79 ∷ []) $ free1 ! $ move ! (0 ∷ 77 ∷ []) $ free1 ! $ move ! (74 ∷ 75 ∷ []) $ free1 ! $ move ! (72 ∷ 73 ∷ []) $ free1 ! $ move ! (70 ∷ 71 ∷ []) $ free1 ! $ move ! (68 ∷ 69 ∷ []) $ free1 ! $ move ! (66 ∷ 67 ∷ []) $ free1 ! $ move ! (64 ∷ 65 ∷ []) $ free1 ! $ move ! (62 ∷ 63 ∷ []) $ free1 ! $ move ! (60 ∷ 61 ∷ []) $ free1 ! $ move ! (58 ∷ 59 ∷ []) $ free1 ! $ move ! (56 ∷ 57 ∷ []) $ free1 ! $ move ! (54 ∷ 55 ∷ []) $ free1 ! $ move ! (52 ∷ 53 ∷ []) $ free1 ! $ move ! (50 ∷ 51 ∷ []) $ free1 ! $ move ! (48 ∷ 49 ∷ []) $ free1 ! $ move ! (46 ∷ 47 ∷ []) $ free1 ! $ move ! (44 ∷ 45 ∷ []) $ free1 ! $ move ! (42 ∷ 43 ∷ []) $ free1 ! $ move ! (40 ∷ 41 ∷ []) $ free1 ! $ move ! (38 ∷ 39 ∷ []) $ free1 ! $ move ! (36 ∷ 37 ∷ []) $ free1 ! $ move ! (34 ∷ 35 ∷ []) $ free1 ! $ move ! (32 ∷ 33 ∷ []) $ free1 ! $ move ! (30 ∷ 31 ∷ []) $ free1 ! $ move ! (28 ∷ 29 ∷ []) $ free1 ! $ move ! (26 ∷ 27 ∷ []) $ free1 ! $ move ! (24 ∷ 25 ∷ []) $ free1 ! $ move ! (22 ∷ 23 ∷ []) $ free1 ! $ move ! (20 ∷ 21 ∷ []) $ free1 ! $ move ! (18 ∷ 19 ∷ []) $ free1 ! $ move ! (16 ∷ 17 ∷ []) $ free1 ! $ move ! (14 ∷ 15 ∷ []) $ free1 ! $ move ! (12 ∷ 13 ∷ []) $ free1 ! $ move ! (10 ∷ 11 ∷ []) $ free1 ! $ move ! (8 ∷ 9 ∷ []) $ free1 ! $ free0 ! $
+        move ! (6 ∷ []) $ fsplit ! $ move ! (2 ∷ []) $ fsplit ! $ keep ! (2 ∷ 0 ∷ 9 ∷ 8 ∷ 7 ∷ 6 ∷ 5 ∷ 3 ∷ 1 ∷ 4 ∷ []) $ by ! (exits j v (zs .0) (codes-in ws) len-nodes len-codes (judged-stored (asked .0) first filled (nodes .now) (asked .1 .nodes) stored loaded said))))))))))))))))))))))))))))))))))))))))))))))))))))))))))))))))))))))))))))))))
 
 -- ---- every function with this MIR
 module _ (s : Size) {M : Type 1} (𝓤 : URA M) (H : Heap 𝓤) (A : Atoms 𝓤) (W : Given 𝓤 H A) (mem : Memory → SProp 𝓤) (run : Routine → Fun 𝓤) where
   pub meets : (𝓣 : Tables 𝓤 H) → Triple 𝓤 (𝓣 .C #decode) (Decode 𝓤 H A mem run) → Triple 𝓤 (𝓣 .C #store) (Store 𝓤 H A mem run) → Triple 𝓤 (𝓣 .C #load) (Load 𝓤 H A mem run) → Triple 𝓤 (𝓣 .C #judge) (Judge 𝓤 H A mem run)
       → Meets 𝓤 H A (ended .signature) (WpFn 𝓤 H (𝓣 .C) (𝓣 .Λ) (function s)) (closing 𝓤 H A ended (clauses (s .rows) 𝓤))
   meets 𝓣 k₁ k₂ k₃ k₄ =
-      walk-meets 𝓤 H A ended stayed W (
-        goes-none-slice 𝓤 H A W 7 (0 ∷ []) tt (plain (λ _. u8)) yes,
-        (
-          goes-none-ref 𝓤 H A W 7 (1 ∷ []) tt (ArrayOf (plain (λ _. u8)) (λ _. tt) 256) yes,
-          (
-            goes-none-ref 𝓤 H A W 7 (2 ∷ []) tt (ArrayOf (plain (λ _. u16)) (λ _. tt) 256) yes,
-            (
-              goes-none-ref 𝓤 H A W 7 (3 ∷ []) tt (ArrayOf (plain (λ _. u16)) (λ _. tt) 256) yes,
-              (goes-none 𝓤 H A W 7 (λ _. usize) yes (λ κs x f. refl), (goes-none-ref 𝓤 H A W 7 (4 ∷ []) tt (ArrayOf (plain (λ _. u16)) (λ _. tt) 24) yes, (goes-none 𝓤 H A W 7 (λ _. usize) yes (λ κs x f. refl), (goes-none 𝓤 H A W 7 (λ _. usize) yes (λ κs x f. refl), (goes-slice 𝓤 H A W 7 5 tt (plain (λ _. T.the-row)), (goes-slice 𝓤 H A W 7 6 tt (plain (λ _. u16)), tt)))))),
-            ),
-          ),
-        ),
-      )
+      walk-meets 𝓤 H A ended stayed W (all-go 𝓤 H A W nodes-stay codes-stay (goes-slice 𝓤 H A W 7 5 tt (plain (λ _. T.the-row))) (goes-slice 𝓤 H A W 7 6 tt (plain (λ _. u16))))
       (clauses (s .rows) 𝓤) (WpFn 𝓤 H (𝓣 .C) (𝓣 .Λ) (function s)) (WpFn-mono 𝓤 H (W .laws) 𝓣 (function s))
       (walked 𝓤 H A ended stayed (clauses (s .rows) 𝓤) (WpFn 𝓤 H (𝓣 .C) (𝓣 .Λ) (function s)) (λ κs. (slice-vals, (ptr-vals, (ptr-vals, (ptr-vals, (uint-vals w64, (ptr-vals, (uint-vals w64, (uint-vals w64, (slice-vals, (slice-vals, tt)))))))))))
       (λ κs. (
