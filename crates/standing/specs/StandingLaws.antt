@@ -4,12 +4,10 @@ use mathlib.Core.List.{List, [], _∷_, _++_, map}
 use Prim.Native.Nat.{ℕ, zero, suc, _+_, _*_, _<_, _≤_}
 use native.Mathlib.Numerals.{add-one}
 use native.Mathlib.Omega.{arith}
-use lib.ListN.{length, getD, take, drop, length-map, length-drop, length-append}
+use lib.ListN.{length, getD, take, drop, length-drop, length-append}
 use lib.Seq.{take-at, take-all}
 use Rattle.verdict.specs.Verdict.{Verdict}
 use Rattle.verdict.specs.Lists.{written}
-use Rattle.verdict.specs.WrittenLaws.{written-length}
-use Rattle.formula.specs.Claim.{Derivation}
 use Rattle.formula.specs.Held.{heldClaim, heldProof}
 use Rattle.formula.specs.Nodes.{Proof, node}
 use Rattle.formula.specs.PlainNodes.{proofOf}
@@ -24,8 +22,8 @@ use Rattle.rules.specs.JudgeStages.{Laid}
 use Rattle.records.specs.Records.{shownNode, shownNodes, firstNodes, nodesOf, NodeRoom, CountsFit, startColumn, ruleColumn, linkColumn, total, NodesLoaded}
 use Rattle.records.specs.Shown.{map-written, nodes-shown, loaded-proof, total-codes}
 use Rattle.records.specs.declared.Node.{Node}
-use Rattle.laid.specs.Readable.{Readable, proofAt, count, laid, laid-judged, stored-same, stored-starts}
-use Rattle.standing.specs.Standing.{RoomFor, ProofStored, JudgedStored}
+use Rattle.laid.specs.Readable.{Readable, proofAt, laid, laid-judged, stored-same, stored-starts}
+use Rattle.standing.specs.Standing.{ProofStored, JudgedStored}
 
 -- ---- lists of records
 module _ {A B : Type 0} (f : A → B) where

@@ -1,5 +1,4 @@
 -- `standing::judge_few` meets its contract: `Stored.antt`'s walk, in columns with room for 32 nodes.
-use mathlib.Core.Path.{refl}
 use mathlib.Core.Bool.{false}
 use lib.Dec.{lit<, lit≤}
 use contract.Running.{givenOf, tables, tablesOf}

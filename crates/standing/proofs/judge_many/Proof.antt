@@ -1,5 +1,4 @@
 -- `standing::judge_many` meets its contract: `Stored.antt`'s walk, in columns with room for all 1,024 nodes.
-use mathlib.Core.Path.{refl}
 use mathlib.Core.Bool.{true}
 use lib.Dec.{lit<, lit≤}
 use contract.Running.{givenOf, tables, tablesOf}
