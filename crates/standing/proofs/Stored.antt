@@ -256,7 +256,7 @@ module _ (s : Size) {M : Type 1} (𝓤 : URA M) (H : Heap 𝓤) (A : Atoms 𝓤)
     abbrev cols : Three
     cols = columnsOf (s .rows) (s .links) (s .starts) l₁ l₂ l₃
 
-    -- the call of `decode_proof`, with a copy of the file, the columns at p and the codes at c
+    -- the call of `decode_proof`, with the file, the columns at p and the codes at c
     abbrev decode-args : Loans → Loan → RefT (List ℕ) × (RefT (List ℕ) × (RefT (List ℕ) × (RefT (List ℕ) × (RefT (List ℕ) × Unit {0}))))
     decode-args p c = (ps .proof, (ref w8 (s .rows) l₁ (p .0 .1) (replicate (s .rows) 0), (ref w16 (s .links) l₂ (p .1 .0 .1) (replicate (s .links) 0), (ref w16 (s .starts) l₃ (p .1 .1 .1) (replicate (s .starts) 0), (renamed (ps .codes) (c .1) (ps .codes .now), tt)))))
 
@@ -314,7 +314,7 @@ module _ (s : Size) {M : Type 1} (𝓤 : URA M) (H : Heap 𝓤) (A : Atoms 𝓤)
         nothing ! $ move ! (8 ∷ 0 ∷ []) $ join ! $ move ! (7 ∷ 0 ∷ []) $ join ! $ move ! (6 ∷ 0 ∷ []) $ join ! $ move ! (5 ∷ 0 ∷ []) $ join ! $ frame ! $
         nothing ! $ move ! (4 ∷ 0 ∷ []) $ fjoin ! $ move ! (3 ∷ 0 ∷ []) $ fjoin ! $ move ! (2 ∷ 0 ∷ []) $ fjoin ! $ owned ! usize (Is usize) (uint-makes 𝓤 H A W w64) (ps .count) _ (refl, fit .count) $ fjoin ! $ move ! (1 ∷ 0 ∷ []) $ fjoin ! $ done !
 
-    -- the call of the judge, with copies of the four `&`, the columns shared at r and the codes at c
+    -- the call of the judge, with the four `&`, the columns shared at r and the codes at c
     abbrev judge-args : Loans → Loan → Lists → List ℕ → RefT (List ℕ) × (RefT (List ℕ) × (RefT (List ℕ) × (ℕ × (RefT (List ℕ) × (ℕ × (RefT (List ℕ) × (RefT (List ℕ) × (RefT (List ℕ) × (RefT (List ℕ) × (ℕ × Unit {0}))))))))))
     judge-args r c x cs = (ps .kinds, (ps .a, (ps .b, (ps .entries, (ps .members, (ps .listed, (ref w8 (s .rows) l₁ (r .0 .1) (x .0), (ref w16 (s .links) l₂ (r .1 .0 .1) (x .1 .0), (ref w16 (s .starts) l₃ (r .1 .1 .1) (x .1 .1), (renamed (ps .codes) (c .1) cs, (ps .count, tt)))))))))))
 
