@@ -67,6 +67,10 @@ module _ (claim : List ℕ) where
 pub held-kinds : (ks xs ys : List ℕ) (n : ℕ) (ms : List ℕ) (k : ℕ) (s : List ℕ) → readProof (heldClaim ks xs ys n ms k) s ≡ readProof (kindClaim ks n) s
 held-kinds ks xs ys n ms k s = by-kinds (heldClaim ks xs ys n ms k) (record { many = tableOf-length ks xs ys n; same = tableOf-kind ks xs ys n }) s
 
+-- and a proof that passes by them decodes
+pub kinds-decode : (ks : List ℕ) (n : ℕ) (s : List ℕ) → accepted ≡ verdictOf (readProof (kindClaim ks n) s) → Decodes s
+kinds-decode ks n s h = good-decoded (kindClaim ks n) s (accepts (readProof (kindClaim ks n) s) (sym h) .was) .decodes
+
 -- then the proof
 module _ (claim proof : List ℕ) where
   pub unread-formed : {n q : ℕ} → RefusedWith (readFormed claim) n q → RefusedWith (files claim proof) n q
@@ -90,9 +94,6 @@ module _ (claim proof : List ℕ) where
     module _ (h : accepted ≡ verdictOf (readProof (kindClaim ks n) proof)) where
       read : Accepts (readProof (kindClaim ks n) proof)
       read = accepts (readProof (kindClaim ks n) proof) (sym h)
-
-      pub proof-decodes : Decodes proof
-      proof-decodes = good-decoded (kindClaim ks n) proof (read .was) .decodes
 
       pub both-read : {m : ℕ} → m ≡ length (proofIn proof) → FilesGot (files claim proof) ks xs ys ms n k m
       both-read e = record {

@@ -1,9 +1,9 @@
 // The files in document 01's order, the one reading of all calls: the claim by bytes, its table, then the proof beside it. A claim that is
 // well formed is held in columns and a list of members that the caller lends; a refused file may leave a part of its decoding there.
 ghost use Rattle.claims.specs.ClaimWalk.{ClaimArrays, ClaimTells};
-ghost use Rattle.reader.specs.Files.{readFormed, files};
+ghost use Rattle.reader.specs.Files.{readFormed};
 ghost use Rattle.verdict.specs.Shown.{shown};
-ghost use Rattle.reader.specs.Found.{FilesTell, Unread, FilesTold};
+ghost use Rattle.reader.specs.Found.{FewEntries, BesideTells, Unread, FilesTold};
 use claims::ClaimRead;
 use claims::read_claim;
 use conditions::judge;
@@ -55,20 +55,12 @@ pub enum FilesRead {
     },
 }
 
-// The claim, and then 30 to 34: the proof's bytes, by the kinds of the claim's entries.
-pub fn read_files(
-    claim: &[u8],
-    proof: &[u8],
-    kinds: &mut [u8; 256],
-    a: &mut [u16; 256],
-    b: &mut [u16; 256],
-    members: &mut [u16; 24],
-) -> FilesRead
-    requires { ⌜ ClaimArrays (now kinds) (now a) (now b) (now members) ⌝ }
-    ensures { λ r. ⌜ FilesTell (files (now (claim .entry)) (now (proof .entry))) (now (kinds .exit)) (now (a .exit)) (now (b .exit))
-        (now (members .exit)) r ⌝ }
+// Beside a claim that was read, 30 to 34: the proof's bytes, by the kinds of the claim's entries.
+pub fn read_beside(formed: ClaimRead, proof: &[u8], kinds: &[u8; 256]) -> FilesRead
+    requires { ⌜ FewEntries formed ⌝ }
+    ensures { λ r. ⌜ BesideTells formed (now (proof .entry)) (now (kinds .entry)) r ⌝ }
 {
-    match read_formed(claim, kinds, a, b, members) {
+    match formed {
         ClaimRead::Refused { number, place } => FilesRead::Refused { number, place },
         ClaimRead::Read {
             entries,
@@ -125,7 +117,8 @@ pub fn find_files(
     match before {
         Verdict::Refused { number, place } => unread(number, place),
         Verdict::Accepted => {
-            match read_files(claim, proof, kinds, a, b, members) {
+            let formed = read_formed(claim, kinds, a, b, members);
+            match read_beside(formed, proof, kinds) {
                 FilesRead::Refused { number, place } => unread(number as u16, place as u16),
                 FilesRead::Read {
                     entries,

@@ -9,7 +9,8 @@ ghost use Rattle.demands.specs.Check.{verdict};
 ghost use Rattle.laid.specs.Readable.{Readable, proofAt};
 use nodes::decode_proof;
 use reader::FilesRead;
-use reader::read_files;
+use reader::read_beside;
+use reader::read_formed;
 use rules::judge::judge;
 use verdict::Verdict;
 
@@ -132,7 +133,8 @@ pub fn judge_files(claim: &[u8], proof: &[u8]) -> Verdict
     let mut a = [0u16; 256];
     let mut b = [0u16; 256];
     let mut members = [0u16; 24];
-    match read_files(claim, proof, &mut kinds, &mut a, &mut b, &mut members) {
+    let formed = read_formed(claim, &mut kinds, &mut a, &mut b, &mut members);
+    match read_beside(formed, proof, &kinds) {
         FilesRead::Refused { number, place } => Verdict::Refused {
             number: number as u16,
             place: place as u16,

@@ -5,6 +5,7 @@ use borrow.Author.Needs.{needs}
 use Rattle.verdict.specs.Shown.{shown}
 use Rattle.encoding.specs.Encode.{Bytes}
 use Rattle.encoding.specs.ByteLaws.{lent-bytes}
+use Rattle.claims.specs.ClaimWalk.{claim-as-read}
 use Rattle.reader.specs.FilesLaws.{files-as-read, files-as-refused, found-unread, found-read, first-unread, first-passed}
 use Rattle.reader.proofs.find_files.Statement.{statement}
 use Rattle.reader.proofs.find_files.Tie as tie
@@ -18,17 +19,20 @@ unread-requires c κs = search needs
 enum-told : tie.Need-enum-told
 enum-told c = search needs
 
-read-files-requires : tie.Need-read-files-requires
-read-files-requires c κs = search needs
+read-formed-requires : tie.Need-read-formed-requires
+read-formed-requires c κs = search needs
+
+read-beside-requires : tie.Need-read-beside-requires
+read-beside-requires c κs n k is = claim-as-read _ _ _ _ (c .before .read-formed .ensures) is .held .entries
 
 enum-known-number : tie.Need-enum-known-number
 enum-known-number c = search needs
 
 cast-unread : tie.Need-cast-unread
-cast-unread c = omega (arith, files-as-refused _ _ _ _ (c .before .before .before .read-files .ensures) (c .before .number .given .1) .small)
+cast-unread c = omega (arith, files-as-refused _ _ _ _ (c .before .before .before .read-beside .ensures _ _ _ _ (c .before .before .before .before .before .read-formed .ensures)) (c .before .number .given .1) .small)
 
 cast-unread-2 : tie.Need-cast-unread-2
-cast-unread-2 c = omega (arith, files-as-refused _ _ _ _ (c .before .before .before .read-files .ensures) (c .before .number .given .1) .small)
+cast-unread-2 c = omega (arith, files-as-refused _ _ _ _ (c .before .before .before .read-beside .ensures _ _ _ _ (c .before .before .before .before .before .read-formed .ensures)) (c .before .number .given .1) .small)
 
 unread-requires-2 : tie.Need-unread-requires-2
 unread-requires-2 c κs = search needs
@@ -51,20 +55,20 @@ returns c =
 
 returns-2 : tie.Need-returns-2
 returns-2 c =
-    let entry = c .before .before .before .before .before .before .before .before .before .before .before in
-    let refusal = files-as-refused _ _ _ _ (c .before .before .before .before .read-files .ensures) (c .before .before .number .given .1) in
+    let entry = c .before .before .before .before .before .before .before .before .before .before .before .before .before in
+    let refusal = files-as-refused _ _ _ _ (c .before .before .before .before .read-beside .ensures _ _ _ _ (c .before .before .before .before .before .before .read-formed .ensures)) (c .before .before .number .given .1) in
     record {
-      told = first-passed _ _ _ _ _ _ _ (ap shown (c .before .before .before .before .before .before .before .before .before .enum-told .given .1)) (found-unread _ _ _ _ _ _ refusal (c .unread2 .ensures));
+      told = first-passed _ _ _ _ _ _ _ (ap shown (c .before .before .before .before .before .before .before .before .before .before .before .enum-told .given .1)) (found-unread _ _ _ _ _ _ refusal (c .unread2 .ensures));
       claim-bytes = claim-bytes entry;
       proof-bytes = proof-bytes entry;
     }
 
 returns-3 : tie.Need-returns-3
 returns-3 c =
-    let entry = c .before .before .before .before .before .before .before .before .before .before in
-    let got = files-as-read _ _ _ _ (c .before .before .before .read-files .ensures) (c .before .entries .given .1) in
+    let entry = c .before .before .before .before .before .before .before .before .before .before .before .before in
+    let got = files-as-read _ _ _ _ (c .before .before .before .read-beside .ensures _ _ _ _ (c .before .before .before .before .before .read-formed .ensures)) (c .before .entries .given .1) in
     record {
-      told = first-passed _ _ _ _ _ _ _ (ap shown (c .before .before .before .before .before .before .before .before .enum-told .given .1)) (found-read _ _ _ _ _ _ got);
+      told = first-passed _ _ _ _ _ _ _ (ap shown (c .before .before .before .before .before .before .before .before .before .before .enum-told .given .1)) (found-read _ _ _ _ _ _ got);
       claim-bytes = claim-bytes entry;
       proof-bytes = proof-bytes entry;
     }
@@ -76,7 +80,8 @@ find-files-spec =
     enum-known-before
     unread-requires
     enum-told
-    read-files-requires
+    read-formed-requires
+    read-beside-requires
     enum-known-number
     cast-unread
     cast-unread-2

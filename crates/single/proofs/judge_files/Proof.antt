@@ -1,36 +1,47 @@
 -- a refusal before the rules stands; past it the rules judge what was read
-use mathlib.Core.Path.{sym, ap, _∙_}
+use mathlib.Core.Path.{_≡_, refl, sym, ap, _∙_}
+use mathlib.Core.List.{List}
+use Prim.Native.Nat.{ℕ}
 use native.Mathlib.Omega.{arith}
 use borrow.Author.Needs.{needs}
 use Rattle.encoding.specs.Encode.{Bytes}
 use Rattle.encoding.specs.ByteLaws.{lent-bytes}
+use Rattle.claims.specs.ClaimWalk.{claim-as-read}
+use Rattle.reader.specs.Files.{files}
 use Rattle.reader.specs.FilesLaws.{files-as-read, files-as-refused}
 use Rattle.laid.specs.Readable.{readable, readable-judged}
 use Rattle.demands.specs.Check.{answer, verdict}
 use Rattle.single.proofs.judge_files.Statement.{statement}
 use Rattle.single.proofs.judge_files.Tie as tie
 
--- at the entry
-abbrev entry : tie.After-read-files → tie.After-shared-slice-known2
-entry c = c .before .before .before .before .before
+verdict-is : (claim proof : List ℕ) → verdict claim proof ≡ answer (files claim proof)
+unfolding verdict
+verdict-is claim proof = refl
 
-claim-bytes : (c : tie.After-read-files) → Bytes (entry c .before .before .args .claim .now)
+-- at the entry
+abbrev entry : tie.After-read-beside → tie.After-shared-slice-known2
+entry c = c .before .before .before .before .before .before .before
+
+claim-bytes : (c : tie.After-read-beside) → Bytes (entry c .before .before .args .claim .now)
 claim-bytes c = lent-bytes _ (entry c .before .shared-slice-known .given)
 
-proof-bytes : (c : tie.After-read-files) → Bytes (entry c .before .before .args .proof .now)
+proof-bytes : (c : tie.After-read-beside) → Bytes (entry c .before .before .args .proof .now)
 proof-bytes c = lent-bytes _ (entry c .shared-slice-known2 .given)
 
-read-files-requires : tie.Need-read-files-requires
-read-files-requires c κs = search needs
+read-formed-requires : tie.Need-read-formed-requires
+read-formed-requires c κs = search needs
+
+read-beside-requires : tie.Need-read-beside-requires
+read-beside-requires c κs n k is = claim-as-read _ _ _ _ (c .before .read-formed .ensures) is .held .entries
 
 enum-known-number : tie.Need-enum-known-number
 enum-known-number c = search needs
 
-cast-t18 : tie.Need-cast-t18
-cast-t18 c = omega (arith, files-as-refused _ _ _ _ (c .before .before .before .read-files .ensures) (c .before .number .given .1) .small)
+cast-t20 : tie.Need-cast-t20
+cast-t20 c = omega (arith, files-as-refused _ _ _ _ (c .before .before .before .read-beside .ensures _ _ _ _ (c .before .before .before .before .before .read-formed .ensures)) (c .before .number .given .1) .small)
 
-cast-t19 : tie.Need-cast-t19
-cast-t19 c = omega (arith, files-as-refused _ _ _ _ (c .before .before .before .read-files .ensures) (c .before .number .given .1) .small)
+cast-t21 : tie.Need-cast-t21
+cast-t21 c = omega (arith, files-as-refused _ _ _ _ (c .before .before .before .read-beside .ensures _ _ _ _ (c .before .before .before .before .before .read-formed .ensures)) (c .before .number .given .1) .small)
 
 enum-known-entries : tie.Need-enum-known-entries
 enum-known-entries c = search needs
@@ -38,39 +49,37 @@ enum-known-entries c = search needs
 judge-few-requires : tie.Need-judge-few-requires
 judge-few-requires c κs =
     let read = c .before .before .before .before .before .before .before .before in
-    (readable _ _ (claim-bytes read) (proof-bytes read) (files-as-read _ _ _ _ (read .read-files .ensures) (c .before .before .before .before .before .before .entries .given .1)), c .before .before .before .before .if1 .taken)
+    (readable _ _ (claim-bytes read) (proof-bytes read) (files-as-read _ _ _ _ (read .read-beside .ensures _ _ _ _ (read .before .before .read-formed .ensures)) (c .before .before .before .before .before .before .entries .given .1)), c .before .before .before .before .if1 .taken)
 
 returns : tie.Need-returns
-unfolding verdict
 returns c =
     let read = c .before .before .before .before .before .before .before .before .before in
-    let got = files-as-read _ _ _ _ (read .read-files .ensures) (c .before .before .before .before .before .before .before .entries .given .1) in
-    c .judge-few .ensures ∙ sym (ap answer (got .was) ∙ readable-judged _ _ (claim-bytes read) (proof-bytes read) got)
+    let got = files-as-read _ _ _ _ (read .read-beside .ensures _ _ _ _ (read .before .before .read-formed .ensures)) (c .before .before .before .before .before .before .before .entries .given .1) in
+    c .judge-few .ensures ∙ sym (verdict-is _ _ ∙ ap answer (got .was) ∙ readable-judged _ _ (claim-bytes read) (proof-bytes read) got)
 
 judge-many-requires : tie.Need-judge-many-requires
 judge-many-requires c κs =
     let read = c .before .before .before .before .before .before .before .before in
-    readable _ _ (claim-bytes read) (proof-bytes read) (files-as-read _ _ _ _ (read .read-files .ensures) (c .before .before .before .before .before .before .entries .given .1))
+    readable _ _ (claim-bytes read) (proof-bytes read) (files-as-read _ _ _ _ (read .read-beside .ensures _ _ _ _ (read .before .before .read-formed .ensures)) (c .before .before .before .before .before .before .entries .given .1))
 
 returns-2 : tie.Need-returns-2
-unfolding verdict
-returns-2 c = sym (ap answer (files-as-refused _ _ _ _ (c .before .before .before .read-files .ensures) (c .before .number .given .1) .was))
+returns-2 c = sym (verdict-is _ _ ∙ ap answer (files-as-refused _ _ _ _ (c .before .before .before .read-beside .ensures _ _ _ _ (c .before .before .before .before .before .read-formed .ensures)) (c .before .number .given .1) .was))
 
 returns-3 : tie.Need-returns-3
-unfolding verdict
 returns-3 c =
     let read = c .before .before .before .before .before .before .before .before .before in
-    let got = files-as-read _ _ _ _ (read .read-files .ensures) (c .before .before .before .before .before .before .before .entries .given .1) in
-    c .judge-many .ensures ∙ sym (ap answer (got .was) ∙ readable-judged _ _ (claim-bytes read) (proof-bytes read) got)
+    let got = files-as-read _ _ _ _ (read .read-beside .ensures _ _ _ _ (read .before .before .read-formed .ensures)) (c .before .before .before .before .before .before .before .entries .given .1) in
+    c .judge-many .ensures ∙ sym (verdict-is _ _ ∙ ap answer (got .was) ∙ readable-judged _ _ (claim-bytes read) (proof-bytes read) got)
 
 pub judge-files-spec : {M : Type 1} → statement M
 judge-files-spec =
     tie.close
     (tie.spec
-    read-files-requires
+    read-formed-requires
+    read-beside-requires
     enum-known-number
-    cast-t18
-    cast-t19
+    cast-t20
+    cast-t21
     enum-known-entries
     judge-few-requires
     returns
