@@ -159,18 +159,37 @@ fn judge_rows(
     Verdict::Accepted
 }
 
-// The same in rows of its own, which are cleared first: few for a table of few entries.
+// The same in rows of its own for all 256 entries. A function that may call itself is not put into its caller, so its 16,384 bytes are no
+// part of the frame that every call takes; nobody asks for `again`.
+fn judge_many(
+    kinds: &[u8; 256],
+    a: &[u16; 256],
+    b: &[u16; 256],
+    count: usize,
+    again: bool,
+) -> Verdict
+    requires { ⌜ count ≤ 256 ⌝ }
+    requires { ⌜ ((w : ℕ) → w < count → outOf (tableOf (now kinds) (now a) (now b) count) w ≡ false) ⌝ }
+    ensures { λ r. ⌜ shown r ≡ namesFrom (tableOf (now (kinds .entry)) (now (a .entry)) (now (b .entry)) count) count 0 ⌝ }
+{
+    if again {
+        return judge_many(kinds, a, b, count, false);
+    }
+    let mut free_rows = [0u64; 1024];
+    let mut open_rows = [0u64; 1024];
+    judge_rows(kinds, a, b, count, &mut free_rows, &mut open_rows)
+}
+
+// And in few rows for a table of few entries: they are cleared first.
 pub fn judge_names(kinds: &[u8; 256], a: &[u16; 256], b: &[u16; 256], count: usize) -> Verdict
     requires { ⌜ count ≤ 256 ⌝ }
     requires { ⌜ ((w : ℕ) → w < count → outOf (tableOf (now kinds) (now a) (now b) count) w ≡ false) ⌝ }
     ensures { λ r. ⌜ shown r ≡ namesFrom (tableOf (now (kinds .entry)) (now (a .entry)) (now (b .entry)) count) count 0 ⌝ }
 {
-    if count <= 32 {
-        let mut free_rows = [0u64; 128];
-        let mut open_rows = [0u64; 128];
-        return judge_rows(kinds, a, b, count, &mut free_rows, &mut open_rows);
+    if 32 < count {
+        return judge_many(kinds, a, b, count, 256 < count);
     }
-    let mut free_rows = [0u64; 1024];
-    let mut open_rows = [0u64; 1024];
+    let mut free_rows = [0u64; 128];
+    let mut open_rows = [0u64; 128];
     judge_rows(kinds, a, b, count, &mut free_rows, &mut open_rows)
 }
