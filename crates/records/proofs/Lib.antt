@@ -6,6 +6,7 @@ pub mod LocalSlice
 pub mod Locals
 pub mod Returned
 pub mod Literal
+pub mod Frame
 mod At
 mod Put
 pub mod Count

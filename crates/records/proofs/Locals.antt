@@ -73,19 +73,19 @@ module _ (w : Width) (n l : ℕ) where
     one-out t z room x k = use1 W (later (some (λ (p : Loan). ‵ (Token w n l p) ⊛ (‵ (Lent way p x) ⊛ ‵ (Kept way p))))) (lent-out 𝓤 H A W way room x) $ await t z $ pick t (λ p. split3 t $ k p)
 
   module _ (way : Way) {M : Type 1} {𝓤 : URA M} {H : Heap 𝓤} {A : Atoms 𝓤} {K : Type 0} {W : Given 𝓤 H A} {Γ : List (Item 𝓤)} {G : Goal 𝓤 H} where
-    one-lent : K → Soaks G → Room (UInt w) n → ((p : Loan) → Seq K W (‵ (Token w n l p) ∷ ‵ (Lent way p (replicate n 0)) ∷ ‵ (Kept way p) ∷ Γ) G) → Seq K W (‵ (Zeros w n l) ∷ Γ) G
+    pub one-lent : K → Soaks G → Room (UInt w) n → ((p : Loan) → Seq K W (‵ (Token w n l p) ∷ ‵ (Lent way p (replicate n 0)) ∷ ‵ (Kept way p) ∷ Γ) G) → Seq K W (‵ (Zeros w n l) ∷ Γ) G
     one-lent t z room k = use1 W (‵ (Lies w n l (replicate n 0))) (lies-made w n l 𝓤 H A W) $ one-out way t z room (replicate n 0) k
 
     one-relent : (how : Way) → K → Soaks G → Room (UInt w) n → (r : Loan) (x : List ℕ) → ((p : Loan) → Seq K W (‵ (Token w n l p) ∷ ‵ (Lent how p x) ∷ ‵ (Kept how p) ∷ Γ) G) → Seq K W (‵ (Token w n l r) ∷ ‵ (KeptShared way r x) ∷ Γ) G
     one-relent how t z room r x k = use2 W (later (‵ (Lies w n l x))) (shared-in 𝓤 H A W way r x) $ await t z $ one-out how t z room x k
 
-    one-turned : (how : Way) → K → Soaks G → Room (UInt w) n → (p : Loan) (x : List ℕ) → ((r : Loan) → length x ≡ n → Seq K W (‵ (Token w n l r) ∷ ‵ (Shared how r x) ∷ ‵ (KeptShared how r x) ∷ Γ) G)
+    pub one-turned : (how : Way) → K → Soaks G → Room (UInt w) n → (p : Loan) (x : List ℕ) → ((r : Loan) → length x ≡ n → Seq K W (‵ (Token w n l r) ∷ ‵ (Shared how r x) ∷ ‵ (KeptShared how r x) ∷ Γ) G)
         → Seq K W (‵ (Token w n l p) ∷ ‵ (Kept way p) ∷ ‵ (Last way p x) ∷ Γ) G
     one-turned how t z room p x k =
         use3 W (later (‵ (Lies w n l x))) (lent-in 𝓤 H A W way p x) $ await t z $ lies-long w n l t x (λ e.
         use1 W (later (some (λ (r : Loan). ‵ (Token w n l r) ⊛ (‵ (Shared how r x) ⊛ ‵ (KeptShared how r x))))) (shared-out 𝓤 H A W how room x) $ await t z $ pick t (λ r. split3 t $ k r e))
 
-    one-ended : K → Soaks G → (r : Loan) (x : List ℕ) → Step K W (‵ (Freed w n l) ∷ Γ) G (‵ (Token w n l r) ∷ ‵ (KeptShared way r x) ∷ Γ) G
+    pub one-ended : K → Soaks G → (r : Loan) (x : List ℕ) → Step K W (‵ (Freed w n l) ∷ Γ) G (‵ (Token w n l r) ∷ ‵ (KeptShared way r x) ∷ Γ) G
     one-ended t z r x = step (λ s. use2 W (later (‵ (Lies w n l x))) (shared-in 𝓤 H A W way r x) $ await t z $ use1 W (‵ (Freed w n l)) (lies-freed w n l 𝓤 H A W x) $ s)
 
 -- ---- all three
