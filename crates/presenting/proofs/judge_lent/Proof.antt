@@ -42,10 +42,10 @@ use denote.Triple.Clauses.{ensured, lasts}
 use denote.Triple.Walked.{says, needs, Stays, stay-slice, stay-none, stay-none-slice, walkOf, goes-slice, goes-none, goes-none-slice, Walks, ends-at, walked, walk-meets}
 use denote.Exit.{yes}
 -- the judge of what is stored
-use Rattle.presenting.proofs.judge_stored as judge
-use Rattle.presenting.proofs.judge_stored.Symbol as judge-def
-use Rattle.presenting.proofs.judge_stored.Symbol.{name as #judge}
-use Rattle.presenting.proofs.judge_stored.Met as judge-thm
+use Rattle.standing.proofs.judge_stored as judge
+use Rattle.standing.proofs.judge_stored.Symbol as judge-def
+use Rattle.standing.proofs.judge_stored.Symbol.{name as #judge}
+use Rattle.standing.proofs.judge_stored.Met as judge-thm
 use Rattle.verdict.specs.Verdict.{accepted}
 use Rattle.verdict.specs.Lists.{written}
 use Rattle.verdict.specs.Shown.{shown}
@@ -85,7 +85,7 @@ use Rattle.reader.proofs.find_files as find
 use Rattle.reader.proofs.find_files.Symbol as find-def
 use Rattle.reader.proofs.find_files.Symbol.{name as #find}
 use Rattle.reader.proofs.find_files.Met as find-thm
-use Rattle.presenting.specs.LentJudged.{AllLong, LentJudged, nothing-refused, refusal-stands, may-store, may-load, may-judge, lent-judged}
+use Rattle.presenting.specs.LentJudged.{AllLong, LentTold, nothing-refused, refusal-stands, may-store, may-load, may-judge, lent-judged}
 use Rattle.presenting.proofs.judge_lent.Key.{name as #fn}
 use Rattle.presenting.proofs.judge_lent as f
 use Rattle.presenting.proofs.judge_lent.Statement as stated
@@ -151,7 +151,7 @@ module _ {M : Type 1} (𝓤 : URA M) (H : Heap 𝓤) (A : Atoms 𝓤) (W : Given
 
   -- what is judged of the files, and left in the slices
   abbrev Judged : Verdict → List Entry → List Node → List ℕ → Type 0
-  Judged r z-entries z-nodes z-codes = LentJudged (firstly (shown before) (files (claim .now) (proof .now))) (entries .now) (nodes .now) (codes .now) (shown r) z-entries z-nodes z-codes
+  Judged r z-entries z-nodes z-codes = LentTold (shown before) (claim .now) (proof .now) (entries .now) (nodes .now) (codes .now) (shown r) z-entries z-nodes z-codes
 
   exits : (r : Verdict) (v : Val) (z-entries : List Entry) (z-nodes : List Node) (z-codes : List ℕ) → Judged r z-entries z-nodes z-codes → length z-entries ≡ length (entries .now) → length z-nodes ≡ length (nodes .now) → length z-codes ≡ length (codes .now) → ent 𝓤 (⋆ 𝓤 H A (left r v z-entries z-nodes z-codes)) (Post v)
   exits r v z-entries z-nodes z-codes e len-entries len-nodes len-codes =
@@ -177,7 +177,7 @@ module _ {M : Type 1} (𝓤 : URA M) (H : Heap 𝓤) (A : Atoms 𝓤) (W : Given
   module _ (d : Found) (c : Lists) (ms : List ℕ) (told : Told d c ms) where
     -- no node was found
     refuses : T (eqb (d .nodes) 0) → Judged (d .verdict) (entries .now) (nodes .now) (codes .now)
-    refuses none = refusal-stands (claim .now) (proof .now) (told .claim-bytes) (told .proof-bytes) (c .0) (c .1 .0) (c .1 .1) ms d (entries .now) (nodes .now) (codes .now) (eqb→eq (d .nodes) 0 none) (shown before) (told .told)
+    refuses none = record { judged = refusal-stands (claim .now) (proof .now) (told .claim-bytes) (told .proof-bytes) (c .0) (c .1 .0) (c .1 .1) ms d (entries .now) (nodes .now) (codes .now) (eqb→eq (d .nodes) 0 none) (shown before) (told .told); claim-bytes = told .claim-bytes; proof-bytes = told .proof-bytes }
 
     -- a node was found
     module _ (long : shown before ≡ accepted → AllLong (entries .now) (nodes .now) (codes .now)) (found : T (not (eqb (d .nodes) 0))) where
@@ -196,7 +196,7 @@ module _ {M : Type 1} (𝓤 : URA M) (H : Heap 𝓤) (A : Atoms 𝓤) (W : Given
           judges = may-judge (claim .now) (proof .now) (told .claim-bytes) (told .proof-bytes) (passed .1) (long (passed .0)) stored loaded
 
           rules : (j : Verdict) (vs : List Node) (cs : List ℕ) → Ruled d c′ ms j vs cs → Judged j es vs cs
-          rules j vs cs ruled = lent-judged (claim .now) (proof .now) (told .claim-bytes) (told .proof-bytes) (passed .1) (long (passed .0)) stored loaded (passed .0) ruled
+          rules j vs cs ruled = record { judged = lent-judged (claim .now) (proof .now) (told .claim-bytes) (told .proof-bytes) (passed .1) (long (passed .0)) stored loaded (passed .0) ruled; claim-bytes = told .claim-bytes; proof-bytes = told .proof-bytes }
 
   -- ---- the calls, with the columns in the locals 7, 8 and 9 and the members in the local 10
   module _ (l₇ l₈ l₉ l₁₀ : ℕ) where
@@ -485,4 +485,4 @@ judge-lent-spec 𝓤 H 𝓜 𝓖 𝓡 =
     (cited 𝓤 H (Find 𝓤 H (𝓖 .A) (𝓜 .mem) (𝓡 .run)) 𝓜 𝓡 code.env #find find-def.routine code.calls-reader·find-files (find-thm.met 𝓤 H 𝓜 𝓖 𝓡))
     (cited 𝓤 H (Store 𝓤 H (𝓖 .A) (𝓜 .mem) (𝓡 .run)) 𝓜 𝓡 code.env #store store-def.routine code.calls-records·store-entries (store-thm.met 𝓤 H 𝓜 𝓖 𝓡))
     (cited 𝓤 H (Load 𝓤 H (𝓖 .A) (𝓜 .mem) (𝓡 .run)) 𝓜 𝓡 code.env #load load-def.routine code.calls-records·load-entries (load-thm.met 𝓤 H 𝓜 𝓖 𝓡))
-    (cited 𝓤 H (Judge 𝓤 H (𝓖 .A) (𝓜 .mem) (𝓡 .run)) 𝓜 𝓡 code.env #judge judge-def.routine code.calls-presenting·judge-stored (judge-thm.met 𝓤 H 𝓜 𝓖 𝓡)))
+    (cited 𝓤 H (Judge 𝓤 H (𝓖 .A) (𝓜 .mem) (𝓡 .run)) 𝓜 𝓡 code.env #judge judge-def.routine code.calls-standing·judge-stored (judge-thm.met 𝓤 H 𝓜 𝓖 𝓡)))
