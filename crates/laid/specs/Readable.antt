@@ -7,13 +7,10 @@ use native.Mathlib.Omega.{arith}
 use lib.ListN.{length, getD, take}
 use Rattle.verdict.specs.Sets.{elements}
 use Rattle.encoding.specs.Encode.{Bytes}
-use Rattle.encoding.specs.File.{Reading}
-use Rattle.formula.specs.Table.{Table}
 use Rattle.formula.specs.Claim.{Claim, Derivation}
-use Rattle.formula.specs.Codes.{entryOf}
 use Rattle.formula.specs.Nodes.{Node, Proof, node}
 use Rattle.formula.specs.Plain.{tableOf, tableOf-length}
-use Rattle.formula.specs.PlainNodes.{codesAt, plainNode, proofOf, proofOf-node}
+use Rattle.formula.specs.PlainNodes.{codesAt, proofOf, proofOf-node}
 use Rattle.formula.specs.Held.{heldClaim, heldProof}
 use Rattle.formula.specs.Records.{allCodes}
 use Rattle.formula.specs.NodeColumns.{Columns, start-stands}
@@ -29,7 +26,7 @@ use Rattle.nodes.specs.ProofStored.{NodesStored, stored-proof}
 use Rattle.calculus.specs.Judge.{judge}
 use Rattle.sequents.specs.Placed.{Members, Entries}
 use Rattle.rules.specs.JudgeStages.{Laid}
-use Rattle.reader.specs.Files.{Files, files}
+use Rattle.reader.specs.Files.{files}
 use Rattle.reader.specs.FilesExact.{files-exactly}
 use Rattle.reader.specs.Found.{FilesGot}
 use Rattle.reader.specs.WellFormed as reader

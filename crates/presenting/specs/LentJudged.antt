@@ -1,7 +1,7 @@
 -- the files behind what stands before them, judged as they stand in the lent slices
 use mathlib.Core.Path.{_≡_, refl, sym, ap, _∙_}
 use mathlib.Core.List.{List}
-use Prim.Native.Nat.{ℕ, _*_, _≤_}
+use Prim.Native.Nat.{ℕ, _≤_}
 use native.Mathlib.Omega.{arith}
 use lib.ListN.{length}
 use Rattle.verdict.specs.Verdict as verdicts
@@ -15,12 +15,12 @@ use Rattle.formula.specs.Claim.{Claim, Derivation}
 use Rattle.formula.specs.Plain.{tableOf, tableOf-length}
 use Rattle.formula.specs.Held.{heldClaim}
 use Rattle.calculus.specs.Judge.{judge}
-use Rattle.records.specs.Records.{shownEntry, shownEntries, firstEntries, entriesOf, EntryRoom, EntriesLoaded}
+use Rattle.records.specs.Records.{shownEntry, shownEntries, entriesOf, EntryRoom, EntriesLoaded}
 use Rattle.records.specs.Shown.{map-written, entries-shown, loaded-table}
 use Rattle.records.specs.declared.Entry.{Entry}
 use Rattle.records.specs.declared.Node.{Node}
 use Rattle.reader.specs.Files.{Files, firstly, files}
-use Rattle.reader.specs.Found.{FilesGot, Unread, Tells}
+use Rattle.reader.specs.Found.{FilesGot, Tells}
 use Rattle.reader.specs.declared.Found.{Found}
 use Rattle.laid.specs.Readable.{Readable, proofAt, count, same-proof, same-entries, readable, readable-judged}
 use Rattle.standing.specs.Standing.{RoomFor, JudgedStored}

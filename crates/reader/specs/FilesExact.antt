@@ -1,6 +1,6 @@
 -- the reading is exact: it gives exactly the files that are well formed, and refuses others with exactly the refusal that they earn
-use mathlib.Core.Path.{_≡_, refl, sym}
-use mathlib.Core.Logic.{_⊎_, inl, inr}
+use mathlib.Core.Path.{_≡_, refl}
+use mathlib.Core.Logic.{inl, inr}
 use mathlib.Core.List.{List}
 use Prim.Native.Nat.{ℕ}
 use Rattle.encoding.specs.Encode.{Bytes}

@@ -7,7 +7,6 @@ use lib.ListN.{length}
 use Rattle.verdict.specs.Verdict as verdicts
 use Rattle.verdict.specs.Verdict.{Verdict, accepted}
 use Rattle.verdict.specs.VerdictLaws.{accepted-not-refused}
-use Rattle.verdict.specs.Shown.{shown}
 use Rattle.encoding.specs.File.{Reading, refused, good}
 use Rattle.encoding.specs.Outcome.{verdictOf, RefusedWith}
 use Rattle.formula.specs.Claim.{Claim, Derivation}

@@ -1,6 +1,6 @@
--- `judge_lent` meets its contract: a walk of its MIR, with a branch and an early return. The three columns of the entries and the members are locals: they are lent to `find_files` as arrays,
--- the columns are shared with `store_entries` and lent to `load_entries` as slices, and all four are shared with `judge_stored` as arrays (`records`' `Locals.antt`). The lent slices are lent again, or shared, and come back (`Slice.antt`).
--- All that the proof knows of the four callees is that each meets its contract. `after-…` says what a call leaves in the context.
+-- `judge_lent` meets its contract: a walk of its MIR. `walk` goes up to the branch and through the early return, `goes-on` stores the entries and loads them, and `goes-judged` has them judged.
+-- The three columns of the entries and the members are locals: they are lent to `find_files` as arrays, the columns are shared with `store_entries` and lent to `load_entries` as slices, and all four are shared with `judge_stored` as arrays (`records`' `Locals.antt`). The lent slices are lent again, or shared, and come back (`Slice.antt`).
+-- All that the proof knows of the four callees is that each meets its contract: `goes-…` makes what a call takes, and `after-…` says what it leaves.
 use mathlib.Core.Path.{_≡_, refl, sym, ap, subst}
 use Prim.Native.Nat.{ℕ, _≤_}
 use mathlib.Core.List.{[], _∷_, List, _++_}
@@ -76,7 +76,7 @@ use Rattle.records.proofs.load_entries.Symbol.{name as #load}
 use Rattle.records.proofs.load_entries.Met as load-thm
 use Rattle.laid.specs.Readable.{Readable, proofAt}
 use Rattle.standing.specs.Standing.{RoomFor, JudgedStored}
-use Rattle.reader.specs.Files.{firstly, files}
+use Rattle.reader.specs.Files.{files}
 use Rattle.reader.specs.Found.{FilesTold, FilesGot}
 use Rattle.reader.specs.declared.Found.{Found}
 use Rattle.reader.proofs.Found as F
@@ -198,30 +198,30 @@ module _ {M : Type 1} (𝓤 : URA M) (H : Heap 𝓤) (A : Atoms 𝓤) (W : Given
           rules : (j : Verdict) (vs : List Node) (cs : List ℕ) → Ruled d c′ ms j vs cs → Judged j es vs cs
           rules j vs cs ruled = record { judged = lent-judged (claim .now) (proof .now) (told .claim-bytes) (told .proof-bytes) (passed .1) (long (passed .0)) stored loaded (passed .0) ruled; claim-bytes = told .claim-bytes; proof-bytes = told .proof-bytes }
 
-  -- ---- the calls, with the columns in the locals 7, 8 and 9 and the members in the local 10
-  module _ (l₇ l₈ l₉ l₁₀ : ℕ) where
+  -- ---- the calls, with local i at the place l i: the columns in the locals 7, 8 and 9, the members in the local 10
+  module _ (l : ℕ → ℕ) where
     abbrev columns : Three
-    columns = entryColumns l₇ l₈ l₉
+    columns = entryColumns (l 7) (l 8) (l 9)
 
     -- no member is listed before the claim is read
     abbrev none-listed : List ℕ
     none-listed = replicate 24 0
 
     abbrev Token-members : Loan → Fml
-    Token-members = Token w16 24 l₁₀
+    Token-members = Token w16 24 (l 10)
 
     -- `find_files(before, claim, proof, &mut kinds, &mut a, &mut b, &mut members)`
     abbrev find-args : Loans → Loan → Verdict × (RefT (List ℕ) × (RefT (List ℕ) × (RefT (List ℕ) × (RefT (List ℕ) × (RefT (List ℕ) × (RefT (List ℕ) × Unit {0}))))))
-    find-args p m = (before, (claim, (proof, (ref w8 256 l₇ (p .0 .1) (replicate 256 0), (ref w16 256 l₈ (p .1 .0 .1) (replicate 256 0), (ref w16 256 l₉ (p .1 .1 .1) (replicate 256 0), (ref w16 24 l₁₀ (m .1) none-listed, tt)))))))
+    find-args p m = (before, (claim, (proof, (ref w8 256 (l 7) (p .0 .1) (replicate 256 0), (ref w16 256 (l 8) (p .1 .0 .1) (replicate 256 0), (ref w16 256 (l 9) (p .1 .1 .1) (replicate 256 0), (ref w16 24 (l 10) (m .1) none-listed, tt)))))))
 
     abbrev find-lfts : Loans → Loan → Lft × (Lft × (Lft × (Lft × (Lft × (Lft × Unit {0})))))
     find-lfts p m = (κ₀, (κ₁, (p .0 .0 ∷ [], (p .1 .0 .0 ∷ [], (p .1 .1 .0 ∷ [], (m .0 ∷ [], tt))))))
 
     abbrev to-find : Loans → Loan → Find 𝓤 H A mem run .Ghost
-    to-find p m = ((find-lfts p m, (q₀, (q₁, (fullShare, (fullShare, (fullShare, (fullShare, tt)))))), tt, find-args p m, (v-before ∷ [], (v-claim ∷ [], (v-proof ∷ [], (vptr l₇ 0 ∷ [], (vptr l₈ 0 ∷ [], (vptr l₉ 0 ∷ [], (vptr l₁₀ 0 ∷ [], tt)))))))), tt)
+    to-find p m = ((find-lfts p m, (q₀, (q₁, (fullShare, (fullShare, (fullShare, (fullShare, tt)))))), tt, find-args p m, (v-before ∷ [], (v-claim ∷ [], (v-proof ∷ [], (vptr (l 7) 0 ∷ [], (vptr (l 8) 0 ∷ [], (vptr (l 9) 0 ∷ [], (vptr (l 10) 0 ∷ [], tt)))))))), tt)
 
     abbrev to-be-found : Loans → Loan → List (Item 𝓤)
-    to-be-found p m = ‵ Own-claim ∷ ‵ Own-proof ∷ lent columns 𝓤 array p (noughts columns) ++ ‵ (locals.Lent w16 24 l₁₀ m none-listed) ∷ ‵ (flft κ₀ q₀) ∷ ‵ (flft κ₁ q₁) ∷ tokens columns 𝓤 p ++ ‵ (Token-members m) ∷ []
+    to-be-found p m = ‵ Own-claim ∷ ‵ Own-proof ∷ lent columns 𝓤 array p (noughts columns) ++ ‵ (locals.Lent w16 24 (l 10) m none-listed) ∷ ‵ (flft κ₀ q₀) ∷ ‵ (flft κ₁ q₁) ∷ tokens columns 𝓤 p ++ ‵ (Token-members m) ∷ []
 
     goes-find : (p : Loans) (m : Loan) → ent 𝓤 (⋆ 𝓤 H A (to-be-found p m)) (Find 𝓤 H A mem run .pre (to-find p m))
     goes-find p m =
@@ -232,9 +232,9 @@ module _ {M : Type 1} (𝓤 : URA M) (H : Heap 𝓤) (A : Atoms 𝓤) (W : Given
         owned ! Ver.the-row (Is Ver.the-row) (EL.makes Ver.the-type Ver′.the-plain 𝓤 H A) before _ g-before $ fjoin ! $ done !
 
     module _ {K : Type 0} {Γ : List (Item 𝓤)} {G : Goal 𝓤 H} where
-      after-find : K → Soaks G → (p : Loans) (m : Loan) (v : Val) → ((d : Found) (c : Lists) (ms : List ℕ) → Told d c ms → Is F.the-row d (v ∷ []) → Seq K W (‵ (flft κ₀ q₀) ∷ ‵ (flft κ₁ q₁) ∷ tokens columns 𝓤 p ++ ‵ (Token-members m) ∷ last columns 𝓤 array p c ++ ‵ (locals.Last w16 24 l₁₀ m ms) ∷ Γ) G) → Seq K W (raw (Find 𝓤 H A mem run .post (to-find p m) v) ∷ Γ) G
+      after-find : K → Soaks G → (p : Loans) (m : Loan) (v : Val) → ((d : Found) (c : Lists) (ms : List ℕ) → Told d c ms → Is F.the-row d (v ∷ []) → Seq K W (‵ (flft κ₀ q₀) ∷ ‵ (flft κ₁ q₁) ∷ tokens columns 𝓤 p ++ ‵ (Token-members m) ∷ last columns 𝓤 array p c ++ ‵ (locals.Last w16 24 (l 10) m ms) ∷ Γ) G) → Seq K W (raw (Find 𝓤 H A mem run .post (to-find p m) v) ∷ Γ) G
       after-find t z p m v k =
-          use1 W (later (some (λ (d : Found). ((‵ (flft κ₀ q₀) ⊛ (‵ (flft κ₁ q₁) ⊛ (‵ (Token w8 256 l₇ (p .0)) ⊛ (‵ (Token w16 256 l₈ (p .1 .0)) ⊛ (‵ (Token w16 256 l₉ (p .1 .1)) ⊛ (‵ (Token-members m) ⊛ ‵ ftrue)))))) ⊛ ‵ (F.the-row .own d (v ∷ []))) ⊛ raw (ensured 𝓤 H A find.ended (find.clauses 𝓤 H A mem run) (find-lfts p m) (find-args p m) tt d)))) (id⊢ 𝓤 _) $ await t z $ pick t (λ d.
+          use1 W (later (some (λ (d : Found). ((‵ (flft κ₀ q₀) ⊛ (‵ (flft κ₁ q₁) ⊛ (‵ (Token w8 256 (l 7) (p .0)) ⊛ (‵ (Token w16 256 (l 8) (p .1 .0)) ⊛ (‵ (Token w16 256 (l 9) (p .1 .1)) ⊛ (‵ (Token-members m) ⊛ ‵ ftrue)))))) ⊛ ‵ (F.the-row .own d (v ∷ []))) ⊛ raw (ensured 𝓤 H A find.ended (find.clauses 𝓤 H A mem run) (find-lfts p m) (find-args p m) tt d)))) (id⊢ 𝓤 _) $ await t z $ pick t (λ d.
           split t $ move t (1 ∷ []) $ use1 W (some (λ (ws : Unit {0} × (Unit {0} × (Unit {0} × (List ℕ × (List ℕ × (List ℕ × (List ℕ × Unit {0}))))))). ‵ (lasts find.ended (find-lfts p m) (find-args p m) ws) ⊛ raw (fact 𝓤 (Told d (ws .1 .1 .1 .0, (ws .1 .1 .1 .1 .0, ws .1 .1 .1 .1 .1 .0)) (ws .1 .1 .1 .1 .1 .1 .0))))) (id⊢ 𝓤 _) $ pick t (λ ws.
           split t $ move t (1 ∷ []) $ heard t (Told d (ws .1 .1 .1 .0, (ws .1 .1 .1 .1 .0, ws .1 .1 .1 .1 .1 .0)) (ws .1 .1 .1 .1 .1 .1 .0)) (λ told. fsplit t $ move t (1 ∷ []) $ fsplit t $ move t (1 ∷ []) $ fsplit t $ move t (1 ∷ []) $ fsplit t $ move t (1 ∷ []) $ fsplit t $ move t (1 ∷ []) $ fsplit t $ move t (1 ∷ []) $ fsplit t $ move t (1 ∷ []) $ drop t $ move t (6 ∷ 5 ∷ 4 ∷ []) $ drop t $ drop t $ drop t $
           move t (4 ∷ []) $ split t $ split t $ move t (1 ∷ []) $ split t $ move t (1 ∷ []) $ split t $ move t (1 ∷ []) $ split t $ move t (1 ∷ []) $ split t $ move t (1 ∷ []) $ split t $ move t (1 ∷ []) $ drop t $ move t (6 ∷ []) $ facts t F.the-row (Is F.the-row) (shows 𝓤 H A F.the-row) d (v ∷ []) (λ is. move t (5 ∷ 4 ∷ 3 ∷ 2 ∷ 1 ∷ 0 ∷ 9 ∷ 8 ∷ 7 ∷ 6 ∷ []) $ k d (ws .1 .1 .1 .0, (ws .1 .1 .1 .1 .0, ws .1 .1 .1 .1 .1 .0)) (ws .1 .1 .1 .1 .1 .1 .0) told is))))
@@ -242,13 +242,13 @@ module _ {M : Type 1} (𝓤 : URA M) (H : Heap 𝓤) (A : Atoms 𝓤) (W : Given
     module _ (d : Found) where
       -- `store_entries(entries, &kinds, &a, &b, found.entries)`
       abbrev store-args : Loan → Loans → Lists → RefT (List Entry) × (RefT (List ℕ) × (RefT (List ℕ) × (RefT (List ℕ) × (ℕ × Unit {0}))))
-      store-args e r c = (renamed entries (e .1) (entries .now), (ref w8 256 l₇ (r .0 .1) (c .0), (ref w16 256 l₈ (r .1 .0 .1) (c .1 .0), (ref w16 256 l₉ (r .1 .1 .1) (c .1 .1), (d .entries, tt)))))
+      store-args e r c = (renamed entries (e .1) (entries .now), (ref w8 256 (l 7) (r .0 .1) (c .0), (ref w16 256 (l 8) (r .1 .0 .1) (c .1 .0), (ref w16 256 (l 9) (r .1 .1 .1) (c .1 .1), (d .entries, tt)))))
 
       abbrev store-lfts : Loan → Loans → Lft × (Lft × (Lft × (Lft × Unit {0})))
       store-lfts e r = (e .0 ∷ [], (r .0 .0 ∷ [], (r .1 .0 .0 ∷ [], (r .1 .1 .0 ∷ [], tt))))
 
       abbrev to-store : Loan → Loans → Lists → Store 𝓤 H A mem run .Ghost
-      to-store e r c = ((store-lfts e r, (fullShare, (fullShare, (fullShare, (fullShare, tt)))), tt, store-args e r c, (v-entries ∷ [], (sliceVal (l₇, 0) 256 ∷ [], (sliceVal (l₈, 0) 256 ∷ [], (sliceVal (l₉, 0) 256 ∷ [], (vint w64 (d .entries) ∷ [], tt)))))), tt)
+      to-store e r c = ((store-lfts e r, (fullShare, (fullShare, (fullShare, (fullShare, tt)))), tt, store-args e r c, (v-entries ∷ [], (sliceVal (l 7, 0) 256 ∷ [], (sliceVal (l 8, 0) 256 ∷ [], (sliceVal (l 9, 0) 256 ∷ [], (vint w64 (d .entries) ∷ [], tt)))))), tt)
 
       abbrev to-be-stored : Loan → Loans → Lists → List (Item 𝓤)
       to-be-stored e r c = ‵ (slices.Lent E.the-row κ₂ q₂ entries (length (entries .now)) e (entries .now)) ∷ shared columns 𝓤 slice r c ++ ‵ (flft (e .0 ∷ []) fullShare) ∷ tokens columns 𝓤 r
@@ -263,7 +263,7 @@ module _ {M : Type 1} (𝓤 : URA M) (H : Heap 𝓤) (A : Atoms 𝓤) (W : Given
       module _ {K : Type 0} {Γ : List (Item 𝓤)} {G : Goal 𝓤 H} where
         after-store : K → Soaks G → (e : Loan) (r : Loans) (c : Lists) (v : Val) → ((es : List Entry) → Stored d c es → length es ≡ length (entries .now) → v ∷ [] ≡ vunit ∷ [] → Seq K W (‵ (flft (e .0 ∷ []) fullShare) ∷ tokens columns 𝓤 r ++ ‵ (finally E.the-row (e .1) es) ∷ Γ) G) → Seq K W (raw (Store 𝓤 H A mem run .post (to-store e r c) v) ∷ Γ) G
         after-store t z e r c v k =
-            use1 W (later (some (λ (u : Unit {0}). ((‵ (flft (e .0 ∷ []) fullShare) ⊛ (‵ (Token w8 256 l₇ (r .0)) ⊛ (‵ (Token w16 256 l₈ (r .1 .0)) ⊛ (‵ (Token w16 256 l₉ (r .1 .1)) ⊛ ‵ ftrue)))) ⊛ ‵ (Nothing .own u (v ∷ []))) ⊛ raw (ensured 𝓤 H A store-rows.ended (store-rows.clauses 𝓤 H A mem run) (store-lfts e r) (store-args e r c) tt u)))) (id⊢ 𝓤 _) $ await t z $ pick t (λ u.
+            use1 W (later (some (λ (u : Unit {0}). ((‵ (flft (e .0 ∷ []) fullShare) ⊛ (‵ (Token w8 256 (l 7) (r .0)) ⊛ (‵ (Token w16 256 (l 8) (r .1 .0)) ⊛ (‵ (Token w16 256 (l 9) (r .1 .1)) ⊛ ‵ ftrue)))) ⊛ ‵ (Nothing .own u (v ∷ []))) ⊛ raw (ensured 𝓤 H A store-rows.ended (store-rows.clauses 𝓤 H A mem run) (store-lfts e r) (store-args e r c) tt u)))) (id⊢ 𝓤 _) $ await t z $ pick t (λ u.
             split t $ move t (1 ∷ []) $ use1 W (some (λ (ws : List Entry × (Unit {0} × (Unit {0} × (Unit {0} × (Unit {0} × Unit {0}))))). ‵ (lasts store-rows.ended (store-lfts e r) (store-args e r c) ws) ⊛ raw (fact 𝓤 (Stored d c (ws .0))))) (id⊢ 𝓤 _) $ pick t (λ ws.
             split t $ move t (1 ∷ []) $ heard t (Stored d c (ws .0)) (λ stored. fsplit t $ move t (1 ∷ []) $ fsplit t $ move t (1 ∷ []) $ fsplit t $ move t (1 ∷ []) $ fsplit t $ move t (1 ∷ []) $ fsplit t $ move t (1 ∷ []) $ drop t $ move t (3 ∷ 2 ∷ 1 ∷ 0 ∷ []) $ drop t $ drop t $ drop t $ drop t $ fsplit t $ move t (1 ∷ []) $ feqL t (λ len.
             move t (1 ∷ []) $ split t $ split t $ move t (1 ∷ []) $ split t $ move t (1 ∷ []) $ split t $ move t (1 ∷ []) $ split t $ move t (1 ∷ []) $ drop t $ move t (4 ∷ []) $ feqL t (λ unit. move t (3 ∷ 2 ∷ 1 ∷ 0 ∷ 4 ∷ []) $ k (ws .0) stored len unit)))))
@@ -271,13 +271,13 @@ module _ {M : Type 1} (𝓤 : URA M) (H : Heap 𝓤) (A : Atoms 𝓤) (W : Given
       -- `load_entries(entries, found.entries, &mut kinds, &mut a, &mut b)`
       module _ (es : List Entry) where
         abbrev load-args : Loan → Loans → Lists → RefT (List Entry) × (ℕ × (RefT (List ℕ) × (RefT (List ℕ) × (RefT (List ℕ) × Unit {0}))))
-        load-args e p c = (renamed entries (e .1) es, (d .entries, (ref w8 256 l₇ (p .0 .1) (c .0), (ref w16 256 l₈ (p .1 .0 .1) (c .1 .0), (ref w16 256 l₉ (p .1 .1 .1) (c .1 .1), tt)))))
+        load-args e p c = (renamed entries (e .1) es, (d .entries, (ref w8 256 (l 7) (p .0 .1) (c .0), (ref w16 256 (l 8) (p .1 .0 .1) (c .1 .0), (ref w16 256 (l 9) (p .1 .1 .1) (c .1 .1), tt)))))
 
         abbrev load-lfts : Loan → Loans → Lft × (Lft × (Lft × (Lft × Unit {0})))
         load-lfts e p = (e .0 ∷ [], (p .0 .0 ∷ [], (p .1 .0 .0 ∷ [], (p .1 .1 .0 ∷ [], tt))))
 
         abbrev to-load : Loan → Loans → Lists → Load 𝓤 H A mem run .Ghost
-        to-load e p c = ((load-lfts e p, (fullShare, (fullShare, (fullShare, (fullShare, tt)))), tt, load-args e p c, (v-entries ∷ [], (vint w64 (d .entries) ∷ [], (sliceVal (l₇, 0) 256 ∷ [], (sliceVal (l₈, 0) 256 ∷ [], (sliceVal (l₉, 0) 256 ∷ [], tt)))))), tt)
+        to-load e p c = ((load-lfts e p, (fullShare, (fullShare, (fullShare, (fullShare, tt)))), tt, load-args e p c, (v-entries ∷ [], (vint w64 (d .entries) ∷ [], (sliceVal (l 7, 0) 256 ∷ [], (sliceVal (l 8, 0) 256 ∷ [], (sliceVal (l 9, 0) 256 ∷ [], tt)))))), tt)
 
         abbrev to-be-loaded : Loan → Loans → Lists → List (Item 𝓤)
         to-be-loaded e p c = ‵ (slices.Shared E.the-row κ₂ q₂ entries (length (entries .now)) e es) ∷ lent columns 𝓤 slice p c ++ ‵ (flft (e .0 ∷ []) fullShare) ∷ tokens columns 𝓤 p
@@ -292,7 +292,7 @@ module _ {M : Type 1} (𝓤 : URA M) (H : Heap 𝓤) (A : Atoms 𝓤) (W : Given
         module _ {K : Type 0} {Γ : List (Item 𝓤)} {G : Goal 𝓤 H} where
           after-load : K → Soaks G → (e : Loan) (p : Loans) (c : Lists) (v : Val) → ((c′ : Lists) → Loaded d c es c′ → v ∷ [] ≡ vunit ∷ [] → Seq K W (‵ (flft (e .0 ∷ []) fullShare) ∷ tokens columns 𝓤 p ++ last columns 𝓤 slice p c′ ++ Γ) G) → Seq K W (raw (Load 𝓤 H A mem run .post (to-load e p c) v) ∷ Γ) G
           after-load t z e p c v k =
-              use1 W (later (some (λ (u : Unit {0}). ((‵ (flft (e .0 ∷ []) fullShare) ⊛ (‵ (Token w8 256 l₇ (p .0)) ⊛ (‵ (Token w16 256 l₈ (p .1 .0)) ⊛ (‵ (Token w16 256 l₉ (p .1 .1)) ⊛ ‵ ftrue)))) ⊛ ‵ (Nothing .own u (v ∷ []))) ⊛ raw (ensured 𝓤 H A load-rows.ended (load-rows.clauses 𝓤 H A mem run) (load-lfts e p) (load-args e p c) tt u)))) (id⊢ 𝓤 _) $ await t z $ pick t (λ u.
+              use1 W (later (some (λ (u : Unit {0}). ((‵ (flft (e .0 ∷ []) fullShare) ⊛ (‵ (Token w8 256 (l 7) (p .0)) ⊛ (‵ (Token w16 256 (l 8) (p .1 .0)) ⊛ (‵ (Token w16 256 (l 9) (p .1 .1)) ⊛ ‵ ftrue)))) ⊛ ‵ (Nothing .own u (v ∷ []))) ⊛ raw (ensured 𝓤 H A load-rows.ended (load-rows.clauses 𝓤 H A mem run) (load-lfts e p) (load-args e p c) tt u)))) (id⊢ 𝓤 _) $ await t z $ pick t (λ u.
               split t $ move t (1 ∷ []) $ use1 W (some (λ (ws : Unit {0} × (Unit {0} × (List ℕ × (List ℕ × (List ℕ × Unit {0}))))). ‵ (lasts load-rows.ended (load-lfts e p) (load-args e p c) ws) ⊛ raw (fact 𝓤 (Loaded d c es (ws .1 .1 .0, (ws .1 .1 .1 .0, ws .1 .1 .1 .1 .0)))))) (id⊢ 𝓤 _) $ pick t (λ ws.
               split t $ move t (1 ∷ []) $ heard t (Loaded d c es (ws .1 .1 .0, (ws .1 .1 .1 .0, ws .1 .1 .1 .1 .0))) (λ loaded. fsplit t $ move t (1 ∷ []) $ fsplit t $ move t (1 ∷ []) $ fsplit t $ move t (1 ∷ []) $ fsplit t $ move t (1 ∷ []) $ fsplit t $ move t (1 ∷ []) $ drop t $ move t (4 ∷ 3 ∷ []) $ drop t $ drop t $ move t (2 ∷ []) $ fsplit t $ move t (1 ∷ []) $ feqL t (λ _. move t (2 ∷ []) $ fsplit t $ move t (1 ∷ []) $ feqL t (λ _. move t (2 ∷ []) $ fsplit t $ move t (1 ∷ []) $ feqL t (λ _.
               move t (3 ∷ []) $ split t $ split t $ move t (1 ∷ []) $ split t $ move t (1 ∷ []) $ split t $ move t (1 ∷ []) $ split t $ move t (1 ∷ []) $ drop t $ move t (4 ∷ []) $ feqL t (λ unit. move t (3 ∷ 2 ∷ 1 ∷ 0 ∷ 6 ∷ 5 ∷ 4 ∷ []) $ k (ws .1 .1 .0, (ws .1 .1 .1 .0, ws .1 .1 .1 .1 .0)) loaded unit)))))))
@@ -300,16 +300,16 @@ module _ {M : Type 1} (𝓤 : URA M) (H : Heap 𝓤) (A : Atoms 𝓤) (W : Given
       -- `judge_stored(proof, &kinds, &a, &b, found.entries, &members, found.listed, found.nodes, nodes, codes)`
       module _ (c : Lists) (ms : List ℕ) where
         abbrev judge-args : Loans → Loan → Loan → Loan → RefT (List ℕ) × (RefT (List ℕ) × (RefT (List ℕ) × (RefT (List ℕ) × (ℕ × (RefT (List ℕ) × (ℕ × (ℕ × (RefT (List Node) × (RefT (List ℕ) × Unit {0})))))))))
-        judge-args r m n o = (proof, (ref w8 256 l₇ (r .0 .1) (c .0), (ref w16 256 l₈ (r .1 .0 .1) (c .1 .0), (ref w16 256 l₉ (r .1 .1 .1) (c .1 .1), (d .entries, (ref w16 24 l₁₀ (m .1) ms, (d .listed, (d .nodes, (renamed nodes (n .1) (nodes .now), (renamed codes (o .1) (codes .now), tt))))))))))
+        judge-args r m n o = (proof, (ref w8 256 (l 7) (r .0 .1) (c .0), (ref w16 256 (l 8) (r .1 .0 .1) (c .1 .0), (ref w16 256 (l 9) (r .1 .1 .1) (c .1 .1), (d .entries, (ref w16 24 (l 10) (m .1) ms, (d .listed, (d .nodes, (renamed nodes (n .1) (nodes .now), (renamed codes (o .1) (codes .now), tt))))))))))
 
         abbrev judge-lfts : Loans → Loan → Loan → Loan → Lft × (Lft × (Lft × (Lft × (Lft × (Lft × (Lft × Unit {0}))))))
         judge-lfts r m n o = (κ₁, (r .0 .0 ∷ [], (r .1 .0 .0 ∷ [], (r .1 .1 .0 ∷ [], (m .0 ∷ [], (n .0 ∷ [], (o .0 ∷ [], tt)))))))
 
         abbrev to-judge : Loans → Loan → Loan → Loan → Judge 𝓤 H A mem run .Ghost
-        to-judge r m n o = ((judge-lfts r m n o, (q₁, (fullShare, (fullShare, (fullShare, (fullShare, (fullShare, (fullShare, tt))))))), tt, judge-args r m n o, (v-proof ∷ [], (vptr l₇ 0 ∷ [], (vptr l₈ 0 ∷ [], (vptr l₉ 0 ∷ [], (vint w64 (d .entries) ∷ [], (vptr l₁₀ 0 ∷ [], (vint w64 (d .listed) ∷ [], (vint w64 (d .nodes) ∷ [], (v-nodes ∷ [], (v-codes ∷ [], tt))))))))))), tt)
+        to-judge r m n o = ((judge-lfts r m n o, (q₁, (fullShare, (fullShare, (fullShare, (fullShare, (fullShare, (fullShare, tt))))))), tt, judge-args r m n o, (v-proof ∷ [], (vptr (l 7) 0 ∷ [], (vptr (l 8) 0 ∷ [], (vptr (l 9) 0 ∷ [], (vint w64 (d .entries) ∷ [], (vptr (l 10) 0 ∷ [], (vint w64 (d .listed) ∷ [], (vint w64 (d .nodes) ∷ [], (v-nodes ∷ [], (v-codes ∷ [], tt))))))))))), tt)
 
         abbrev to-be-judged : Loans → Loan → Loan → Loan → List (Item 𝓤)
-        to-be-judged r m n o = ‵ Own-proof ∷ shared columns 𝓤 array r c ++ ‵ (locals.Shared w16 24 l₁₀ m ms) ∷ ‵ (slices.Lent T.the-row κ₃ q₃ nodes (length (nodes .now)) n (nodes .now)) ∷ ‵ (slices.Lent u16 κ₄ q₄ codes (length (codes .now)) o (codes .now)) ∷ ‵ (flft κ₁ q₁) ∷ tokens columns 𝓤 r ++ ‵ (Token-members m) ∷ ‵ (flft (n .0 ∷ []) fullShare) ∷ ‵ (flft (o .0 ∷ []) fullShare) ∷ []
+        to-be-judged r m n o = ‵ Own-proof ∷ shared columns 𝓤 array r c ++ ‵ (locals.Shared w16 24 (l 10) m ms) ∷ ‵ (slices.Lent T.the-row κ₃ q₃ nodes (length (nodes .now)) n (nodes .now)) ∷ ‵ (slices.Lent u16 κ₄ q₄ codes (length (codes .now)) o (codes .now)) ∷ ‵ (flft κ₁ q₁) ∷ tokens columns 𝓤 r ++ ‵ (Token-members m) ∷ ‵ (flft (n .0 ∷ []) fullShare) ∷ ‵ (flft (o .0 ∷ []) fullShare) ∷ []
 
         goes-judge : (r : Loans) (m n o : Loan) → Is F.the-row d (LL.val F.the-type F′.the-laws d ∷ []) → Readable (c .0) (c .1 .0) (c .1 .1) (d .entries) ms (d .listed) (proof .now) (d .nodes) × RoomFor 1024 (d .nodes) (nodes .now) (codes .now) → ent 𝓤 (⋆ 𝓤 H A (to-be-judged r m n o)) (Judge 𝓤 H A mem run .pre (to-judge r m n o))
         goes-judge r m n o is may =
@@ -323,12 +323,12 @@ module _ {M : Type 1} (𝓤 : URA M) (H : Heap 𝓤) (A : Atoms 𝓤) (W : Given
         module _ {K : Type 0} {Γ : List (Item 𝓤)} {G : Goal 𝓤 H} where
           after-judge : K → Soaks G → (r : Loans) (m n o : Loan) (v : Val) → ((j : Verdict) (vs : List Node) (cs : List ℕ) → Ruled d c ms j vs cs → length vs ≡ length (nodes .now) → length cs ≡ length (codes .now) → Is Ver.the-row j (v ∷ []) → Seq K W (‵ (Ver.the-row .own j (v ∷ [])) ∷ ‵ (flft κ₁ q₁) ∷ tokens columns 𝓤 r ++ ‵ (Token-members m) ∷ ‵ (flft (n .0 ∷ []) fullShare) ∷ ‵ (flft (o .0 ∷ []) fullShare) ∷ ‵ (finally T.the-row (n .1) vs) ∷ ‵ (finally u16 (o .1) cs) ∷ Γ) G) → Seq K W (raw (Judge 𝓤 H A mem run .post (to-judge r m n o) v) ∷ Γ) G
           after-judge t z r m n o v k =
-              use1 W (later (some (λ (j : Verdict). ((‵ (flft κ₁ q₁) ⊛ (‵ (Token w8 256 l₇ (r .0)) ⊛ (‵ (Token w16 256 l₈ (r .1 .0)) ⊛ (‵ (Token w16 256 l₉ (r .1 .1)) ⊛ (‵ (Token-members m) ⊛ (‵ (flft (n .0 ∷ []) fullShare) ⊛ (‵ (flft (o .0 ∷ []) fullShare) ⊛ ‵ ftrue))))))) ⊛ ‵ (Ver.the-row .own j (v ∷ []))) ⊛ raw (ensured 𝓤 H A judge.ended (judge.clauses 𝓤 H A mem run) (judge-lfts r m n o) (judge-args r m n o) tt j)))) (id⊢ 𝓤 _) $ await t z $ pick t (λ j.
+              use1 W (later (some (λ (j : Verdict). ((‵ (flft κ₁ q₁) ⊛ (‵ (Token w8 256 (l 7) (r .0)) ⊛ (‵ (Token w16 256 (l 8) (r .1 .0)) ⊛ (‵ (Token w16 256 (l 9) (r .1 .1)) ⊛ (‵ (Token-members m) ⊛ (‵ (flft (n .0 ∷ []) fullShare) ⊛ (‵ (flft (o .0 ∷ []) fullShare) ⊛ ‵ ftrue))))))) ⊛ ‵ (Ver.the-row .own j (v ∷ []))) ⊛ raw (ensured 𝓤 H A judge.ended (judge.clauses 𝓤 H A mem run) (judge-lfts r m n o) (judge-args r m n o) tt j)))) (id⊢ 𝓤 _) $ await t z $ pick t (λ j.
               split t $ move t (1 ∷ []) $ use1 W (some (λ (ws : Unit {0} × (Unit {0} × (Unit {0} × (Unit {0} × (Unit {0} × (Unit {0} × (Unit {0} × (Unit {0} × (List Node × (List ℕ × Unit {0})))))))))). ‵ (lasts judge.ended (judge-lfts r m n o) (judge-args r m n o) ws) ⊛ raw (fact 𝓤 (Ruled d c ms j (ws .1 .1 .1 .1 .1 .1 .1 .1 .0) (ws .1 .1 .1 .1 .1 .1 .1 .1 .1 .0))))) (id⊢ 𝓤 _) $ pick t (λ ws.
               split t $ move t (1 ∷ []) $ heard t (Ruled d c ms j (ws .1 .1 .1 .1 .1 .1 .1 .1 .0) (ws .1 .1 .1 .1 .1 .1 .1 .1 .1 .0)) (λ ruled. fsplit t $ move t (1 ∷ []) $ fsplit t $ move t (1 ∷ []) $ fsplit t $ move t (1 ∷ []) $ fsplit t $ move t (1 ∷ []) $ fsplit t $ move t (1 ∷ []) $ fsplit t $ move t (1 ∷ []) $ fsplit t $ move t (1 ∷ []) $ fsplit t $ move t (1 ∷ []) $ fsplit t $ move t (1 ∷ []) $ fsplit t $ move t (1 ∷ []) $ drop t $ move t (9 ∷ 8 ∷ 7 ∷ 6 ∷ 5 ∷ 4 ∷ 3 ∷ 2 ∷ []) $ drop t $ drop t $ drop t $ drop t $ drop t $ drop t $ drop t $ drop t $ move t (1 ∷ []) $ fsplit t $ move t (1 ∷ []) $ feqL t (λ len-nodes. move t (1 ∷ []) $ fsplit t $ move t (1 ∷ []) $ feqL t (λ len-codes.
               move t (2 ∷ []) $ split t $ split t $ move t (1 ∷ []) $ split t $ move t (1 ∷ []) $ split t $ move t (1 ∷ []) $ split t $ move t (1 ∷ []) $ split t $ move t (1 ∷ []) $ split t $ move t (1 ∷ []) $ split t $ move t (1 ∷ []) $ drop t $ move t (7 ∷ []) $ peeks t Ver.the-row (Is Ver.the-row) (shows 𝓤 H A Ver.the-row) j (v ∷ []) (λ is. move t (0 ∷ 7 ∷ 6 ∷ 5 ∷ 4 ∷ 3 ∷ 2 ∷ 1 ∷ 9 ∷ 8 ∷ []) $ k j (ws .1 .1 .1 .1 .1 .1 .1 .1 .0) (ws .1 .1 .1 .1 .1 .1 .1 .1 .1 .0) ruled len-nodes len-codes is))))))
 
-  -- ---- the context, with local i at the place l i
+  -- ---- the context between the calls
   module _ (l : ℕ → ℕ) where
     abbrev env : Env 𝓤 H
     env = placed 𝓤 H l (code.function .locals)
@@ -349,8 +349,8 @@ module _ {M : Type 1} (𝓤 : URA M) (H : Heap 𝓤) (A : Atoms 𝓤) (W : Given
 
     -- with es in the entries, and the columns c and the members ms shared
     abbrev shared-at : Found → List Entry → Way → Loans → Lists → Loan → List ℕ → List (Item 𝓤)
-    shared-at d es way r c m ms = slices-at es (nodes .now) (codes .now) ++ tokens (entryColumns (l 7) (l 8) (l 9)) 𝓤 r ++ shared (entryColumns (l 7) (l 8) (l 9)) 𝓤 way r c ++ kept-shared (entryColumns (l 7) (l 8) (l 9)) 𝓤 way r c
-        ++ ‵ (Token w16 24 (l 10) m) ∷ ‵ (locals.Shared w16 24 (l 10) m ms) ∷ ‵ (locals.KeptShared w16 24 (l 10) m ms) ∷ cells d
+    shared-at d es way r c m ms = slices-at es (nodes .now) (codes .now) ++ tokens (columns l) 𝓤 r ++ shared (columns l) 𝓤 way r c ++ kept-shared (columns l) 𝓤 way r c
+        ++ ‵ (Token-members l m) ∷ ‵ (locals.Shared w16 24 (l 10) m ms) ∷ ‵ (locals.KeptShared w16 24 (l 10) m ms) ∷ cells d
 
     -- the locals are freed
     abbrev ending : Verdict → Val → List Entry → List Node → List ℕ → List (Item 𝓤)
@@ -378,14 +378,14 @@ module _ {M : Type 1} (𝓤 : URA M) (H : Heap 𝓤) (A : Atoms 𝓤) (W : Given
         assigns ! (agg ! (and-then ! (load ! (from ! (stop !)) (look ! 95 refl)) (and-then ! (load ! (from ! (fld ! refl (stop !))) (look-in ! 31 (sub ! 1 refl (whole !)))) (no-more !)))) (from ! (stop !)) (init ! 97 refl (tt, (tt, (record { fits = g-codes .0 }, tt)))) $
         move ! (5 ∷ []) $ goes-out ! tt T.the-row κ₃ q₃ nodes (length (nodes .now)) (nodes .now) refl (λ n. move ! (8 ∷ []) $ goes-out ! tt u16 κ₄ q₄ codes (length (codes .now)) (codes .now) refl (λ o.
         move ! (8 ∷ []) $ use1 W (‵ Own-proof ⊛ ‵ Own-proof) (shr-slice-copy 𝓤 H A W (named 1) κ₁ u8 .twice proof (v-proof ∷ [])) $ split ! $
-        move ! (1 ∷ 15 ∷ 16 ∷ 17 ∷ 22 ∷ 5 ∷ 2 ∷ 10 ∷ 12 ∷ 13 ∷ 14 ∷ 21 ∷ 7 ∷ 4 ∷ []) $ cut (to-be-judged (l 7) (l 8) (l 9) (l 10) d c′ ms r m n o) (raw (Judge 𝓤 H A mem run .pre (to-judge (l 7) (l 8) (l 9) (l 10) d c′ ms r m n o)) ∷ []) _ (goes-judge (l 7) (l 8) (l 9) (l 10) d c′ ms r m n o is (judges d c ms told long found es stored c′ loaded)) $
-        calls-at ! fm (Judge 𝓤 H A mem run) known-judge (to-judge (l 7) (l 8) (l 9) (l 10) d c′ ms r m n o) (and-then ! (load ! (from ! (stop !)) (look ! 17 refl)) (and-then ! (load ! (from ! (stop !)) (look ! 75 refl)) (and-then ! (load ! (from ! (stop !)) (look ! 77 refl)) (and-then ! (load ! (from ! (stop !)) (look ! 79 refl)) (and-then ! (load ! (from ! (fld ! refl (stop !))) (look-in ! 29 (sub ! 1 refl (whole !)))) (and-then ! (load ! (from ! (stop !)) (look ! 81 refl)) (and-then ! (load ! (from ! (fld ! refl (stop !))) (look-in ! 29 (sub ! 2 refl (whole !)))) (and-then ! (load ! (from ! (fld ! refl (stop !))) (look-in ! 29 (sub ! 3 refl (whole !)))) (and-then ! (load ! (from ! (stop !)) (look ! 85 refl)) (and-then ! (load ! (from ! (stop !)) (look ! 89 refl)) (no-more !))))))))))) (λ v.
-        after-judge (l 7) (l 8) (l 9) (l 10) d c′ ms ! tt r m n o v (λ j vs cs ruled len-nodes len-codes is-judged.
+        move ! (1 ∷ 15 ∷ 16 ∷ 17 ∷ 22 ∷ 5 ∷ 2 ∷ 10 ∷ 12 ∷ 13 ∷ 14 ∷ 21 ∷ 7 ∷ 4 ∷ []) $ cut (to-be-judged l d c′ ms r m n o) (raw (Judge 𝓤 H A mem run .pre (to-judge l d c′ ms r m n o)) ∷ []) _ (goes-judge l d c′ ms r m n o is (judges d c ms told long found es stored c′ loaded)) $
+        calls-at ! fm (Judge 𝓤 H A mem run) known-judge (to-judge l d c′ ms r m n o) (and-then ! (load ! (from ! (stop !)) (look ! 17 refl)) (and-then ! (load ! (from ! (stop !)) (look ! 75 refl)) (and-then ! (load ! (from ! (stop !)) (look ! 77 refl)) (and-then ! (load ! (from ! (stop !)) (look ! 79 refl)) (and-then ! (load ! (from ! (fld ! refl (stop !))) (look-in ! 29 (sub ! 1 refl (whole !)))) (and-then ! (load ! (from ! (stop !)) (look ! 81 refl)) (and-then ! (load ! (from ! (fld ! refl (stop !))) (look-in ! 29 (sub ! 2 refl (whole !)))) (and-then ! (load ! (from ! (fld ! refl (stop !))) (look-in ! 29 (sub ! 3 refl (whole !)))) (and-then ! (load ! (from ! (stop !)) (look ! 85 refl)) (and-then ! (load ! (from ! (stop !)) (look ! 89 refl)) (no-more !))))))))))) (λ v.
+        after-judge l d c′ ms ! tt r m n o v (λ j vs cs ruled len-nodes len-codes is-judged.
         land ! (from ! (stop !)) (init ! 20 refl (EL.lawful Ver.the-type Ver′.the-laws 𝓤 H A W tt .typed j _ is-judged .0)) $
         move ! (6 ∷ 12 ∷ 8 ∷ []) $ comes-in ! tt T.the-row κ₃ q₃ nodes (length (nodes .now)) n (nodes .now) vs g-nodes refl len-nodes $
         move ! (7 ∷ 10 ∷ 8 ∷ []) $ comes-in ! tt u16 κ₄ q₄ codes (length (codes .now)) o (codes .now) cs g-codes refl len-codes $
         -- the locals are room again
-        move ! (4 ∷ 5 ∷ 6 ∷ 12 ∷ 13 ∷ 14 ∷ []) $ three-ended (columns (l 7) (l 8) (l 9) (l 10)) array ! tt r c′ $ move ! (7 ∷ 12 ∷ []) $ one-ended w16 24 (l 10) array ! tt m ms $
+        move ! (4 ∷ 5 ∷ 6 ∷ 12 ∷ 13 ∷ 14 ∷ []) $ three-ended (columns l) array ! tt r c′ $ move ! (7 ∷ 12 ∷ []) $ one-ended w16 24 (l 10) array ! tt m ms $
         returns ! (look ! 12 refl) $ forget ! 12 refl $ forget ! 14 refl $ forget ! 16 refl $ forget ! 18 refl $ forget ! 20 refl $ forget ! 22 refl $ forget ! 24 refl $ forget ! 30 refl $ forget ! 76 refl $ forget ! 78 refl $ forget ! 80 refl $ forget ! 82 refl $ forget ! 84 refl $ forget ! 86 refl $ forget ! 88 refl $ forget ! 90 refl $
         move ! (6 ∷ 9 ∷ 10 ∷ 8 ∷ 7 ∷ 11 ∷ 5 ∷ 4 ∷ 12 ∷ 13 ∷ 14 ∷ 15 ∷ 16 ∷ 17 ∷ 18 ∷ 19 ∷ 20 ∷ 21 ∷ 22 ∷ 23 ∷ 24 ∷ 25 ∷ 1 ∷ 26 ∷ 2 ∷ 27 ∷ 3 ∷ 28 ∷ []) $
         by ! (ends l j v es vs cs (rules d c ms told long found es stored c′ loaded j vs cs ruled) len-entries len-nodes len-codes)))))
@@ -402,23 +402,23 @@ module _ {M : Type 1} (𝓤 : URA M) (H : Heap 𝓤) (A : Atoms 𝓤) (W : Given
         assigns ! (addr ! (from ! (stop !))) (from ! (stop !)) (init ! 57 refl (tt, tt)) $ assigns ! (agg ! (and-then ! (load ! (from ! (stop !)) (look ! 57 refl)) (and-then ! (lit ! tt) (no-more !)))) (from ! (stop !)) (init ! 59 refl (tt, (tt, (record { fits = lit< tt }, tt)))) $
         assigns ! (addr ! (from ! (stop !))) (from ! (stop !)) (init ! 61 refl (tt, tt)) $ assigns ! (agg ! (and-then ! (load ! (from ! (stop !)) (look ! 61 refl)) (and-then ! (lit ! tt) (no-more !)))) (from ! (stop !)) (init ! 63 refl (tt, (tt, (record { fits = lit< tt }, tt)))) $
         assigns ! (addr ! (from ! (stop !))) (from ! (stop !)) (init ! 65 refl (tt, tt)) $ assigns ! (agg ! (and-then ! (load ! (from ! (stop !)) (look ! 65 refl)) (and-then ! (lit ! tt) (no-more !)))) (from ! (stop !)) (init ! 67 refl (tt, (tt, (record { fits = lit< tt }, tt)))) $
-        move ! (0 ∷ 12 ∷ 13 ∷ 14 ∷ 2 ∷ 9 ∷ 10 ∷ 11 ∷ []) $ cut (to-be-stored (l 7) (l 8) (l 9) (l 10) d e r c) (raw (Store 𝓤 H A mem run .pre (to-store (l 7) (l 8) (l 9) (l 10) d e r c)) ∷ []) _ (goes-store (l 7) (l 8) (l 9) (l 10) d e r c is (stores d c ms told long found)) $
-        calls-at ! fm (Store 𝓤 H A mem run) known-store (to-store (l 7) (l 8) (l 9) (l 10) d e r c) (and-then ! (load ! (from ! (stop !)) (look ! 48 refl)) (and-then ! (load ! (from ! (stop !)) (look ! 52 refl)) (and-then ! (load ! (from ! (stop !)) (look ! 56 refl)) (and-then ! (load ! (from ! (stop !)) (look ! 60 refl)) (and-then ! (load ! (from ! (fld ! refl (stop !))) (look-in ! 32 (sub ! 1 refl (whole !)))) (no-more !)))))) (λ v₁.
-        after-store (l 7) (l 8) (l 9) (l 10) d ! tt e r c v₁ (λ es stored len-entries unit₁. land ! (from ! (stop !)) (init ! 48 refl (is-unit v₁ unit₁)) $
+        move ! (0 ∷ 12 ∷ 13 ∷ 14 ∷ 2 ∷ 9 ∷ 10 ∷ 11 ∷ []) $ cut (to-be-stored l d e r c) (raw (Store 𝓤 H A mem run .pre (to-store l d e r c)) ∷ []) _ (goes-store l d e r c is (stores d c ms told long found)) $
+        calls-at ! fm (Store 𝓤 H A mem run) known-store (to-store l d e r c) (and-then ! (load ! (from ! (stop !)) (look ! 48 refl)) (and-then ! (load ! (from ! (stop !)) (look ! 52 refl)) (and-then ! (load ! (from ! (stop !)) (look ! 56 refl)) (and-then ! (load ! (from ! (stop !)) (look ! 60 refl)) (and-then ! (load ! (from ! (fld ! refl (stop !))) (look-in ! 32 (sub ! 1 refl (whole !)))) (no-more !)))))) (λ v₁.
+        after-store l d ! tt e r c v₁ (λ es stored len-entries unit₁. land ! (from ! (stop !)) (init ! 48 refl (is-unit v₁ unit₁)) $
         move ! (0 ∷ 5 ∷ 4 ∷ []) $ comes-in ! tt E.the-row κ₂ q₂ entries (length (entries .now)) e (entries .now) es g-entries refl len-entries $
         -- `load_entries(entries, found.entries, &mut kinds, &mut a, &mut b)`
         goes-shared ! tt E.the-row κ₂ q₂ entries (length (entries .now)) es g-entries len-entries (λ e₂.
-        move ! (3 ∷ 4 ∷ 5 ∷ 12 ∷ 13 ∷ 14 ∷ []) $ three-relent (columns (l 7) (l 8) (l 9) (l 10)) slice slice ! tt (entry-rooms (l 7) (l 8) (l 9)) r c (λ p.
+        move ! (3 ∷ 4 ∷ 5 ∷ 12 ∷ 13 ∷ 14 ∷ []) $ three-relent (columns l) slice slice ! tt (entry-rooms (l 7) (l 8) (l 9)) r c (λ p.
         assigns ! (addr ! (from ! (fld ! refl (hop ! (look-in ! 29 (sub ! 0 refl (whole !))) (stop !))))) (from ! (stop !)) (init ! 69 refl (tt, tt)) $
         assigns ! (agg ! (and-then ! (load ! (from ! (stop !)) (look ! 69 refl)) (and-then ! (load ! (from ! (fld ! refl (stop !))) (look-in ! 29 (sub ! 1 refl (whole !)))) (no-more !)))) (from ! (stop !)) (init ! 71 refl (tt, (tt, (record { fits = g-entries .0 }, tt)))) $
         assigns ! (addr ! (from ! (stop !))) (from ! (stop !)) (init ! 73 refl (tt, tt)) $ assigns ! (agg ! (and-then ! (load ! (from ! (stop !)) (look ! 73 refl)) (and-then ! (lit ! tt) (no-more !)))) (from ! (stop !)) (init ! 75 refl (tt, (tt, (record { fits = lit< tt }, tt)))) $
         assigns ! (addr ! (from ! (stop !))) (from ! (stop !)) (init ! 77 refl (tt, tt)) $ assigns ! (agg ! (and-then ! (load ! (from ! (stop !)) (look ! 77 refl)) (and-then ! (lit ! tt) (no-more !)))) (from ! (stop !)) (init ! 79 refl (tt, (tt, (record { fits = lit< tt }, tt)))) $
         assigns ! (addr ! (from ! (stop !))) (from ! (stop !)) (init ! 81 refl (tt, tt)) $ assigns ! (agg ! (and-then ! (load ! (from ! (stop !)) (look ! 81 refl)) (and-then ! (lit ! tt) (no-more !)))) (from ! (stop !)) (init ! 83 refl (tt, (tt, (record { fits = lit< tt }, tt)))) $
-        move ! (9 ∷ 3 ∷ 4 ∷ 5 ∷ 11 ∷ 0 ∷ 1 ∷ 2 ∷ []) $ cut (to-be-loaded (l 7) (l 8) (l 9) (l 10) d es e₂ p c) (raw (Load 𝓤 H A mem run .pre (to-load (l 7) (l 8) (l 9) (l 10) d es e₂ p c)) ∷ []) _ (goes-load (l 7) (l 8) (l 9) (l 10) d es e₂ p c is (loads d c ms told long found es stored)) $
-        calls-at ! fm (Load 𝓤 H A mem run) known-load (to-load (l 7) (l 8) (l 9) (l 10) d es e₂ p c) (and-then ! (load ! (from ! (stop !)) (look ! 64 refl)) (and-then ! (load ! (from ! (fld ! refl (stop !))) (look-in ! 32 (sub ! 1 refl (whole !)))) (and-then ! (load ! (from ! (stop !)) (look ! 68 refl)) (and-then ! (load ! (from ! (stop !)) (look ! 72 refl)) (and-then ! (load ! (from ! (stop !)) (look ! 76 refl)) (no-more !)))))) (λ v₂.
-        after-load (l 7) (l 8) (l 9) (l 10) d es ! tt e₂ p c v₂ (λ c′ loaded unit₂. land ! (from ! (stop !)) (store ! 50 refl (is-unit v₂ unit₂)) $
+        move ! (9 ∷ 3 ∷ 4 ∷ 5 ∷ 11 ∷ 0 ∷ 1 ∷ 2 ∷ []) $ cut (to-be-loaded l d es e₂ p c) (raw (Load 𝓤 H A mem run .pre (to-load l d es e₂ p c)) ∷ []) _ (goes-load l d es e₂ p c is (loads d c ms told long found es stored)) $
+        calls-at ! fm (Load 𝓤 H A mem run) known-load (to-load l d es e₂ p c) (and-then ! (load ! (from ! (stop !)) (look ! 64 refl)) (and-then ! (load ! (from ! (fld ! refl (stop !))) (look-in ! 32 (sub ! 1 refl (whole !)))) (and-then ! (load ! (from ! (stop !)) (look ! 68 refl)) (and-then ! (load ! (from ! (stop !)) (look ! 72 refl)) (and-then ! (load ! (from ! (stop !)) (look ! 76 refl)) (no-more !)))))) (λ v₂.
+        after-load l d es ! tt e₂ p c v₂ (λ c′ loaded unit₂. land ! (from ! (stop !)) (store ! 50 refl (is-unit v₂ unit₂)) $
         move ! (0 ∷ 10 ∷ []) $ comes-unshared ! tt E.the-row κ₂ q₂ entries (length (entries .now)) e₂ es g-entries len-entries $
-        move ! (1 ∷ 2 ∷ 3 ∷ 7 ∷ 8 ∷ 9 ∷ 4 ∷ 5 ∷ 6 ∷ []) $ three-turned (columns (l 7) (l 8) (l 9) (l 10)) slice array ! tt (entry-rooms (l 7) (l 8) (l 9)) p c′ (λ r₂ _.
+        move ! (1 ∷ 2 ∷ 3 ∷ 7 ∷ 8 ∷ 9 ∷ 4 ∷ 5 ∷ 6 ∷ []) $ three-turned (columns l) slice array ! tt (entry-rooms (l 7) (l 8) (l 9)) p c′ (λ r₂ _.
         forget ! 49 refl $ forget ! 51 refl $ forget ! 53 refl $ forget ! 55 refl $ forget ! 57 refl $ forget ! 59 refl $ forget ! 61 refl $ forget ! 63 refl $ forget ! 65 refl $ forget ! 67 refl $ forget ! 69 refl $ forget ! 71 refl $ forget ! 73 refl $ forget ! 75 refl $ forget ! 77 refl $ forget ! 79 refl $ forget ! 81 refl $
         move ! (10 ∷ 11 ∷ 12 ∷ 13 ∷ 9 ∷ 14 ∷ 15 ∷ 0 ∷ 1 ∷ 2 ∷ 3 ∷ 4 ∷ 5 ∷ 6 ∷ 7 ∷ 8 ∷ 16 ∷ 17 ∷ 18 ∷ []) $
         by ! (goes-judged es stored len-entries c′ loaded r₂ m)))))))))
@@ -440,23 +440,23 @@ module _ {M : Type 1} (𝓤 : URA M) (H : Heap 𝓤) (A : Atoms 𝓤) (W : Given
         assigns ! (rep ! 24 (lit ! tt)) (from ! (stop !)) (init ! 20 refl (zeros-typed w16 24 (l 10) 𝓤 H A W)) $
         assigns ! (addr ! (from ! (stop !))) (from ! (stop !)) (init ! 24 refl (tt, tt)) $ assigns ! (addr ! (from ! (stop !))) (from ! (stop !)) (init ! 26 refl (tt, tt)) $ assigns ! (addr ! (from ! (stop !))) (from ! (stop !)) (init ! 28 refl (tt, tt)) $ assigns ! (addr ! (from ! (stop !))) (from ! (stop !)) (init ! 30 refl (tt, tt)) $
         -- the columns and the members are lent
-        move ! (14 ∷ 16 ∷ 18 ∷ []) $ three-lent (columns (l 7) (l 8) (l 9) (l 10)) array ! tt (entry-rooms (l 7) (l 8) (l 9)) (λ p. move ! (26 ∷ []) $ one-lent w16 24 (l 10) array ! tt (lit< tt, lit< tt) (λ m.
+        move ! (14 ∷ 16 ∷ 18 ∷ []) $ three-lent (columns l) array ! tt (entry-rooms (l 7) (l 8) (l 9)) (λ p. move ! (26 ∷ []) $ one-lent w16 24 (l 10) array ! tt (lit< tt, lit< tt) (λ m.
         -- `find_files(before, claim, proof, &mut kinds, &mut a, &mut b, &mut members)`
         move ! (95 ∷ []) $ use1 W (‵ Own-claim ⊛ ‵ Own-claim) (shr-slice-copy 𝓤 H A W (named 0) κ₀ u8 .twice claim (v-claim ∷ [])) $ split ! $
         move ! (98 ∷ []) $ use1 W (‵ Own-proof ⊛ ‵ Own-proof) (shr-slice-copy 𝓤 H A W (named 1) κ₁ u8 .twice proof (v-proof ∷ [])) $ split ! $
-        move ! (3 ∷ 1 ∷ 10 ∷ 11 ∷ 12 ∷ 5 ∷ 99 ∷ 100 ∷ 7 ∷ 8 ∷ 9 ∷ 4 ∷ []) $ cut (to-be-found (l 7) (l 8) (l 9) (l 10) p m) (raw (Find 𝓤 H A mem run .pre (to-find (l 7) (l 8) (l 9) (l 10) p m)) ∷ []) _ (goes-find (l 7) (l 8) (l 9) (l 10) p m) $
-        calls-at ! fm (Find 𝓤 H A mem run) known-find (to-find (l 7) (l 8) (l 9) (l 10) p m) (and-then ! (load ! (from ! (stop !)) (look ! 9 refl)) (and-then ! (load ! (from ! (stop !)) (look ! 11 refl)) (and-then ! (load ! (from ! (stop !)) (look ! 13 refl)) (and-then ! (load ! (from ! (stop !)) (look ! 27 refl)) (and-then ! (load ! (from ! (stop !)) (look ! 29 refl)) (and-then ! (load ! (from ! (stop !)) (look ! 31 refl)) (and-then ! (load ! (from ! (stop !)) (look ! 33 refl)) (no-more !)))))))) (λ v.
-        after-find (l 7) (l 8) (l 9) (l 10) ! tt p m v (λ d c ms told is.
+        move ! (3 ∷ 1 ∷ 10 ∷ 11 ∷ 12 ∷ 5 ∷ 99 ∷ 100 ∷ 7 ∷ 8 ∷ 9 ∷ 4 ∷ []) $ cut (to-be-found l p m) (raw (Find 𝓤 H A mem run .pre (to-find l p m)) ∷ []) _ (goes-find l p m) $
+        calls-at ! fm (Find 𝓤 H A mem run) known-find (to-find l p m) (and-then ! (load ! (from ! (stop !)) (look ! 9 refl)) (and-then ! (load ! (from ! (stop !)) (look ! 11 refl)) (and-then ! (load ! (from ! (stop !)) (look ! 13 refl)) (and-then ! (load ! (from ! (stop !)) (look ! 27 refl)) (and-then ! (load ! (from ! (stop !)) (look ! 29 refl)) (and-then ! (load ! (from ! (stop !)) (look ! 31 refl)) (and-then ! (load ! (from ! (stop !)) (look ! 33 refl)) (no-more !)))))))) (λ v.
+        after-find l ! tt p m v (λ d c ms told is.
         land ! (from ! (stop !)) (init ! 34 refl (LL.lawful F.the-type F′.the-laws 𝓤 H A W .typed d _ is .0)) $ rewrite ! 34 (λ (u : Val). ‵ (fat fullShare F′.mir (l 11) 0 u)) (ap only (LL.tells F.the-type F′.the-laws d (v ∷ []) is)) refl $
         -- the columns and the members come back, and are shared
-        move ! (2 ∷ 3 ∷ 4 ∷ 13 ∷ 14 ∷ 15 ∷ 6 ∷ 7 ∷ 8 ∷ []) $ three-turned (columns (l 7) (l 8) (l 9) (l 10)) array slice ! tt (entry-rooms (l 7) (l 8) (l 9)) p c (λ r _.
+        move ! (2 ∷ 3 ∷ 4 ∷ 13 ∷ 14 ∷ 15 ∷ 6 ∷ 7 ∷ 8 ∷ []) $ three-turned (columns l) array slice ! tt (entry-rooms (l 7) (l 8) (l 9)) p c (λ r _.
         move ! (11 ∷ 15 ∷ 12 ∷ []) $ one-turned w16 24 (l 10) array array ! tt (lit< tt, lit< tt) m ms (λ m′ _. move ! (15 ∷ 12 ∷ 14 ∷ 13 ∷ 98 ∷ 97 ∷ 96 ∷ 3 ∷ 4 ∷ 5 ∷ 6 ∷ 7 ∷ 8 ∷ 9 ∷ 10 ∷ 11 ∷ 0 ∷ 1 ∷ 2 ∷ []) $
         -- `if found.nodes == 0`
         assigns ! (bin ! (load ! (from ! (fld ! refl (stop !))) (look-in ! 37 (sub ! 3 refl (whole !)))) (lit ! tt) tt) (from ! (stop !)) (init ! 47 refl (tt, tt)) $
         into ! $ branches ! (load ! (from ! (stop !)) (look ! 47 refl))
         -- `return found.verdict;`: the slices are as they were
         (λ none. assigns ! (of-opd ! (load ! (from ! (fld ! refl (stop !))) (look-in ! 37 (sub ! 0 refl (whole !))))) (from ! (stop !)) (init ! 19 refl (EL.lawful Ver.the-type Ver′.the-laws 𝓤 H A W tt .typed (d .verdict) _ (LL.owed F.the-type F′.the-laws d _ is .0) .0)) $
-        move ! (7 ∷ 8 ∷ 9 ∷ 13 ∷ 14 ∷ 15 ∷ []) $ three-ended (columns (l 7) (l 8) (l 9) (l 10)) slice ! tt r c $ move ! (13 ∷ 15 ∷ []) $ one-ended w16 24 (l 10) array ! tt m′ ms $
+        move ! (7 ∷ 8 ∷ 9 ∷ 13 ∷ 14 ∷ 15 ∷ []) $ three-ended (columns l) slice ! tt r c $ move ! (13 ∷ 15 ∷ []) $ one-ended w16 24 (l 10) array ! tt m′ ms $
         returns-within ! Post refl (look ! 15 refl) $ forget ! 15 refl $ forget ! 17 refl $ forget ! 19 refl $ forget ! 21 refl $ forget ! 23 refl $ forget ! 25 refl $ forget ! 27 refl $ forget ! 33 refl $ forget ! 35 refl $ forget ! 37 refl $ forget ! 39 refl $ forget ! 41 refl $ forget ! 43 refl $
         owned ! Ver.the-row (Is Ver.the-row) (EL.makes Ver.the-type Ver′.the-plain 𝓤 H A) (d .verdict) _ (LL.owed F.the-type F′.the-laws d _ is .0) $ move ! (12 ∷ 13 ∷ 14 ∷ 15 ∷ []) $ drop ! $ drop ! $ drop ! $ drop ! $ move ! (0 ∷ 5 ∷ 6 ∷ 7 ∷ 8 ∷ 9 ∷ 10 ∷ 11 ∷ 12 ∷ 13 ∷ 14 ∷ 15 ∷ 16 ∷ 17 ∷ 18 ∷ 19 ∷ 20 ∷ 21 ∷ 22 ∷ 23 ∷ 24 ∷ 25 ∷ 2 ∷ 26 ∷ 3 ∷ 27 ∷ 4 ∷ 28 ∷ []) $
         by ! (ends l (d .verdict) _ (entries .now) (nodes .now) (codes .now) (refuses d c ms told none) refl refl refl))

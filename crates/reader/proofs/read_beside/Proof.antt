@@ -1,5 +1,5 @@
 -- The claim's refusal stands, then the proof's; a proof that is read has as many nodes as its count says.
-use mathlib.Core.Path.{_≡_, sym, ap, _∙_}
+use mathlib.Core.Path.{sym, ap, _∙_}
 use native.Mathlib.Omega.{arith}
 use borrow.Author.Needs.{needs}
 use Rattle.verdict.specs.Shown.{shown}

@@ -1,5 +1,5 @@
 -- The bytes' refusal stands, then the table's; a claim that passes both is held as it was read.
-use mathlib.Core.Path.{_≡_, sym, ap, _∙_}
+use mathlib.Core.Path.{sym, ap, _∙_}
 use native.Mathlib.Omega.{arith}
 use borrow.Author.Needs.{needs}
 use Rattle.verdict.specs.Shown.{shown}

@@ -3,7 +3,6 @@ use mathlib.Core.Path.{_∙_, sym, subst}
 use Prim.Native.Nat.{ℕ}
 use borrow.Author.Needs.{needs}
 use Rattle.formula.specs.NodeColumns.{Columns}
-use Rattle.nodes.specs.ProofStored.{NodesStored}
 use Rattle.laid.specs.Readable.{laid, laid-judged, stored-same, stored-starts}
 use Rattle.single.proofs.judge_in.Statement.{statement}
 use Rattle.single.proofs.judge_in.Tie as tie
