@@ -5,8 +5,7 @@ use mathlib.Core.List.{List, [], _∷_, List·Memᴰ, List·Memᴰ·head, List·
 use Prim.Native.Nat.{ℕ, zero, suc, _<_}
 use native.Mathlib.Omega.{arith}
 use lib.ListN.{length}
-use Rattle.verdict.specs.Sets.{Set, Same, _⊆_, elements, image, image-⊆, ⊆-trans}
-use Rattle.formula.specs.Table.{Table}
+use Rattle.verdict.specs.Sets.{Set, _⊆_, elements, image-⊆, ⊆-trans}
 use Rattle.formula.specs.Codes.{code, entryOf, code-entry}
 use Rattle.formula.specs.Nodes.{Proof, node}
 use Rattle.formula.specs.Claim.{Claim, Derivation}

@@ -1,10 +1,9 @@
 -- the files as document 01 orders them: the claim by bytes, its table, then the file beside it
-use mathlib.Core.List.{List, []}
+use mathlib.Core.List.{List}
 use Prim.Native.Nat.{ℕ}
 use Rattle.verdict.specs.Verdict as verdicts
 use Rattle.verdict.specs.Verdict.{Verdict, accepted}
 use Rattle.encoding.specs.File.{Reading, refused, good}
-use Rattle.formula.specs.Table.{Table}
 use Rattle.formula.specs.Claim.{Claim, Derivation}
 use Rattle.conditions.specs.Judge.{judgeTable}
 use Rattle.claims.specs.ReadClaim.{readClaim}
@@ -19,15 +18,6 @@ firstly (verdicts.refused n q) next = refused n q
 abbrev pub andThen : {A B : Type 0} → Reading A → (A → Reading B) → Reading B
 andThen (refused n q) next = refused n q
 andThen (good x) next = next x
-
--- the table of a claim file, and none of a file that is no claim
-abbrev pub tableRead : Reading Claim → Table
-tableRead (refused n q) = []
-tableRead (good c) = c .entries
-
-unfoldable pub tableIn : List ℕ → Table
-unfolding readClaim
-tableIn claim = tableRead (readClaim claim)
 
 -- 20 over all entries, then 21, 22, 23 entry by entry
 abbrev pub formed : Claim → Reading Claim
