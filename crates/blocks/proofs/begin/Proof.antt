@@ -34,10 +34,16 @@ lowest-requires-2 : tie.Need-lowest-requires-2 Inv-loop μ-loop
 lowest-requires-2 c κs = c .before .remove .ensures .long ∙ c .before .before .before .before .loop .inv .0 .set-long
 
 loop-less : tie.Need-loop-less Inv-loop μ-loop
-loop-less c = begin-nearer (c .before .before .before .before .before .before .before .before .before .args .block .now) (c .before .before .before .before .before .before .before .before .before .args .start) (c .before .before .before .before .before .before .before .before .before .args .words .now) _ _ _ (c .before .before .before .before .loop-test .taken) (c .before .before .before .before .before .loop .inv .1 .found (c .before .before .before .before .loop-test .taken)) (c .before .before .remove .ensures)
+loop-less c =
+    let args2 = c .before .before .before .before .before .before .before .before .before .args in
+    let loop-test2 = c .before .before .before .before .loop-test .taken in
+    begin-nearer (args2 .block .now) (args2 .start) (args2 .words .now) _ _ _ (loop-test2) (c .before .before .before .before .before .loop .inv .1 .found (loop-test2)) (c .before .before .remove .ensures)
 
 loop-again : tie.Need-loop-again Inv-loop μ-loop
-loop-again c = (begin-next _ _ _ _ _ _ _ (c .before .before .before .before .before .loop .inv .0) (c .before .before .before .before .before .loop .inv .1 .found (c .before .before .before .before .loop-test .taken)) (omega (arith, c .before .before .before .before .before .loop .inv .2, c .before .before .before .before .loop-test .taken)) (c .before .before .remove .ensures), c .lowest2 .ensures, c .before .before .before .before .before .loop .inv .2)
+loop-again c =
+    let inv2 = c .before .before .before .before .before .loop .inv in
+    let loop-test2 = c .before .before .before .before .loop-test .taken in
+    (begin-next _ _ _ _ _ _ _ (inv2 .0) (inv2 .1 .found (loop-test2)) (omega (arith, inv2 .2, loop-test2)) (c .before .before .remove .ensures), c .lowest2 .ensures, inv2 .2)
 
 returns : tie.Need-returns Inv-loop μ-loop
 returns c = begin-last _ _ _ _ _ (c .before .loop .inv .0) (c .before .loop .inv .1 .none (omega (arith, c .loop-test .left)))

@@ -15,7 +15,9 @@ shared-slice-read-kind : tie.Need-shared-slice-read-kind
 shared-slice-read-kind c = search needs
 
 returns : tie.Need-returns
-returns c = grown-name (c .before .before .before .before .before .before .before .pre .0) _ (c .before .before .before .before .before .before .before .pre .1 .0) _ _ _ _ (c .before .before .insert .ensures) (omega (arith, c .if1 .taken))
+returns c =
+    let given = c .before .before .before .before .before .before .before .pre in
+    grown-name (given .0) _ (given .1 .0) _ _ _ _ (c .before .before .insert .ensures) (omega (arith, c .if1 .taken))
 
 mul-wide : tie.Need-mul-wide
 mul-wide c = search needs
@@ -27,7 +29,10 @@ wide-requires : tie.Need-wide-requires
 wide-requires c κs = search needs
 
 meet-requires : tie.Need-meet-requires
-meet-requires c κs = let k = a-entry (c .before .before .before .before .before .before .before .before .before .before .before .pre .0) _ (c .before .before .before .before .before .before .before .before .before .before .before .pre .1 .0) (c .before .before .before .before .before .before .before .before .before .before .before .pre .1 .1) in (omega (arith, k, c .wide .ensures, c .before .before .before .before .before .before .before .before .before .before .before .pre .0 .few), c .before .before .before .before .before .before .before .before .before .before .before .pre .1 .3)
+meet-requires c κs =
+    let given = c .before .before .before .before .before .before .before .before .before .before .before .pre in
+    let k = a-entry (given .0) _ (given .1 .0) (given .1 .1) in
+    (omega (arith, k, c .wide .ensures, given .0 .few), given .1 .3)
 
 mul-wide-2 : tie.Need-mul-wide-2
 mul-wide-2 c = search needs
@@ -39,13 +44,22 @@ wide-requires-2 : tie.Need-wide-requires-2
 wide-requires-2 c κs = search needs
 
 meet-requires-2 : tie.Need-meet-requires-2
-meet-requires-2 c κs = let k = b-below (c .before .before .before .before .before .before .before .before .before .before .before .before .before .before .before .before .before .pre .0) _ (c .before .before .before .before .before .before .before .before .before .before .before .before .before .before .before .before .before .pre .1 .0) (c .before .before .before .before .before .before .before .before .before .before .before .before .before .before .before .before .before .pre .1 .1) (omega (arith, c .before .before .before .before .if2 .taken)) in (omega (arith, k, c .wide2 .ensures, c .before .before .before .before .before .before .before .before .before .before .before .before .before .before .before .before .before .pre .0 .few, c .before .before .before .before .before .before .before .before .before .before .before .before .before .before .before .before .before .pre .1 .0), c .before .before .before .before .before .meet .ensures .long ∙ c .before .before .before .before .before .before .before .before .before .before .before .before .before .before .before .before .before .pre .1 .3)
+meet-requires-2 c κs =
+    let given = c .before .before .before .before .before .before .before .before .before .before .before .before .before .before .before .before .before .pre in
+    let k = b-below (given .0) _ (given .1 .0) (given .1 .1) (omega (arith, c .before .before .before .before .if2 .taken)) in
+    (omega (arith, k, c .wide2 .ensures, given .0 .few, given .1 .0), c .before .before .before .before .before .meet .ensures .long ∙ given .1 .3)
 
 returns-2 : tie.Need-returns-2
-returns-2 c = grown-two (c .before .before .before .before .before .before .before .before .before .before .before .before .before .before .before .before .before .before .pre .0) _ (c .before .before .before .before .before .before .before .before .before .before .before .before .before .before .before .before .before .before .pre .1 .0) _ _ _ _ (c .before .before .before .before .before .before .before .before .before .before .before .before .before .insert .ensures) _ (c .before .before .before .before .before .before .before .wide .ensures) (c .before .before .before .before .before .before .before .before .before .before .before .before .before .before .before .before .before .before .pre .1 .1) (omega (arith, c .before .before .before .before .before .if2 .taken)) _ (c .before .before .before .before .before .before .meet .ensures) (omega (arith, c .before .before .before .before .before .if2 .taken)) _ (c .before .wide2 .ensures) _ (c .meet2 .ensures)
+returns-2 c =
+    let given = c .before .before .before .before .before .before .before .before .before .before .before .before .before .before .before .before .before .before .pre in
+    let if22 = c .before .before .before .before .before .if2 .taken in
+    grown-two (given .0) _ (given .1 .0) _ _ _ _ (c .before .before .before .before .before .before .before .before .before .before .before .before .before .insert .ensures) _ (c .before .before .before .before .before .before .before .wide .ensures) (given .1 .1) (omega (arith, if22)) _ (c .before .before .before .before .before .before .meet .ensures) (omega (arith, if22)) _ (c .before .wide2 .ensures) _ (c .meet2 .ensures)
 
 returns-3 : tie.Need-returns-3
-returns-3 c = let n = few-kinds (c .before .before .before .before .before .before .before .before .before .before .before .before .before .pre .0) _ (c .before .before .before .before .before .before .before .before .before .before .before .before .before .pre .1 .0) (c .before .before .before .before .before .before .if1 .left) in grown-one (c .before .before .before .before .before .before .before .before .before .before .before .before .before .pre .0) _ (c .before .before .before .before .before .before .before .before .before .before .before .before .before .pre .1 .0) _ _ _ _ (c .before .before .before .before .before .before .before .before .insert .ensures) _ (c .before .before .wide .ensures) (c .before .before .before .before .before .before .before .before .before .before .before .before .before .pre .1 .1) n _ (c .before .meet .ensures) (omega (arith, c .if2 .left))
+returns-3 c =
+    let given = c .before .before .before .before .before .before .before .before .before .before .before .before .before .pre in
+    let n = few-kinds (given .0) _ (given .1 .0) (c .before .before .before .before .before .before .if1 .left) in
+    grown-one (given .0) _ (given .1 .0) _ _ _ _ (c .before .before .before .before .before .before .before .before .insert .ensures) _ (c .before .before .wide .ensures) (given .1 .1) n _ (c .before .meet .ensures) (omega (arith, c .if2 .left))
 
 pub grow-spec : {M : Type 1} → statement M
 grow-spec =

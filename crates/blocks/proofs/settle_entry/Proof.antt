@@ -19,7 +19,9 @@ insert-requires : tie.Need-insert-requires
 insert-requires c κs = search needs
 
 returns : tie.Need-returns
-returns c = (ap (set (c .before .before .before .before .before .before .before .before .args .words .now) (c .before .before .before .before .before .before .before .before .args .e)) (c .before .before .formed .ensures), c .insert .ensures)
+returns c =
+    let args2 = c .before .before .before .before .before .before .before .before .args in
+    (ap (set (args2 .words .now) (args2 .e)) (c .before .before .formed .ensures), c .insert .ensures)
 
 pub settle-entry-spec : {M : Type 1} → statement M
 settle-entry-spec =

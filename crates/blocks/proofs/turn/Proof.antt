@@ -19,7 +19,9 @@ element-copy-out-if1 : tie.Need-element-copy-out-if1
 element-copy-out-if1 c = search needs
 
 returns : tie.Need-returns
-returns c = turned-quiet _ _ _ _ _ _ (c .before .before .before .before .before .before .before .before .before .before .args .users .now) (c .before .before .before .before .before .before .before .before .before .before .args .block .now) _ _ _ _ (c .before .before .before .before .before .before .before .before .before .before .pre .1 .1) (c .before .before .before .before .before .remove .ensures) _ (c .before .before .formed .ensures) (c .if1 .taken)
+returns c =
+    let args2 = c .before .before .before .before .before .before .before .before .before .before .args in
+    turned-quiet _ _ _ _ _ _ (args2 .users .now) (args2 .block .now) _ _ _ _ (c .before .before .before .before .before .before .before .before .before .before .pre .1 .1) (c .before .before .before .before .before .remove .ensures) _ (c .before .before .formed .ensures) (c .if1 .taken)
 
 mul-words : tie.Need-mul-words
 mul-words c = search needs
@@ -31,7 +33,9 @@ wake-requires : tie.Need-wake-requires
 wake-requires c κs = search needs
 
 returns-2 : tie.Need-returns-2
-returns-2 c = turned-loud _ _ _ _ _ _ _ _ _ _ _ _ (c .before .before .before .before .before .before .before .before .before .before .before .before .pre .1 .1) (c .before .before .before .before .before .before .before .remove .ensures) _ (c .before .before .before .before .formed .ensures) (c .before .before .if1 .left) (omega (arith, c .before .before .before .before .before .before .before .before .before .before .before .before .pre .0 .words-there, c .before .before .before .before .before .before .before .before .before .before .before .before .pre .0 .claim .few, c .before .before .before .before .before .before .before .before .before .before .before .before .pre .1 .0)) _ (c .wake .ensures)
+returns-2 c =
+    let given = c .before .before .before .before .before .before .before .before .before .before .before .before .pre in
+    turned-loud _ _ _ _ _ _ _ _ _ _ _ _ (given .1 .1) (c .before .before .before .before .before .before .before .remove .ensures) _ (c .before .before .before .before .formed .ensures) (c .before .before .if1 .left) (omega (arith, given .0 .words-there, given .0 .claim .few, given .1 .0)) _ (c .wake .ensures)
 
 pub turn-spec : {M : Type 1} → statement M
 turn-spec =

@@ -54,7 +54,10 @@ loop-less : tie.Need-loop-less Inv-loop μ-loop
 loop-less c = search needs
 
 loop-again : tie.Need-loop-again Inv-loop μ-loop
-loop-again c = (omega arith, filled-set (c .before .before .before .before .loop .inv .1) _ (omega (arith, c .before .before .before .before .before .pre .1)) (woken-word (c .before .before .before .before .before .args .users .now) (c .before .before .before .before .before .args .block .now) (c .before .before .before .before .before .args .e) (c .before .before .before .before .before .args .waiting .now) (c .before .before .before .before .loop .i) _ (c .before .before .before .before .loop .inv .1)))
+loop-again c =
+    let args2 = c .before .before .before .before .before .args in
+    let turn = c .before .before .before .before .loop in
+    (omega arith, filled-set (turn .inv .1) _ (omega (arith, c .before .before .before .before .before .pre .1)) (woken-word (args2 .users .now) (args2 .block .now) (args2 .e) (args2 .waiting .now) (turn .i) _ (turn .inv .1)))
 
 returns : tie.Need-returns Inv-loop μ-loop
 returns c = let q : c .before .loop .i ≡ 4 = omega arith in woken _ _ _ _ _ (c .before .before .pre .1) (rw q at (c .before .loop .inv .1))

@@ -28,10 +28,14 @@ wide-requires : tie.Need-wide-requires
 wide-requires c κs = search needs
 
 mul-result : tie.Need-mul-result
-mul-result c = let k = c .before .before .before .before .before .before .before .pre .3 (omega (arith, c .before .before .before .if1 .left)) (omega (arith, c .before .before .if2 .left)) in omega (arith, k, c .wide .ensures)
+mul-result c =
+    let k = c .before .before .before .before .before .before .before .pre .3 (omega (arith, c .before .before .before .if1 .left)) (omega (arith, c .before .before .if2 .left)) in
+    omega (arith, k, c .wide .ensures)
 
 element-copy-out-result : tie.Need-element-copy-out-result
-element-copy-out-result c = let k = c .before .before .before .before .before .before .before .pre .3 (omega (arith, c .before .before .before .if1 .left)) (omega (arith, c .before .before .if2 .left)) in omega (arith, k, c .wide .ensures)
+element-copy-out-result c =
+    let k = c .before .before .before .before .before .before .before .pre .3 (omega (arith, c .before .before .before .if1 .left)) (omega (arith, c .before .before .if2 .left)) in
+    omega (arith, k, c .wide .ensures)
 
 returns-3 : tie.Need-returns-3
 returns-3 c = (λ z. (omega (arith, c .before .before .before .before .if1 .left), omega (arith, c .before .before .before .if2 .left)), λ z h k. ap (λ (i : ℕ). getD (c .before .before .before .before .before .before .before .before .args .tops .now) i 0) (sym (c .before .wide .ensures)) ∙ not-zero _ z)

@@ -42,7 +42,10 @@ loop-less : tie.Need-loop-less Inv-loop μ-loop
 loop-less c = search needs
 
 loop-again : tie.Need-loop-again Inv-loop μ-loop
-loop-again c = (omega arith, filled-set (c .before .before .before .loop .inv .1) _ (omega (arith, c .before .before .before .before .pre)) (joined-word (c .before .before .before .before .args .set .now) (c .before .before .before .before .args .more .now) (c .before .before .before .loop .i) _ (c .before .before .before .loop .inv .1)))
+loop-again c =
+    let turn = c .before .before .before .loop in
+    let args2 = c .before .before .before .before .args in
+    (omega arith, filled-set (turn .inv .1) _ (omega (arith, c .before .before .before .before .pre)) (joined-word (args2 .set .now) (args2 .more .now) (turn .i) _ (turn .inv .1)))
 
 returns : tie.Need-returns Inv-loop μ-loop
 returns c = let q : c .before .loop .i ≡ 4 = omega arith in joined _ _ _ (c .before .before .pre) (rw q at (c .before .loop .inv .1))

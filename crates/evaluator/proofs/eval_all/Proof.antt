@@ -21,13 +21,18 @@ sub-e : tie.Need-sub-e Inv-loop μ-loop
 sub-e c = omega (arith, c .loop-test .taken)
 
 eval-entry-requires : tie.Need-eval-entry-requires Inv-loop μ-loop
-eval-entry-requires c κs = (c .before .before .before .loop .inv .1 .standing, (c .before .before .before .before .before .before .before .pre .1, (omega (arith, c .before .before .before .loop .inv .0, c .before .before .loop-test .taken), swept-known _ _ _ _ _ _ _ _ _ (c .before .before .before .loop .inv .1) _ (omega (arith, c .before .before .loop-test .taken)))))
+eval-entry-requires c κs =
+    let inv2 = c .before .before .before .loop .inv in
+    let loop-test2 = c .before .before .loop-test .taken in
+    (inv2 .1 .standing, (c .before .before .before .before .before .before .before .pre .1, (omega (arith, inv2 .0, loop-test2), swept-known _ _ _ _ _ _ _ _ _ (inv2 .1) _ (omega (arith, loop-test2)))))
 
 loop-less : tie.Need-loop-less Inv-loop μ-loop
 loop-less c = omega (arith, c .before .before .before .loop-test .taken)
 
 loop-again : tie.Need-loop-again Inv-loop μ-loop
-loop-again c = (omega (arith, c .before .before .before .before .loop .inv .0), swept-next _ _ _ _ _ _ _ _ _ _ _ (c .before .before .before .before .loop .inv .1) _ (omega (arith, c .before .before .before .loop-test .taken)) (c .eval-entry .ensures))
+loop-again c =
+    let inv2 = c .before .before .before .before .loop .inv in
+    (omega (arith, inv2 .0), swept-next _ _ _ _ _ _ _ _ _ _ _ (inv2 .1) _ (omega (arith, c .before .before .before .loop-test .taken)) (c .eval-entry .ensures))
 
 returns : tie.Need-returns Inv-loop μ-loop
 returns c = let q : c .before .loop .e ≡ 0 = omega (arith, c .loop-test .left) in rw q at (c .before .loop .inv .1)

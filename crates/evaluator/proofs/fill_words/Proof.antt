@@ -23,16 +23,22 @@ find-users-requires : tie.Need-find-users-requires
 find-users-requires c κs = (c .before .before .before .before .before .before .before .pre .0, length-replicate {A = ℕ} 1024 0)
 
 eval-all-requires : tie.Need-eval-all-requires
-eval-all-requires c κs = (standing-first _ _ _ _ _ _ (c .before .before .before .before .before .before .before .before .before .before .before .before .before .before .pre .0) (c .before .before .before .before .before .before .before .before .before .before .before .before .before .before .pre .1 .0) (rows-inside (c .before .before .before .before .before .before .before .before .before .row-words .ensures) 64), record { tops = c .before .before .before .before .before .before .before .before .find-tops .ensures; users = c .before .before .before .before .before .before .find-users .ensures })
+eval-all-requires c κs =
+    let given = c .before .before .before .before .before .before .before .before .before .before .before .before .before .before .pre in
+    (standing-first _ _ _ _ _ _ (given .0) (given .1 .0) (rows-inside (c .before .before .before .before .before .before .before .before .before .row-words .ensures) 64), record { tops = c .before .before .before .before .before .before .before .before .find-tops .ensures; users = c .before .before .before .before .before .before .find-users .ensures })
 
 hand-over-requires : tie.Need-hand-over-requires
-hand-over-requires c κs = omega (arith, c .before .before .before .before .before .before .before .before .before .before .before .before .before .before .before .before .before .pre .1 .1, c .before .before .before .before .before .before .before .before .before .before .before .before .before .before .before .before .before .pre .0 .few)
+hand-over-requires c κs =
+    let given = c .before .before .before .before .before .before .before .before .before .before .before .before .before .before .before .before .before .pre in
+    omega (arith, given .1 .1, given .0 .few)
 
 same-length : tie.Need-same-length
 same-length c = search needs
 
 returns : tie.Need-returns
-returns c = every-word _ _ _ _ _ _ _ _ (c .before .before .before .before .before .eval-all .ensures) _ _ (c .before .before .before .before .before .before .before .before .before .before .before .before .before .before .before .before .before .before .before .before .pre .1 .1) (c .before .before .hand-over .ensures) ∙ rows-words (c .before .before .before .before .before .before .before .before .before .before .before .before .before .before .before .row-words .ensures) (c .before .before .before .before .before .before .before .before .before .before .before .before .before .before .before .before .before .before .before .before .args .masks .now) (tableFrom (c .before .before .before .before .before .before .before .before .before .before .before .before .before .before .before .before .before .before .before .before .args .kinds .now) (c .before .before .before .before .before .before .before .before .before .before .before .before .before .before .before .before .before .before .before .before .args .a .now) (c .before .before .before .before .before .before .before .before .before .before .before .before .before .before .before .before .before .before .before .before .args .b .now))
+returns c =
+    let args2 = c .before .before .before .before .before .before .before .before .before .before .before .before .before .before .before .before .before .before .before .before .args in
+    every-word _ _ _ _ _ _ _ _ (c .before .before .before .before .before .eval-all .ensures) _ _ (c .before .before .before .before .before .before .before .before .before .before .before .before .before .before .before .before .before .before .before .before .pre .1 .1) (c .before .before .hand-over .ensures) ∙ rows-words (c .before .before .before .before .before .before .before .before .before .before .before .before .before .before .before .row-words .ensures) (args2 .masks .now) (tableFrom (args2 .kinds .now) (args2 .a .now) (args2 .b .now))
 
 pub fill-words-spec : {M : Type 1} → statement M
 fill-words-spec =

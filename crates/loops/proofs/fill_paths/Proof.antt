@@ -19,10 +19,14 @@ loop-holds : tie.Need-loop-holds Inv-loop μ-loop
 loop-holds c = (omega arith, refl, refl, none-below _ _ _ _ _ _ _)
 
 may-loop-requires : tie.Need-may-loop-requires Inv-loop μ-loop
-may-loop-requires c κs = (omega (arith, c .before .before .before .before .before .before .before .before .pre .room), omega (arith, c .before .before .before .before .before .before .before .before .pre .room), c .before .before .before .before .before .before .before .before .pre .within _ (c .loop-test .taken))
+may-loop-requires c κs =
+    let given = c .before .before .before .before .before .before .before .before .pre in
+    (omega (arith, given .room), omega (arith, given .room), given .within _ (c .loop-test .taken))
 
 nearest-requires : tie.Need-nearest-requires Inv-loop μ-loop
-nearest-requires c κs = (omega (arith, c .before .before .before .before .before .before .before .before .before .before .pre .upward .few), omega (arith, c .before .before .before .before .before .before .before .before .before .before .pre .room), omega arith, λ w k h. c .before .before .before .before .before .before .before .before .before .before .pre .upward .parented w k (omega arith))
+nearest-requires c κs =
+    let given = c .before .before .before .before .before .before .before .before .before .before .pre in
+    (omega (arith, given .upward .few), omega (arith, given .room), omega arith, λ w k h. given .upward .parented w k (omega arith))
 
 mul-bars : tie.Need-mul-bars Inv-loop μ-loop
 mul-bars c = search needs
@@ -34,7 +38,9 @@ shared-slice-read-nearest : tie.Need-shared-slice-read-nearest Inv-loop μ-loop
 shared-slice-read-nearest c = omega (arith, c .before .before .before .before .before .before .before .before .before .before .before .before .before .pre .room)
 
 nearest-requires-2 : tie.Need-nearest-requires-2 Inv-loop μ-loop
-nearest-requires-2 c κs = (omega (arith, c .before .before .before .before .before .before .before .before .before .before .before .before .before .pre .upward .few), omega (arith, c .before .before .before .before .before .before .before .before .before .before .before .before .before .pre .room), omega arith, λ w k h. c .before .before .before .before .before .before .before .before .before .before .before .before .before .pre .upward .parented w k (omega arith))
+nearest-requires-2 c κs =
+    let given = c .before .before .before .before .before .before .before .before .before .before .before .before .before .pre in
+    (omega (arith, given .upward .few), omega (arith, given .room), omega arith, λ w k h. given .upward .parented w k (omega arith))
 
 mul-boxes : tie.Need-mul-boxes Inv-loop μ-loop
 mul-boxes c = search needs

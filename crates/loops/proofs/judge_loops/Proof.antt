@@ -17,7 +17,9 @@ same-length-2 : tie.Need-same-length-2
 same-length-2 c = search needs
 
 returns : tie.Need-returns
-returns c = c .judge-paths .ensures _ _ (leaves-told _ _ _ (c .before .before .before .before .before .before .before .before .before .before .before .before .before .before .before .before .before .pre .1 .2) (c .before .before .before .before .before .before .before .fill-paths .ensures _ (c .before .before .before .before .before .before .before .before .before .before .before .before .before .before .before .before .before .pre .1 .1)))
+returns c =
+    let given = c .before .before .before .before .before .before .before .before .before .before .before .before .before .before .before .before .before .pre .1 in
+    c .judge-paths .ensures _ _ (leaves-told _ _ _ (given .2) (c .before .before .before .before .before .before .before .fill-paths .ensures _ (given .1)))
 
 pub judge-loops-spec : {M : Type 1} → statement M
 judge-loops-spec =

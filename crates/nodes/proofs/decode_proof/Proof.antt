@@ -24,7 +24,9 @@ more c = omega (arith, c .before .loop .inv .1, c .loop-test .taken)
 -- the slices are as long as they were
 lengths : (c : tie.At-loop Inv-loop μ-loop) → let a = c .before .before .before .before .before .before .before .args in
     SameLengths (a .rules .now) (a .links .now) (a .starts .now) (a .codes .now) (c .loop .rules) (c .loop .links) (c .loop .starts) (c .loop .codes)
-lengths c = stored-long (c .before .before .before .before .before .before .before .pre .0) (c .before .before .before .before .before .before .before .pre .1) (c .loop .inv .2) (omega (arith, c .loop .inv .1))
+lengths c =
+    let given = c .before .before .before .before .before .before .before .pre in
+    stored-long (given .0) (given .1) (c .loop .inv .2) (omega (arith, c .loop .inv .1))
 
 -- and have room for the nodes that the file has
 columns : (c : tie.At-loop Inv-loop μ-loop) → let a = c .before .before .before .before .before .before .before .args in Columns (wordAt (a .bytes .now) 4) (a .rules .now) (a .links .now) (a .starts .now) (a .codes .now)

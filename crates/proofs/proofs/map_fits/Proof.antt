@@ -14,7 +14,9 @@ low-map-requires : tie.Need-low-map-requires
 low-map-requires c κs = search needs
 
 returns-2 : tie.Need-returns-2
-returns-2 c = rw (le-leb (c .before .before .before .args .rule) 11 (c .before .before .if1 .left), eq-eqb (c .before .before .before .args .map) (lowMap (c .before .before .before .args .rule)) (omega (arith, c .before .low-map .ensures))) refl
+returns-2 c =
+    let args2 = c .before .before .before .args in
+    rw (le-leb (args2 .rule) 11 (c .before .before .if1 .left), eq-eqb (args2 .map) (lowMap (args2 .rule)) (omega (arith, c .before .low-map .ensures))) refl
 
 add-result : tie.Need-add-result
 add-result c = search needs

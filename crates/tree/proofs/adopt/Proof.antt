@@ -46,7 +46,9 @@ same-length : tie.Need-same-length
 same-length c = search needs
 
 returns-2 : tie.Need-returns-2
-returns-2 c = first-refused _ _ _ _ _ (c .before .before .before .before .before .before .before .before .before .before .before .before .before .pre .1) (c .before .before .before .before .before .before .before .before .before .before .before .before .before .pre .2) (some-first (c .before .before .before .before .before .before .before)) (rw (c .before .before .before .before .wide .ensures) at (c .before .before .before .take-child .ensures)) (not-true _ (c .if2 .taken))
+returns-2 c =
+    let given = c .before .before .before .before .before .before .before .before .before .before .before .before .before .pre in
+    first-refused _ _ _ _ _ (given .1) (given .2) (some-first (c .before .before .before .before .before .before .before)) (rw (c .before .before .before .before .wide .ensures) at (c .before .before .before .take-child .ensures)) (not-true _ (c .if2 .taken))
 
 has-second-requires : tie.Need-has-second-requires
 has-second-requires c κs = search needs

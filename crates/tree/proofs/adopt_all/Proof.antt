@@ -21,7 +21,9 @@ loop-holds : tie.Need-loop-holds Inv-loop μ-loop
 loop-holds c = (omega arith, refl, none-yet _ _ _ _ (c .before .before .before .pre .0 .room .2) (c .before .before .before .pre .1), λ ss cs w h. absurd (omega arith))
 
 adopt-requires : tie.Need-adopt-requires Inv-loop μ-loop
-adopt-requires c κs = (record { few = c .before .before .before .before .before .before .pre .0 .few; room = (c .before .before .before .before .before .before .pre .0 .room .0, c .before .before .before .before .before .before .pre .0 .room .1, omega (arith, c .before .before .before .before .before .before .pre .0 .room)) }, c .before .loop-test .taken, c .before .before .loop .inv .2)
+adopt-requires c κs =
+    let given = c .before .before .before .before .before .before .pre .0 in
+    (record { few = given .few; room = (given .room .0, given .room .1, omega (arith, given .room)) }, c .before .loop-test .taken, c .before .before .loop .inv .2)
 
 cast-t10 : tie.Need-cast-t10 Inv-loop μ-loop
 cast-t10 c = omega (arith, c .before .before .before .before .before .before .before .before .before .before .pre .0 .few)
@@ -39,7 +41,10 @@ loop-less : tie.Need-loop-less Inv-loop μ-loop
 loop-less c = omega arith
 
 loop-again : tie.Need-loop-again Inv-loop μ-loop
-loop-again c = (omega arith, omega (arith, c .before .before .before .before .before .before .loop .inv .1), c .before .before .before .adopt .ensures .owned (not-false _ (c .if1 .left)), fit-more _ _ _ (c .before .before .before .before .before .before .loop .inv .3) (c .before .before .before .adopt .ensures) (not-false _ (c .if1 .left)))
+loop-again c =
+    let inv2 = c .before .before .before .before .before .before .loop .inv in
+    let adopt-told = c .before .before .before .adopt .ensures in
+    (omega arith, omega (arith, inv2 .1), adopt-told .owned (not-false _ (c .if1 .left)), fit-more _ _ _ (inv2 .3) (adopt-told) (not-false _ (c .if1 .left)))
 
 same-length-2 : tie.Need-same-length-2 Inv-loop μ-loop
 same-length-2 c = c .before .loop .inv .1

@@ -19,7 +19,9 @@ shared-slice-read-result : tie.Need-shared-slice-read-result
 shared-slice-read-result c = search needs
 
 returns-3 : tie.Need-returns-3
-returns-3 c = rw (lt-ltb (c .before .before .before .args .v) (c .before .before .before .args .w) (omega arith), lt-ltb (c .before .before .before .args .w) (c .before .before .before .args .nodes) (omega arith)) refl
+returns-3 c =
+    let args2 = c .before .before .before .args in
+    rw (lt-ltb (args2 .v) (args2 .w) (omega arith), lt-ltb (args2 .w) (args2 .nodes) (omega arith)) refl
 
 pub child-fits-spec : {M : Type 1} → statement M
 child-fits-spec =

@@ -11,19 +11,27 @@ returns : tie.Need-returns
 returns c = sym (out-letter (c .before .before .args .kind) (c .before .before .args .first) (c .before .before .args .second) (c .before .before .args .e) (omega arith) (omega arith))
 
 returns-2 : tie.Need-returns-2
-returns-2 c = rw (out-two (c .before .before .before .before .args .kind) (c .before .before .before .before .args .first) (c .before .before .before .before .args .second) (c .before .before .before .before .args .e) (omega arith) (omega arith), le-leb _ _ (c .if4 .taken)) refl
+returns-2 c =
+    let args2 = c .before .before .before .before .args in
+    rw (out-two (args2 .kind) (args2 .first) (args2 .second) (args2 .e) (omega arith) (omega arith), le-leb _ _ (c .if4 .taken)) refl
 
 returns-3 : tie.Need-returns-3
-returns-3 c = rw (out-two (c .before .before .before .before .args .kind) (c .before .before .before .before .args .first) (c .before .before .before .before .args .second) (c .before .before .before .before .args .e) (omega arith) (omega arith), lt-leb _ _ (c .if4 .left)) refl
+returns-3 c =
+    let args2 = c .before .before .before .before .args in
+    rw (out-two (args2 .kind) (args2 .first) (args2 .second) (args2 .e) (omega arith) (omega arith), lt-leb _ _ (c .if4 .left)) refl
 
 returns-4 : tie.Need-returns-4
-returns-4 c = sym (out-one (c .before .before .before .before .args .kind) (c .before .before .before .before .args .first) (c .before .before .before .before .args .second) (c .before .before .before .before .args .e) (omega arith) (omega arith))
+returns-4 c =
+    let args2 = c .before .before .before .before .args in
+    sym (out-one (args2 .kind) (args2 .first) (args2 .second) (args2 .e) (omega arith) (omega arith))
 
 returns-5 : tie.Need-returns-5
 returns-5 c = sym (out-none (c .before .args .kind) (c .before .args .first) (c .before .args .second) (c .before .args .e) (inl (omega arith)))
 
 returns-6 : tie.Need-returns-6
-returns-6 c = sym (out-none (c .before .before .before .before .args .kind) (c .before .before .before .before .args .first) (c .before .before .before .before .args .second) (c .before .before .before .before .args .e) (inr (omega arith)))
+returns-6 c =
+    let args2 = c .before .before .before .before .args in
+    sym (out-none (args2 .kind) (args2 .first) (args2 .second) (args2 .e) (inr (omega arith)))
 
 pub operands-out-spec : {M : Type 1} → statement M
 operands-out-spec = tie.close (tie.spec returns returns-2 returns-3 returns-4 returns-5 returns-6)

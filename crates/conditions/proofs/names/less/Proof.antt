@@ -3,7 +3,9 @@ use Rattle.conditions.proofs.names.less.Statement.{statement}
 use Rattle.conditions.proofs.names.less.Tie as tie
 
 returns : tie.Need-returns
-returns c = less-marks (c .before .before .before .before .before .before .before .before .before .before .before .before .args .x) (c .before .before .before .before .before .before .before .before .before .before .before .before .args .y)
+returns c =
+    let args2 = c .before .before .before .before .before .before .before .before .before .before .before .before .args in
+    less-marks (args2 .x) (args2 .y)
 
 pub less-spec : {M : Type 1} → statement M
 less-spec = tie.close (tie.spec returns)

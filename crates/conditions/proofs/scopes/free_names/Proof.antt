@@ -26,13 +26,17 @@ returns : tie.Need-returns
 returns c = let given = c .before .before .args in made-name freeRow free-joins (given .kind) (given .first) (given .e) (given .x) (given .y) _ (c .before .match .keys1) (c .only .ensures)
 
 returns-2 : tie.Need-returns-2
-returns-2 c = let given = c .before .before .before .before .args in made-two freeRow free-joins (given .kind) (given .first) (given .e) (given .x) (given .y) _ (omega arith) (omega arith) (c .union .ensures)
+returns-2 c =
+    let given = c .before .before .before .before .args in
+    made-two freeRow free-joins (given .kind) (given .first) (given .e) (given .x) (given .y) _ (omega arith) (omega arith) (c .union .ensures)
 
 returns-3 : tie.Need-returns-3
 returns-3 c = let given = c .before .before .before .before .args in free-step (given .kind) (given .first) (given .e) (given .x) (given .y) (omega arith) (omega arith)
 
 returns-4 : tie.Need-returns-4
-returns-4 c = let given = c .before .before .before .before .before .before .before .args in free-fix (given .kind) (given .first) (given .e) (given .x) (given .y) (omega arith) (omega arith) _ _ (c .before .only2 .ensures) (c .less .ensures)
+returns-4 c =
+    let given = c .before .before .before .before .before .before .before .args in
+    free-fix (given .kind) (given .first) (given .e) (given .x) (given .y) (omega arith) (omega arith) _ _ (c .before .only2 .ensures) (c .less .ensures)
 
 returns-5 : tie.Need-returns-5
 returns-5 c =

@@ -20,7 +20,9 @@ returns : tie.Need-returns
 returns c = let given = c .before .before .args in made-name openRow open-joins (given .kind) (given .first) (given .e) (given .x) (given .y) _ (c .before .match .keys1) (c .only .ensures)
 
 returns-2 : tie.Need-returns-2
-returns-2 c = let given = c .before .before .before .before .args in made-two openRow open-joins (given .kind) (given .first) (given .e) (given .x) (given .y) _ (omega arith) (omega arith) (c .union .ensures)
+returns-2 c =
+    let given = c .before .before .before .before .args in
+    made-two openRow open-joins (given .kind) (given .first) (given .e) (given .x) (given .y) _ (omega arith) (omega arith) (c .union .ensures)
 
 returns-3 : tie.Need-returns-3
 returns-3 c = let given = c .before .before .before .before .before .args in open-fix (given .kind) (given .first) (given .e) (given .x) (given .y) (omega arith) (omega arith)

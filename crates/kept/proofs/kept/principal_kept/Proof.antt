@@ -29,7 +29,9 @@ belonging c = c .has .ensures _ (own (c .before .before))
 
 -- where it does, it is the code of an entry, and the side is what is left
 principal : (c : tie.Else1) → let a = c .before .before .before .before .before .before .before .before .before .before .before .before .before .before .args in Coded (a .kinds .now) (a .a .now) (a .b .now) (a .size) (getD (a .links .now) (4 * a .v) 0)
-principal c = let p = c .before .before .before .before .before .before .before .before .before .before .before .before .before .before .pre in coded (p .0) _ (p .1) (was-true (belonging (c .before)) (c .if1 .left))
+principal c =
+    let p = c .before .before .before .before .before .before .before .before .before .before .before .before .before .before .pre in
+    coded (p .0) _ (p .1) (was-true (belonging (c .before)) (c .if1 .left))
 
 sided : (c : tie.After-take) → let a = c .before .before .before .before .before .before .before .before .before .before .before .before .before .before .before .before .args in Side (c .take .last .0) (getD (a .links .now) (4 * a .v) 0) (codesAt (a .starts .now) (a .codes .now) (a .v))
 sided c = record { belongs = was-true (belonging (c .before .before .before)) (c .before .before .if1 .left); holds = c .take .ensures _ (own (c .before .before .before .before .before)) }

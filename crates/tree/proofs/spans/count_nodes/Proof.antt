@@ -56,7 +56,9 @@ slice-read-sizes : tie.Need-slice-read-sizes Inv-loop μ-loop
 slice-read-sizes c = search needs
 
 add-sizes : tie.Need-add-sizes Inv-loop μ-loop
-add-sizes c = rw (c .before .before .wide .ensures) (omega (arith, size-fits _ _ _ (c .before .before .before .before .before .before .before .before .before .pre .0 .parented) (c .before .before .before .before .loop-test .taken) (c .before .before .before .before .before .loop .inv .1) _ _ (c .before .before .before .before .before .loop .inv .4)))
+add-sizes c =
+    let inv2 = c .before .before .before .before .before .loop .inv in
+    rw (c .before .before .wide .ensures) (omega (arith, size-fits _ _ _ (c .before .before .before .before .before .before .before .before .before .pre .0 .parented) (c .before .before .before .before .loop-test .taken) (inv2 .1) _ _ (inv2 .4)))
 
 mul-sizes-2 : tie.Need-mul-sizes-2 Inv-loop μ-loop
 mul-sizes-2 c = omega (arith, below (c .before .before .before .before))

@@ -48,7 +48,10 @@ slice-read-entry-2 : tie.Need-slice-read-entry-2 Inv-loop μ-loop
 slice-read-entry-2 c = search needs
 
 add-entry : tie.Need-add-entry Inv-loop μ-loop
-add-entry c = rw (c .before .before .wide .ensures) (omega (arith, exit-fits _ _ (c .before .before .before .before .before .before .before .before .before .pre .0 .parented) (c .before .before .before .before .before .before .before .before .before .pre .0 .some) _ _ (c .before .before .before .before .before .before .before .before .before .pre .1) _ (c .before .before .before .before .before .loop .inv .0) (c .before .before .before .before .loop-test .taken) _ _ (c .before .before .before .before .before .loop .inv .4)))
+add-entry c =
+    let given = c .before .before .before .before .before .before .before .before .before .pre in
+    let inv2 = c .before .before .before .before .before .loop .inv in
+    rw (c .before .before .wide .ensures) (omega (arith, exit-fits _ _ (given .0 .parented) (given .0 .some) _ _ (given .1) _ (inv2 .0) (c .before .before .before .before .loop-test .taken) _ _ (inv2 .4)))
 
 mul-entries : tie.Need-mul-entries Inv-loop μ-loop
 mul-entries c = search needs
@@ -63,7 +66,10 @@ slice-read-exits : tie.Need-slice-read-exits Inv-loop μ-loop
 slice-read-exits c = search needs
 
 add-exits : tie.Need-add-exits Inv-loop μ-loop
-add-exits c = rw (c .before .before .before .wide .ensures) (omega (arith, exit-fits _ _ (c .before .before .before .before .before .before .before .before .before .before .pre .0 .parented) (c .before .before .before .before .before .before .before .before .before .before .pre .0 .some) _ _ (c .before .before .before .before .before .before .before .before .before .before .pre .1) _ (c .before .before .before .before .before .before .loop .inv .0) (c .before .before .before .before .before .loop-test .taken) _ _ (c .before .before .before .before .before .before .loop .inv .4)))
+add-exits c =
+    let given = c .before .before .before .before .before .before .before .before .before .before .pre in
+    let inv2 = c .before .before .before .before .before .before .loop .inv in
+    rw (c .before .before .before .wide .ensures) (omega (arith, exit-fits _ _ (given .0 .parented) (given .0 .some) _ _ (given .1) _ (inv2 .0) (c .before .before .before .before .before .loop-test .taken) _ _ (inv2 .4)))
 
 mul-exits-2 : tie.Need-mul-exits-2 Inv-loop μ-loop
 mul-exits-2 c = search needs
@@ -88,7 +94,10 @@ same-length-2 : tie.Need-same-length-2 Inv-loop μ-loop
 same-length-2 c = c .before .loop .inv .3
 
 returns : tie.Need-returns Inv-loop μ-loop
-returns c = let e : c .before .loop .v ≡ c .before .before .before .before .before .args .nodes = omega (arith, c .before .loop .inv .1, c .loop-test .left) in spans-tell _ _ _ _ (c .before .before .before .before .before .pre .0 .parented) (spans-done _ _ (c .before .before .before .before .before .pre .0 .parented) (c .before .before .before .before .before .pre .0 .some) _ _ (c .before .before .before .before .before .pre .1) _ _ (rw e at (c .before .loop .inv .4)))
+returns c =
+    let given = c .before .before .before .before .before .pre in
+    let e : c .before .loop .v ≡ c .before .before .before .before .before .args .nodes = omega (arith, c .before .loop .inv .1, c .loop-test .left) in
+    spans-tell _ _ _ _ (given .0 .parented) (spans-done _ _ (given .0 .parented) (given .0 .some) _ _ (given .1) _ _ (rw e at (c .before .loop .inv .4)))
 
 pub number-nodes-spec : {M : Type 1} → statement M
 number-nodes-spec =
