@@ -1,3 +1,4 @@
 pub mod IfSet
 pub mod Bits
 pub mod WordLaws
+pub mod WordSet

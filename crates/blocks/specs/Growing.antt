@@ -13,7 +13,8 @@ use Rattle.formula.specs.Shape.{shape, Operand}
 use Rattle.forming.specs.FormedLaws.{operand-reads}
 use Rattle.entry_sets.specs.Counting.{Within}
 use Rattle.blocks.specs.Gathering.{Grown}
-use Rattle.entry_sets.specs.Sets.{inSet, Inserted, inserted-old, inserted-new}
+use Rattle.bits.specs.WordSet.{inSet}
+use Rattle.entry_sets.specs.Sets.{Inserted, inserted-old, inserted-new}
 use Rattle.forming.specs.Claim.{tableFrom, Claim}
 use Rattle.dependencies.specs.Operands.{reads-kind, operand-name, a-operand, b-operand}
 

@@ -26,7 +26,8 @@ use Rattle.states.specs.PlainModel.{rowModel}
 use Rattle.forming.specs.Settled.{formed}
 use Rattle.blocks.specs.Iteration.{Block, Moving, Rests, left, left-most, moving-begin, moving-formed, onward, rests-woken, rests-same, moving-end, left-down, left-less}
 use Rattle.entry_sets.specs.Counting.{Within, count, count-mono, count-less, count-some, measure, measure-less, measure-same}
-use Rattle.entry_sets.specs.Sets.{inSet, in-below, past-words, Removed, removed-less, removed-rest}
+use Rattle.bits.specs.WordSet.{inSet, past-words}
+use Rattle.entry_sets.specs.Sets.{in-below, Removed, removed-less, removed-rest}
 use Rattle.dependencies.specs.Users.{Users}
 use Rattle.blocks.specs.Waking.{Woken}
 use Rattle.forming.specs.Claim.{tableFrom, Claim}
@@ -157,7 +158,7 @@ module _ (ks xs ys masks rows : List ℕ) (size : ℕ) where
 
         still : (c : ℕ) → inSet rs c ≡ false → Dec (c < 256) → (c ≡ e) ⊎ (inSet qs c ≡ false)
         still c i (yes m) = rest-out c (or-left (inSet ps c) _ (sym (N .waits c m) ∙ i))
-        still c i (no m) = inr (past-words qs l c (omega arith))
+        still c i (no m) = inr (past-words qs c (omega (arith, l)))
 
   -- after some turns
   pub record Iterating (σ : Fix) (ds bs ws qs : List ℕ) : Type 0 where

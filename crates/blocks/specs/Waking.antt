@@ -8,7 +8,8 @@ use lib.Bits.{bitAnd, bitOr}
 use lib.ListN.{length, getD}
 use Rattle.bits.specs.Bits.{bit, or-bit, and-bit}
 use Rattle.states.specs.Fill.{Filled}
-use Rattle.entry_sets.specs.Sets.{inSet, by-words}
+use Rattle.bits.specs.WordSet.{inSet}
+use Rattle.entry_sets.specs.Sets.{by-words}
 
 -- a word of the waiting set, with those of the block that read e
 unfoldable pub wokenWord : List ℕ → List ℕ → ℕ → List ℕ → ℕ → ℕ

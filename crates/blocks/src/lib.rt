@@ -2,7 +2,8 @@
 ghost use mathlib.Core.Path.{_≡_};
 ghost use Prim.Native.Nat.{_<_, _≤_};
 ghost use lib.ListN.{length, getD, set};
-ghost use Rattle.entry_sets.specs.Sets.{inSet, Inserted};
+ghost use Rattle.bits.specs.WordSet.{inSet};
+ghost use Rattle.entry_sets.specs.Sets.{Inserted};
 ghost use Rattle.forming.specs.Claim.{tableFrom, Claim};
 ghost use Rattle.forming.specs.Ready.{Ready, formedWord};
 ghost use Rattle.blocks.specs.Gathering.{Grown};

@@ -10,7 +10,8 @@ use lib.ListN.{length, getD}
 use Rattle.formula.specs.Shape.{shape}
 use Rattle.forming.specs.FormedLaws.{Reads}
 use Rattle.entry_sets.specs.Counting.{Within}
-use Rattle.entry_sets.specs.Sets.{inSet, Inserted, inserted-old, inserted-new}
+use Rattle.bits.specs.WordSet.{inSet}
+use Rattle.entry_sets.specs.Sets.{Inserted, inserted-old, inserted-new}
 use Rattle.forming.specs.Claim.{tableFrom, Claim}
 use Rattle.dependencies.specs.Operands.{reads-kind}
 

@@ -1,4 +1,4 @@
--- a set of numbers in words of 64 bits: number c is bit c % 64 of word c / 64
+-- sets of entries, by number: below 256, in four words
 use mathlib.Core.Path.{_≡_, refl, ap, _∙_, sym}
 use mathlib.Core.List.{List}
 use mathlib.Core.Bool.{Bool, true, false, not, _||_, _&&_}
@@ -9,78 +9,22 @@ use native.Mathlib.Omega.{arith}
 use lib.Dec.{eqb}
 use lib.Pow.{shr-shr}
 use lib.Count.{trailingZeros, under, trailing-le}
-use lib.Bits.{bitAnd, bitOr, bitXor, and-mask}
-use lib.ListN.{length, getD, set, replicate, List·getD-eq-default}
-use lib.Seq.{getD-set-same, getD-set-other}
+use lib.Bits.{bitOr}
+use lib.ListN.{length, getD}
 use borrow.Author.Tests.{eq-eqb, ne-eqb}
 use mathlib.Core.Logic.{_⊎_, inl, inr}
 use Rattle.meaning.specs.Truth.{true-or}
 use Rattle.entry_sets.specs.Counting.{Within}
-use Rattle.bits.specs.Bits.{bit, or-bit, less-bit, shift-bit, no-bit}
-use Rattle.states.specs.Fill.{Filled, zeros-at}
-
-unfoldable pub inSet : List ℕ → ℕ → Bool
-inSet w c = bit (getD w (c / 64) 0) (c % 64)
-
--- the test that the code makes
-pub in-word : (w : List ℕ) (c : ℕ) → eqb (bitAnd (getD w (c / 64) 0 / 2 ^ (c % 64)) 1) 1 ≡ inSet w c
-unfolding inSet bit
-in-word w c = ap (λ (n : ℕ). eqb n 1) (and-mask (getD w (c / 64) 0 / 2 ^ (c % 64)) 1)
-
-pub none-in : (n c : ℕ) → inSet (replicate n 0) c ≡ false
-unfolding inSet
-none-in n c = ap (λ (x : ℕ). bit x (c % 64)) (zeros-at n (c / 64)) ∙ no-bit (c % 64)
-
--- one word anew: where its bits change by f at the number's bit, the set changes by f at the number
-changed : (f : Bool → Bool → Bool) → ((b : Bool) → f b false ≡ b)
-    → (w : List ℕ) (c x : ℕ) → c / 64 < length w
-    → ((k : ℕ) → bit x k ≡ f (bit (getD w (c / 64) 0) k) (eqb k (c % 64)))
-    → (d : ℕ) → inSet (set w (c / 64) x) d ≡ f (inSet w d) (eqb d c)
-unfolding inSet
-changed f keeps w c x h b d = go (ℕ-discrete (d / 64) (c / 64)) (ℕ-discrete d c)
-  where
-    go : Dec (d / 64 ≡ c / 64) → Dec (d ≡ c) → bit (getD (set w (c / 64) x) (d / 64) 0) (d % 64) ≡ f (bit (getD w (d / 64) 0) (d % 64)) (eqb d c)
-    go (yes e) (yes q) = rw (e, getD-set-same w (c / 64) x 0 h, b (d % 64), eq-eqb d c q, eq-eqb (d % 64) (c % 64) (ap (λ (n : ℕ). n % 64) q)) refl
-    go (yes e) (no n) = rw (e, getD-set-same w (c / 64) x 0 h, b (d % 64), ne-eqb d c n, ne-eqb (d % 64) (c % 64) (λ q. n (omega arith))) refl
-    go (no n) (yes q) = absurd (n (ap (λ (m : ℕ). m / 64) q))
-    go (no n) (no m) = rw (getD-set-other w (c / 64) (d / 64) x 0 n, ne-eqb d c m) (sym (keeps _))
-
-or-false : (b : Bool) → (b || false) ≡ b
-or-false true = refl
-or-false false = refl
-
-and-true : (b : Bool) → (b && true) ≡ b
-and-true true = refl
-and-true false = refl
-
-module _ (w : List ℕ) (c : ℕ) (h : c / 64 < length w) where
-  pub in-inserted : (d : ℕ) → inSet (set w (c / 64) (bitOr (getD w (c / 64) 0) (1 * 2 ^ (c % 64) % 2 ^ 64))) d ≡ (inSet w d || eqb d c)
-  in-inserted = changed (λ a b. a || b) or-false w c _ h
-      (λ k. or-bit _ (1 * 2 ^ (c % 64) % 2 ^ 64) k ∙ ap (λ (b : Bool). bit (getD w (c / 64) 0) k || b) (shift-bit (c % 64) k (omega arith)))
-
-  pub in-removed : (d : ℕ) → inSet (set w (c / 64) (bitXor (getD w (c / 64) 0) (bitAnd (getD w (c / 64) 0) (1 * 2 ^ (c % 64) % 2 ^ 64)))) d ≡ (inSet w d && not (eqb d c))
-  in-removed = changed (λ a b. a && not b) and-true w c _ h
-      (λ k. less-bit _ (1 * 2 ^ (c % 64) % 2 ^ 64) k ∙ ap (λ (b : Bool). bit (getD w (c / 64) 0) k && not b) (shift-bit (c % 64) k (omega arith)))
-
--- no number of 256 or more is in four words
-pub past-words : (w : List ℕ) → length w ≡ 4 → (c : ℕ) → 256 ≤ c → inSet w c ≡ false
-unfolding inSet
-past-words w s c h = ap (λ (x : ℕ). bit x (c % 64)) (List·getD-eq-default w 0 (omega arith)) ∙ no-bit (c % 64)
+use Rattle.bits.specs.Bits.{bit, or-bit, no-bit}
+use Rattle.bits.specs.WordSet.{inSet, place, past-words}
+use Rattle.states.specs.Fill.{Filled}
 
 pub in-below : (w : List ℕ) → length w ≡ 4 → (c : ℕ) → inSet w c ≡ true → c < 256
 in-below w s c i = go (decLt c 256)
   where
     go : Dec (c < 256) → c < 256
     go (yes l) = l
-    go (no l) = let z : _≡_ {A = Bool} false true = sym (past-words w s c (omega arith)) ∙ i in let y : _≡_ {A = ℕ} 0 1 = cc in absurd (omega arith)
-
--- bit k of word i
-pub place : (w : List ℕ) (i k : ℕ) → k < 64 → inSet w (64 * i + k) ≡ bit (getD w i 0) k
-unfolding inSet
-place w i k h =
-    let word : (64 * i + k) / 64 ≡ i = omega arith in
-    let rest : (64 * i + k) % 64 ≡ k = omega arith in
-    rw (word, rest) refl
+    go (no l) = let z : _≡_ {A = Bool} false true = sym (past-words w c (omega (arith, s))) ∙ i in let y : _≡_ {A = ℕ} 0 1 = cc in absurd (omega arith)
 
 -- four words anew, by their bits
 pub by-words : (w v : List ℕ) (f : ℕ → ℕ) → Filled f w 4 v → length w ≡ 4 → (p : ℕ → Bool) → ((c : ℕ) → c < 256 → bit (f (c / 64)) (c % 64) ≡ p c)
@@ -139,7 +83,7 @@ lowest-none w s p q r t = record { found = λ m. absurd (omega arith); none = λ
 
     go : (c : ℕ) → Dec (c < 256) → bit (getD w (c / 64) 0) (c % 64) ≡ false
     go c (yes l) = ap (λ (x : ℕ). bit x (c % 64)) (zero-word (c / 64) (omega arith)) ∙ no-bit (c % 64)
-    go c (no l) = past-words w s c (omega arith)
+    go c (no l) = past-words w c (omega (arith, s))
 
 -- a number more
 pub record Inserted (w : List ℕ) (k : ℕ) (v : List ℕ) : Type 0 where

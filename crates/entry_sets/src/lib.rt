@@ -4,7 +4,8 @@ ghost use mathlib.Core.Bool.{true};
 ghost use Prim.Native.Nat.{_*_, _<_};
 ghost use lib.ListN.{length};
 ghost use Rattle.bits.specs.Bits.{bit};
-ghost use Rattle.entry_sets.specs.Sets.{inSet, Inserted, Removed, Joined, Lowest};
+ghost use Rattle.bits.specs.WordSet.{inSet};
+ghost use Rattle.entry_sets.specs.Sets.{Inserted, Removed, Joined, Lowest};
 
 pub fn has(set: &[u64; 4], k: usize) -> bool
     requires { ⌜ k < 256 ⌝ }

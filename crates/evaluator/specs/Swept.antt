@@ -18,8 +18,8 @@ use Rattle.states.specs.Words.{words}
 use Rattle.states.specs.WordLaws.{words-length, words-at}
 use Rattle.states.specs.StateWords.{Inside, by-bits}
 use Rattle.states.specs.PlainModel.{plainModel, wordsIn, rowModel}
-use Rattle.states.specs.Fill.{Filled, zeros-at}
-use Rattle.entry_sets.specs.Sets.{inSet, none-in}
+use Rattle.states.specs.Fill.{Filled}
+use Rattle.bits.specs.WordSet.{inSet, zeros-at, none-in}
 use Rattle.forming.specs.Claim.{tableFrom, Claim, Given, first-entries, claim-length}
 use Rattle.settling.specs.Evaluated.{Known, Standing, Evaluated}
 

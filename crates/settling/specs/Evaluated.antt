@@ -28,7 +28,8 @@ use Rattle.dependencies.specs.Tops.{Tops}
 use Rattle.blocks.specs.Iteration.{Block}
 use Rattle.entry_sets.specs.Counting.{Within, count, measure}
 use Rattle.blocks.specs.Gathering.{Grown, Gathering, met-below, gather-first, gather-grown, gather-settled, grown-nearer, settled-nearer, gather-block}
-use Rattle.entry_sets.specs.Sets.{inSet, in-below, none-in, Inserted, inserted-old, inserted-new, Removed, removed-less, removed-rest, Joined}
+use Rattle.bits.specs.WordSet.{inSet, none-in}
+use Rattle.entry_sets.specs.Sets.{in-below, Inserted, inserted-old, inserted-new, Removed, removed-less, removed-rest, Joined}
 use Rattle.dependencies.specs.Users.{Users}
 use Rattle.forming.specs.Claim.{tableFrom, Claim, leaf-at}
 use Rattle.forming.specs.Ready.{Ready, ready-again, formedWord}

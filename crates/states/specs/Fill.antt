@@ -3,8 +3,8 @@ use mathlib.Core.Path.{_≡_, refl, _∙_, subst⁻¹}
 use mathlib.Core.List.{List}
 use Prim.Native.Nat.{ℕ, _+_, _<_, _≤_}
 use native.Mathlib.Omega.{arith}
-use native.Mathlib.Decide.{decLt, ℕ-discrete}
-use lib.ListN.{length, getD, set, replicate, length-set, length-replicate, getD-replicate, List·getD-eq-default}
+use native.Mathlib.Decide.{ℕ-discrete}
+use lib.ListN.{length, getD, set, length-set}
 use lib.Seq.{getD-set-same, getD-set-other}
 
 pub record Filled (f : ℕ → ℕ) (old : List ℕ) (p : ℕ) (new : List ℕ) : Type 0 where
@@ -36,11 +36,3 @@ module _ {f : ℕ → ℕ} {old : List ℕ} {p : ℕ} {new : List ℕ} (F : Fill
       go : (e : ℕ) → e < p + 1 → Dec (e ≡ p) → getD (set new p v) e 0 ≡ f e
       go e h (yes r) = subst⁻¹ (λ (z : ℕ). getD (set new p v) z 0 ≡ f z) r (getD-set-same new p v 0 (omega (arith, F .long)) ∙ q)
       go e h (no ne) = getD-set-other new p e v 0 ne ∙ F .below e (omega arith)
-
--- where a list begins as zeros
-pub zeros-at : (n e : ℕ) → getD (replicate {A = ℕ} n 0) e 0 ≡ 0
-zeros-at n e = go (decLt e n)
-  where
-    go : Dec (e < n) → getD (replicate {A = ℕ} n 0) e 0 ≡ 0
-    go (yes h) = getD-replicate n e 0 0 h
-    go (no h) = List·getD-eq-default (replicate n 0) 0 (omega (arith, length-replicate {A = ℕ} n 0))

@@ -17,7 +17,8 @@ use Rattle.model.specs.DescribedLaws.{cell, cell-is, successor-from, successor-
 use Rattle.states.specs.Words.{word, words}
 use Rattle.states.specs.WordLaws.{word-past}
 use Rattle.states.specs.StateWords.{Inside, word-is}
-use Rattle.states.specs.Fill.{Filled, zeros-at}
+use Rattle.bits.specs.WordSet.{zeros-at}
+use Rattle.states.specs.Fill.{Filled}
 
 -- u is marked in row s; only rows and marks of states count
 abbrev pub marked : List (List ℕ) → ℕ → ℕ → ℕ → Bool

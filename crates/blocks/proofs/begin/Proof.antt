@@ -2,7 +2,8 @@
 use mathlib.Core.Path.{_≡_, refl, _∙_}
 use native.Mathlib.Omega.{arith}
 use lib.ListN.{length}
-use Rattle.entry_sets.specs.Sets.{inSet, Lowest}
+use Rattle.bits.specs.WordSet.{inSet}
+use Rattle.entry_sets.specs.Sets.{Lowest}
 use Rattle.entry_sets.specs.Counting.{count}
 use Rattle.blocks.specs.Turn.{Beginning, begin-first, begin-next, begin-nearer, begin-last}
 use borrow.Author.Needs.{needs}

@@ -1,5 +1,5 @@
 -- the test of one bit
-use Rattle.entry_sets.specs.Sets.{in-word}
+use Rattle.bits.specs.WordSet.{in-word}
 use borrow.Author.Needs.{needs}
 use Rattle.entry_sets.proofs.has.Statement.{statement}
 use Rattle.entry_sets.proofs.has.Tie as tie

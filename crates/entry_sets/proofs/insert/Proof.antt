@@ -2,7 +2,7 @@
 use mathlib.Core.Path.{refl}
 use native.Mathlib.Omega.{arith}
 use lib.ListN.{length-set}
-use Rattle.entry_sets.specs.Sets.{in-inserted}
+use Rattle.bits.specs.WordSet.{in-inserted}
 use borrow.Author.Needs.{needs}
 use Rattle.entry_sets.proofs.insert.Statement.{statement}
 use Rattle.entry_sets.proofs.insert.Tie as tie

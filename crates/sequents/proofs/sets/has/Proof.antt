@@ -1,14 +1,15 @@
 -- `has` meets its contract: no code of 512 or more is in eight words, and any other is one bit.
 use mathlib.Core.Path.{sym, _∙_}
+use native.Mathlib.Omega.{arith}
 use borrow.Author.Needs.{needs}
-use Rattle.sequents.specs.CodeSet.{past-words, in-word}
+use Rattle.bits.specs.WordSet.{past-words, in-word}
 use Rattle.sequents.proofs.sets.has.Statement.{statement}
 use Rattle.sequents.proofs.sets.has.Tie as tie
 
 returns : tie.Need-returns
 returns c l H =
     let a = c .before .args in
-    sym (past-words (a .set .now) l H (a .code) (c .if1 .taken)) ∙ H .tells (a .code)
+    sym (past-words (a .set .now) (a .code) (omega (arith, H .eight, c .if1 .taken))) ∙ H .tells (a .code)
 
 mul-word : tie.Need-mul-word
 mul-word c = search needs
