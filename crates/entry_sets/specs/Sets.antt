@@ -10,13 +10,14 @@ use lib.Dec.{eqb}
 use lib.Pow.{shr-shr}
 use lib.Count.{trailingZeros, under, trailing-le}
 use lib.Bits.{bitOr}
-use lib.ListN.{length, getD}
+use lib.ListN.{length, getD, set, length-set}
 use borrow.Author.Tests.{eq-eqb, ne-eqb}
 use mathlib.Core.Logic.{_⊎_, inl, inr}
 use Rattle.meaning.specs.Truth.{true-or}
 use Rattle.entry_sets.specs.Counting.{Within}
 use Rattle.bits.specs.Bits.{bit, or-bit, no-bit}
-use Rattle.bits.specs.WordSet.{inSet, place, past-words}
+use Rattle.bits.specs.WordLaws.{withoutBit}
+use Rattle.bits.specs.WordSet.{inSet, place, past-words, in-removed}
 use Rattle.states.specs.Fill.{Filled}
 
 pub in-below : (w : List ℕ) → length w ≡ 4 → (c : ℕ) → inSet w c ≡ true → c < 256
@@ -100,6 +101,11 @@ inserted-new {w} {v} {k} I = I .tells k ∙ true-or (inSet w k) (eqb k k) (inr (
 pub record Removed (w : List ℕ) (k : ℕ) (v : List ℕ) : Type 0 where
   pub long : length v ≡ length w
   pub tells : (d : ℕ) → inSet v d ≡ (inSet w d && not (eqb d k))
+
+-- by one word anew, that of the number
+pub removed-at : (w : List ℕ) (i k : ℕ) → length w ≡ 4 → i < 4 → k / 64 ≡ i → (x : ℕ) → x ≡ withoutBit (getD w i 0) (k % 64) → Removed w k (set w i x)
+removed-at w i k l h e x q =
+    rw (q, ← e) (record { long = length-set w (k / 64) _; tells = in-removed w k (omega (arith, l, h, e)) })
 
 module _ {w v : List ℕ} {k : ℕ} (R : Removed w k v) where
   pub removed-less : (d : ℕ) → inSet v d ≡ true → (inSet w d ≡ true) × (d ≡ k → ⊥)

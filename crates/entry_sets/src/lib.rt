@@ -1,9 +1,10 @@
 // Sets of entries, by number: number k is bit k % 64 of word k / 64.
 ghost use mathlib.Core.Path.{_≡_};
 ghost use mathlib.Core.Bool.{true};
-ghost use Prim.Native.Nat.{_*_, _<_};
+ghost use Prim.Native.Nat.{_*_, _%_, _<_};
 ghost use lib.ListN.{length};
 ghost use Rattle.bits.specs.Bits.{bit};
+ghost use Rattle.bits.specs.WordLaws.{withoutBit};
 ghost use Rattle.bits.specs.WordSet.{inSet};
 ghost use Rattle.entry_sets.specs.Sets.{Inserted, Removed, Joined, Lowest};
 
@@ -22,13 +23,31 @@ pub fn insert(set: &mut [u64], k: usize)
     set[i] = set[i] | (1u64 << (k % 64));
 }
 
+fn cleared(word: u64, k: usize) -> u64
+    ensures { λ r. ⌜ r ≡ withoutBit word (k % 64) ⌝ }
+{
+    word ^ (word & (1u64 << (k % 64)))
+}
+
+// Each word at a fixed place: a set that is only used in this way stays in registers. One that is stored to at a place worked out by the
+// call stays in memory, and the next use of its words in pairs waits for that store.
 pub fn remove(set: &mut [u64; 4], k: usize)
     requires { ⌜ (k < 256) × (length (now set) ≡ 4) ⌝ }
     ensures { λ _. ⌜ Removed (now (set .entry)) k (now (set .exit)) ⌝ }
 {
-    let i = k / 64;
-    let w = set[i];
-    set[i] = w ^ (w & (1u64 << (k % 64)));
+    if k < 64 {
+        set[0] = cleared(set[0], k);
+        return;
+    }
+    if k < 128 {
+        set[1] = cleared(set[1], k);
+        return;
+    }
+    if k < 192 {
+        set[2] = cleared(set[2], k);
+        return;
+    }
+    set[3] = cleared(set[3], k);
 }
 
 pub fn join(set: &mut [u64; 4], more: &[u64; 4])
