@@ -5,7 +5,7 @@ use Prim.Native.Nat.{ℕ, zero, suc, _+_, _*_, _-_, _<_, _≤_}
 use native.Mathlib.Nat.{le-of-suc-le-suc}
 use native.Mathlib.Numerals.{add-one}
 use native.Mathlib.Omega.{arith}
-use lib.ListN.{length, getD, take, drop, length-append, List·getD-append}
+use lib.ListN.{length, getD, take, drop, replicate, length-replicate, length-append, List·getD-append}
 use lib.Seq.{take-append-seam, drop-append-seam, getD-append-add, take-suc, split-at, ext-getD}
 use Rattle.verdict.specs.Lists.{written}
 use Rattle.formula.specs.Rule
@@ -23,6 +23,16 @@ pub record Columns (n : ℕ) (rs ls ss cs : List ℕ) : Type 0 where
 
 pub fewer : {n m : ℕ} {rs ls ss cs : List ℕ} → n ≤ m → Columns m rs ls ss cs → Columns n rs ls ss cs
 fewer h c = record { few = omega arith; rules = omega arith; links = omega arith; starts = omega arith; codes = omega arith }
+
+-- columns of zeros, k rows long
+pub room : (k : ℕ) {n : ℕ} → n ≤ k → k ≤ 1024 → Columns n (replicate k 0) (replicate (4 * k) 0) (replicate (k + 1) 0) (replicate (24 * k) 0)
+room k h few = record {
+  few = omega arith;
+  rules = omega (arith, length-replicate {A = ℕ} k 0);
+  links = omega (arith, length-replicate {A = ℕ} (4 * k) 0);
+  starts = omega (arith, length-replicate {A = ℕ} (k + 1) 0);
+  codes = omega (arith, length-replicate {A = ℕ} (24 * k) 0);
+}
 
 -- what each node adds to a column, one after the other
 unfoldable pub spread : (Node → List ℕ) → Proof → List ℕ

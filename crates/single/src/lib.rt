@@ -85,8 +85,47 @@ fn judge_few(
     )
 }
 
-// Room for 1,024 nodes. A function that may call itself is not put into its caller, so its 60,000 bytes are no part of the frame that every
-// call takes, also one that refuses at its sixth byte; nobody asks for `again`.
+// Room for 128 nodes. A function that may call itself is not put into its caller, so its 8,000 bytes are no part of the frame that every call
+// takes, also one that refuses at its sixth byte; nobody asks for `again`.
+fn judge_some(
+    proof: &[u8],
+    kinds: &[u8; 256],
+    a: &[u16; 256],
+    b: &[u16; 256],
+    entries: usize,
+    members: &[u16; 24],
+    listed: usize,
+    nodes: usize,
+    again: bool,
+) -> Verdict
+    requires { ⌜ Readable (now kinds) (now a) (now b) entries (now members) listed (now proof) nodes × (nodes ≤ 128) ⌝ }
+    ensures { λ r. ⌜ shown r ≡ judged (heldClaim (now (kinds .entry)) (now (a .entry)) (now (b .entry)) entries (now (members .entry)) listed)
+        (proofAt (now (proof .entry))) ⌝ }
+{
+    if again {
+        return judge_some(proof, kinds, a, b, entries, members, listed, nodes, false);
+    }
+    let mut rules = [0u8; 128];
+    let mut links = [0u16; 512];
+    let mut starts = [0u16; 129];
+    let mut codes = [0u16; 3072];
+    judge_in(
+        proof,
+        kinds,
+        a,
+        b,
+        entries,
+        members,
+        listed,
+        nodes,
+        &mut rules,
+        &mut links,
+        &mut starts,
+        &mut codes,
+    )
+}
+
+// Room for 1,024 nodes, 60,000 bytes, likewise.
 fn judge_many(
     proof: &[u8],
     kinds: &[u8; 256],
@@ -125,6 +164,50 @@ fn judge_many(
     )
 }
 
+// In columns of the size that the count asks for. That no call asks `again` must not be told by the branch it stands in.
+fn judge_sized(
+    proof: &[u8],
+    kinds: &[u8; 256],
+    a: &[u16; 256],
+    b: &[u16; 256],
+    entries: usize,
+    members: &[u16; 24],
+    listed: usize,
+    nodes: usize,
+) -> Verdict
+    requires { ⌜ Readable (now kinds) (now a) (now b) entries (now members) listed (now proof) nodes ⌝ }
+    ensures { λ r. ⌜ shown r ≡ judged (heldClaim (now (kinds .entry)) (now (a .entry)) (now (b .entry)) entries (now (members .entry)) listed)
+        (proofAt (now (proof .entry))) ⌝ }
+{
+    if nodes <= 32 {
+        return judge_few(proof, kinds, a, b, entries, members, listed, nodes);
+    }
+    if nodes <= 128 {
+        return judge_some(
+            proof,
+            kinds,
+            a,
+            b,
+            entries,
+            members,
+            listed,
+            nodes,
+            256 < entries,
+        );
+    }
+    judge_many(
+        proof,
+        kinds,
+        a,
+        b,
+        entries,
+        members,
+        listed,
+        nodes,
+        1024 < nodes,
+    )
+}
+
 // The first fault of two files, or acceptance.
 pub fn judge_files(claim: &[u8], proof: &[u8]) -> Verdict
     ensures { λ r. ⌜ shown r ≡ verdict (now (claim .entry)) (now (proof .entry)) ⌝ }
@@ -143,21 +226,6 @@ pub fn judge_files(claim: &[u8], proof: &[u8]) -> Verdict
             entries,
             listed,
             nodes,
-        } => {
-            if nodes <= 32 {
-                return judge_few(proof, &kinds, &a, &b, entries, &members, listed, nodes);
-            }
-            judge_many(
-                proof,
-                &kinds,
-                &a,
-                &b,
-                entries,
-                &members,
-                listed,
-                nodes,
-                1024 < nodes,
-            )
-        }
+        } => judge_sized(proof, &kinds, &a, &b, entries, &members, listed, nodes),
     }
 }

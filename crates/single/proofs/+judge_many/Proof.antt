@@ -1,7 +1,7 @@
 -- there is room for 1,024 nodes; asked again, it calls itself once
 use Prim.Native.Nat.{ℕ, _<_}
 use native.Mathlib.Omega.{arith}
-use lib.ListN.{length-replicate}
+use Rattle.formula.specs.NodeColumns.{room}
 use Rattle.bits.specs.IfSet.{ifSet}
 use Rattle.laid.specs.Readable.{count}
 use borrow.Author.Needs.{needs}
@@ -23,90 +23,45 @@ judge-many-at t = and 5 judge-many-kinds.ps (is 5 judge-many-kinds.ps μ-judge-m
 abbrev judge-many-below : ℕ → In 5 judge-many-kinds.ps
 judge-many-below t = and 5 judge-many-kinds.ps (falls 5 judge-many-kinds.ps _<_ μ-judge-many t) judge-many.Pre
 
-judge-many-judge-many-requires : (t : ℕ) → judge-many-lts.Need-judge-many-requires (
-  judge-many-below t,
-  judge-many.Post,
-  judge-in-reads.Asked,
-  judge-in-reads.Learnt,
-) (judge-many-at t) judge-many.Post
-judge-many-judge-many-requires t c κs =
-    let s = c .before .before in
-    (omega (arith, rw (c .if1 .taken) at (s .pre .0)), s .pre .1)
-
-judge-many-returns : (t : ℕ) → judge-many-lts.Need-returns (
-  judge-many-below t,
-  judge-many.Post,
-  judge-in-reads.Asked,
-  judge-in-reads.Learnt,
-) (judge-many-at t) judge-many.Post
-judge-many-returns t c = search needs
-
-judge-many-slice-aggregate-judge-in : (t : ℕ) → judge-many-lts.Need-slice-aggregate-judge-in (
-  judge-many-below t,
-  judge-many.Post,
-  judge-in-reads.Asked,
-  judge-in-reads.Learnt,
-) (judge-many-at t) judge-many.Post
-judge-many-slice-aggregate-judge-in t c = search needs
-
-judge-many-slice-aggregate-judge-in-2 : (t : ℕ) → judge-many-lts.Need-slice-aggregate-judge-in-2 (
-  judge-many-below t,
-  judge-many.Post,
-  judge-in-reads.Asked,
-  judge-in-reads.Learnt,
-) (judge-many-at t) judge-many.Post
-judge-many-slice-aggregate-judge-in-2 t c = search needs
-
-judge-many-slice-aggregate-judge-in-3 : (t : ℕ) → judge-many-lts.Need-slice-aggregate-judge-in-3 (
-  judge-many-below t,
-  judge-many.Post,
-  judge-in-reads.Asked,
-  judge-in-reads.Learnt,
-) (judge-many-at t) judge-many.Post
-judge-many-slice-aggregate-judge-in-3 t c = search needs
-
-judge-many-slice-aggregate-judge-in-4 : (t : ℕ) → judge-many-lts.Need-slice-aggregate-judge-in-4 (
-  judge-many-below t,
-  judge-many.Post,
-  judge-in-reads.Asked,
-  judge-in-reads.Learnt,
-) (judge-many-at t) judge-many.Post
-judge-many-slice-aggregate-judge-in-4 t c = search needs
-
-judge-many-judge-in-requires : (t : ℕ) → judge-many-lts.Need-judge-in-requires (
-  judge-many-below t,
-  judge-many.Post,
-  judge-in-reads.Asked,
-  judge-in-reads.Learnt,
-) (judge-many-at t) judge-many.Post
-judge-many-judge-in-requires t c κs =
-    let s = c .before .before .before .before .before .before in
-    let few = count (s .pre .1) .1 in (
-      s .pre .1,
-      record {
-        few = few;
-        rules = omega (arith, few, length-replicate {A = ℕ} 1024 0);
-        links = omega (arith, few, length-replicate {A = ℕ} 4096 0);
-        starts = omega (arith, few, length-replicate {A = ℕ} 1025 0);
-        codes = omega (arith, few, length-replicate {A = ℕ} 24576 0);
-      },
-    )
-
-judge-many-returns-2 : (t : ℕ) → judge-many-lts.Need-returns-2 (
-  judge-many-below t,
-  judge-many.Post,
-  judge-in-reads.Asked,
-  judge-in-reads.Learnt,
-) (judge-many-at t) judge-many.Post
-judge-many-returns-2 t c = search needs
-
-pub +judge-many-spec : {M : Type 1} → statement M
-+judge-many-spec = close μ-judge-many λ t. judge-many-lts.spec (
+-- what it asks of its callees and learns of them
+abbrev judge-many-callees : ℕ → judge-many-lts.Claims
+judge-many-callees t = (
   judge-many-below t,
   judge-many.Post,
   judge-in-reads.Asked,
   judge-in-reads.Learnt,
 )
+
+judge-many-judge-many-requires : (t : ℕ) → judge-many-lts.Need-judge-many-requires (judge-many-callees t) (judge-many-at t) judge-many.Post
+judge-many-judge-many-requires t c κs =
+    let s = c .before .before in
+    (omega (arith, rw (c .if1 .taken) at (s .pre .0)), s .pre .1)
+
+judge-many-returns : (t : ℕ) → judge-many-lts.Need-returns (judge-many-callees t) (judge-many-at t) judge-many.Post
+judge-many-returns t c = search needs
+
+judge-many-slice-aggregate-judge-in : (t : ℕ) → judge-many-lts.Need-slice-aggregate-judge-in (judge-many-callees t) (judge-many-at t) judge-many.Post
+judge-many-slice-aggregate-judge-in t c = search needs
+
+judge-many-slice-aggregate-judge-in-2 : (t : ℕ) → judge-many-lts.Need-slice-aggregate-judge-in-2 (judge-many-callees t) (judge-many-at t) judge-many.Post
+judge-many-slice-aggregate-judge-in-2 t c = search needs
+
+judge-many-slice-aggregate-judge-in-3 : (t : ℕ) → judge-many-lts.Need-slice-aggregate-judge-in-3 (judge-many-callees t) (judge-many-at t) judge-many.Post
+judge-many-slice-aggregate-judge-in-3 t c = search needs
+
+judge-many-slice-aggregate-judge-in-4 : (t : ℕ) → judge-many-lts.Need-slice-aggregate-judge-in-4 (judge-many-callees t) (judge-many-at t) judge-many.Post
+judge-many-slice-aggregate-judge-in-4 t c = search needs
+
+judge-many-judge-in-requires : (t : ℕ) → judge-many-lts.Need-judge-in-requires (judge-many-callees t) (judge-many-at t) judge-many.Post
+judge-many-judge-in-requires t c κs =
+    let s = c .before .before .before .before .before .before in
+    (s .pre .1, room 1024 (count (s .pre .1) .1) (omega arith))
+
+judge-many-returns-2 : (t : ℕ) → judge-many-lts.Need-returns-2 (judge-many-callees t) (judge-many-at t) judge-many.Post
+judge-many-returns-2 t c = search needs
+
+pub +judge-many-spec : {M : Type 1} → statement M
++judge-many-spec = close μ-judge-many λ t. judge-many-lts.spec (judge-many-callees t)
     (judge-many-at t)
     judge-many.Post
     (judge-many-judge-many-requires t)

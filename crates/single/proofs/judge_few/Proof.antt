@@ -1,7 +1,6 @@
 -- there is room for 32 nodes
-use Prim.Native.Nat.{ℕ}
 use native.Mathlib.Omega.{arith}
-use lib.ListN.{length-replicate}
+use Rattle.formula.specs.NodeColumns.{room}
 use borrow.Author.Needs.{needs}
 use Rattle.single.proofs.judge_few.Statement.{statement}
 use Rattle.single.proofs.judge_few.Tie as tie
@@ -21,16 +20,7 @@ slice-aggregate-judge-in-4 c = search needs
 judge-in-requires : tie.Need-judge-in-requires
 judge-in-requires c κs =
     let s = c .before .before .before .before .before in
-    let few = s .pre .1 in (
-      s .pre .0,
-      record {
-        few = omega (arith, few);
-        rules = omega (arith, few, length-replicate {A = ℕ} 32 0);
-        links = omega (arith, few, length-replicate {A = ℕ} 128 0);
-        starts = omega (arith, few, length-replicate {A = ℕ} 33 0);
-        codes = omega (arith, few, length-replicate {A = ℕ} 768 0);
-      },
-    )
+    (s .pre .0, room 32 (s .pre .1) (omega arith))
 
 returns : tie.Need-returns
 returns c = search needs

@@ -46,30 +46,19 @@ cast-t21 c = omega (arith, files-as-refused _ _ _ _ (c .before .before .before .
 enum-known-entries : tie.Need-enum-known-entries
 enum-known-entries c = search needs
 
-judge-few-requires : tie.Need-judge-few-requires
-judge-few-requires c κs =
-    let read = c .before .before .before .before .before .before .before .before in
-    (readable _ _ (claim-bytes read) (proof-bytes read) (files-as-read _ _ _ _ (read .read-beside .ensures _ _ _ _ (read .before .before .read-formed .ensures)) (c .before .before .before .before .before .before .entries .given .1)), c .before .before .before .before .if1 .taken)
+judge-sized-requires : tie.Need-judge-sized-requires
+judge-sized-requires c κs =
+    let read = c .before .before .before .before .before .before .before in
+    readable _ _ (claim-bytes read) (proof-bytes read) (files-as-read _ _ _ _ (read .read-beside .ensures _ _ _ _ (read .before .before .read-formed .ensures)) (c .before .before .before .before .before .entries .given .1))
 
 returns : tie.Need-returns
-returns c =
-    let read = c .before .before .before .before .before .before .before .before .before in
-    let got = files-as-read _ _ _ _ (read .read-beside .ensures _ _ _ _ (read .before .before .read-formed .ensures)) (c .before .before .before .before .before .before .before .entries .given .1) in
-    c .judge-few .ensures ∙ sym (verdict-is _ _ ∙ ap answer (got .was) ∙ readable-judged _ _ (claim-bytes read) (proof-bytes read) got)
-
-judge-many-requires : tie.Need-judge-many-requires
-judge-many-requires c κs =
-    let read = c .before .before .before .before .before .before .before .before in
-    readable _ _ (claim-bytes read) (proof-bytes read) (files-as-read _ _ _ _ (read .read-beside .ensures _ _ _ _ (read .before .before .read-formed .ensures)) (c .before .before .before .before .before .before .entries .given .1))
+returns c = sym (verdict-is _ _ ∙ ap answer (files-as-refused _ _ _ _ (c .before .before .before .read-beside .ensures _ _ _ _ (c .before .before .before .before .before .read-formed .ensures)) (c .before .number .given .1) .was))
 
 returns-2 : tie.Need-returns-2
-returns-2 c = sym (verdict-is _ _ ∙ ap answer (files-as-refused _ _ _ _ (c .before .before .before .read-beside .ensures _ _ _ _ (c .before .before .before .before .before .read-formed .ensures)) (c .before .number .given .1) .was))
-
-returns-3 : tie.Need-returns-3
-returns-3 c =
-    let read = c .before .before .before .before .before .before .before .before .before in
-    let got = files-as-read _ _ _ _ (read .read-beside .ensures _ _ _ _ (read .before .before .read-formed .ensures)) (c .before .before .before .before .before .before .before .entries .given .1) in
-    c .judge-many .ensures ∙ sym (verdict-is _ _ ∙ ap answer (got .was) ∙ readable-judged _ _ (claim-bytes read) (proof-bytes read) got)
+returns-2 c =
+    let read = c .before .before .before .before .before .before .before .before in
+    let got = files-as-read _ _ _ _ (read .read-beside .ensures _ _ _ _ (read .before .before .read-formed .ensures)) (c .before .before .before .before .before .before .entries .given .1) in
+    c .judge-sized .ensures ∙ sym (verdict-is _ _ ∙ ap answer (got .was) ∙ readable-judged _ _ (claim-bytes read) (proof-bytes read) got)
 
 pub judge-files-spec : {M : Type 1} → statement M
 judge-files-spec =
@@ -81,8 +70,6 @@ judge-files-spec =
     cast-t20
     cast-t21
     enum-known-entries
-    judge-few-requires
+    judge-sized-requires
     returns
-    judge-many-requires
-    returns-2
-    returns-3)
+    returns-2)
