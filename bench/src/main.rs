@@ -1,6 +1,7 @@
 //! The gate against the reference on the same files, interleaved in one process.
 //! Prints medians and their ratio, how they grow with a case's size, then the gate's
-//! deepest stack and its sizes.
+//! deepest stack and its sizes. Given a call, a case and a number, it only makes that
+//! call so many times, for a counter of instructions (`instructions.sh`).
 
 mod cases;
 mod evaluations;
@@ -11,14 +12,22 @@ mod timing;
 
 use cases::Case;
 use evaluations::Evaluation;
-use gate_tests::lent::{Lent, LentWords};
+use gate_tests::lent::{Lent, LentWords, Slices};
 use gate_tests::Gate;
 use reference::Refusal;
-use std::cell::RefCell;
 use std::hint::black_box;
 use timing::Row;
 
 fn main() {
+    let arguments: Vec<String> = std::env::args().skip(1).collect();
+    match &arguments[..] {
+        [] => print_all(),
+        [call, case, times] => repeat(call, case, times.parse().expect("a number")),
+        _ => eprintln!("usage: gate-bench [CALL CASE TIMES]"),
+    }
+}
+
+fn print_all() {
     head("check");
     for case in cases::checks() {
         println!("{:<34} {}", case.name, checked(&case));
@@ -59,19 +68,23 @@ fn checked(case: &Case) -> Row {
     )
 }
 
-/// An open gate for each call: a gate that holds a permit would refuse at once.
-fn present(case: &Case, lent: &mut Lent) -> u32 {
-    let mut gate = Gate {
-        phase: Gate::OPEN,
-        tag: 0,
-    };
-    gate_tests::present(&mut gate, 7, &case.claim, &case.proof, lent)
+/// An open gate for each call: a gate that holds a permit would refuse at once. It is
+/// copied whole, as it would lie in a loader's memory.
+const OPENED: Gate = Gate {
+    phase: Gate::OPEN,
+    tag: 0,
+};
+
+fn present(case: &Case, slices: &mut Slices) -> u32 {
+    let mut gate = black_box(OPENED);
+    gate_tests::present_in(&mut gate, 7, &case.claim, &case.proof, slices)
 }
 
 fn presented(case: &Case) -> Row {
-    let lent = RefCell::new(Lent::least());
+    let mut lent = Lent::least();
+    let mut slices = lent.lend();
     timing::side_by_side(
-        || present(case, &mut lent.borrow_mut()),
+        || present(case, &mut slices),
         || reference::check(&case.claim, &case.proof),
     )
 }
@@ -79,15 +92,12 @@ fn presented(case: &Case) -> Row {
 /// The words are compared once, before any time is taken.
 fn evaluated(case: &Evaluation) -> Row {
     let Evaluation { name, claim, model } = case;
-    let lent = RefCell::new(LentWords::least());
+    let mut lent = LentWords::least();
     let words = reference::evaluate(claim, model).expect("a well-formed claim and model");
-    assert_eq!(
-        gate_tests::evaluate(claim, model, &mut lent.borrow_mut()),
-        0
-    );
-    assert!(lent.borrow_mut().words.lend().starts_with(&words), "{name}");
+    assert_eq!(gate_tests::evaluate(claim, model, &mut lent), 0);
+    assert!(lent.words.lend().starts_with(&words), "{name}");
     timing::side_by_side(
-        || gate_tests::evaluate(claim, model, &mut lent.borrow_mut()),
+        || gate_tests::evaluate(claim, model, &mut lent),
         || match black_box(reference::evaluate(claim, model)) {
             Ok(_) => 0,
             Err(refusal) => Refusal::packed(refusal),
@@ -102,17 +112,18 @@ fn stacks() {
         });
         print_stack("check", case.name, bytes);
     }
-    let lent = RefCell::new(Lent::least());
+    let mut lent = Lent::least();
     for case in cases::checks() {
+        let mut slices = lent.lend();
         let bytes = stack::deepest(|| {
-            present(&case, &mut lent.borrow_mut());
+            present(&case, &mut slices);
         });
         print_stack("present", case.name, bytes);
     }
-    let lent = RefCell::new(LentWords::least());
+    let mut lent = LentWords::least();
     for case in evaluations::all() {
         let bytes = stack::deepest(|| {
-            gate_tests::evaluate(&case.claim, &case.model, &mut lent.borrow_mut());
+            gate_tests::evaluate(&case.claim, &case.model, &mut lent);
         });
         print_stack("evaluate", &case.name, bytes);
     }
@@ -120,4 +131,20 @@ fn stacks() {
 
 fn print_stack(call: &str, name: &str, bytes: usize) {
     println!("deepest stack, {call:<8} {name:<34} {bytes:>8} bytes");
+}
+
+fn repeat(call: &str, name: &str, times: usize) {
+    let cases = cases::checks();
+    let case = cases.iter().find(|case| case.name == name);
+    let case = case.expect("a case of check");
+    let mut lent = Lent::least();
+    let mut slices = lent.lend();
+    for _ in 0..times {
+        black_box(match call {
+            "check" => gate_tests::check(&case.claim, &case.proof),
+            "present" => present(case, &mut slices),
+            "reference" => reference::check(&case.claim, &case.proof),
+            _ => panic!("no such call"),
+        });
+    }
 }

@@ -6,9 +6,9 @@ const PAINT: u8 = 0xA5;
 const ROOM: usize = 1 << 20;
 
 /// The bytes of stack that the call touched.
-pub fn deepest(call: impl Fn()) -> usize {
+pub fn deepest(mut call: impl FnMut()) -> usize {
     let mut room = vec![PAINT; ROOM];
-    let mut call: &dyn Fn() = &call;
+    let mut call: &mut dyn FnMut() = &mut call;
     let top = (room.as_mut_ptr() as usize + ROOM) & !15;
     // SAFETY: the stack pointer is put back before anything else uses it, and
     // the room is larger than any call needs.
@@ -29,6 +29,6 @@ pub fn deepest(call: impl Fn()) -> usize {
     ROOM - untouched
 }
 
-extern "C" fn enter(call: &mut &dyn Fn()) {
+extern "C" fn enter(call: &mut &mut dyn FnMut()) {
     call();
 }

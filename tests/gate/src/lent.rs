@@ -116,6 +116,12 @@ pub struct Lent {
     pub codes: Slice<u16>,
 }
 
+pub struct Slices<'a> {
+    pub entries: &'a mut [Entry],
+    pub nodes: &'a mut [Node],
+    pub codes: &'a mut [u16],
+}
+
 impl Lent {
     pub fn new(entries: usize, nodes: usize, codes: usize) -> Lent {
         Lent {
@@ -128,6 +134,14 @@ impl Lent {
     /// As short as may be.
     pub fn least() -> Lent {
         Lent::new(ENTRIES, NODES, CODES)
+    }
+
+    pub fn lend(&mut self) -> Slices<'_> {
+        Slices {
+            entries: self.entries.lend(),
+            nodes: self.nodes.lend(),
+            codes: self.codes.lend(),
+        }
     }
 
     pub fn renew(&mut self) {

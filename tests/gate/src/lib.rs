@@ -7,7 +7,7 @@ pub mod lent;
 pub mod random;
 pub mod vectors;
 
-use lent::{Lent, LentWords};
+use lent::{Lent, LentWords, Slices};
 
 /// The gate state that each call is lent.
 #[repr(C)]
@@ -112,9 +112,22 @@ pub fn take(gate: &mut Gate) -> u64 {
 }
 
 pub fn present(gate: &mut Gate, tag: u32, claim: &[u8], proof: &[u8], lent: &mut Lent) -> u32 {
-    let entries = lent.entries.lend();
-    let nodes = lent.nodes.lend();
-    let codes = lent.codes.lend();
+    present_in(gate, tag, claim, proof, &mut lent.lend())
+}
+
+/// Presenting over slices that were lent before.
+pub fn present_in(
+    gate: &mut Gate,
+    tag: u32,
+    claim: &[u8],
+    proof: &[u8],
+    slices: &mut Slices,
+) -> u32 {
+    let Slices {
+        entries,
+        nodes,
+        codes,
+    } = slices;
     // SAFETY: the gate stays within the lengths of all five slices, which do not
     // overlap, and keeps none; any number is a value of every field.
     unsafe {
