@@ -11,3 +11,4 @@ pub mod ClaimEntry
 pub mod ClaimEntries
 pub mod ClaimMembers
 pub mod ClaimWalk
+pub mod ClaimBeginning

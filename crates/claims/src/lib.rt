@@ -11,12 +11,15 @@ ghost use Rattle.claims.specs.ClaimEntry.{entryAt, EntryTells};
 ghost use Rattle.claims.specs.ClaimEntries.{PartTells, EntryArrays, EntriesStored, entriesAt, entriesFrom};
 ghost use Rattle.claims.specs.ClaimMembers.{mayFollow, memberAt, MembersStored, membersAt, membersFrom};
 ghost use Rattle.claims.specs.ClaimWalk.{ClaimArrays, ClaimTells, refusal};
+ghost use Rattle.claims.specs.ClaimBeginning.{BeginningTells};
+ghost use Rattle.verdict.specs.Shown.{shown};
 use crate::number::Number;
 use crate::number::count_at;
 use crate::number::field_at;
 use crate::number::two_at;
 use encoding::opens;
 use formula::Kind;
+use verdict::Verdict;
 
 mod number; // number.rt: two-byte numbers at a place of a file
 
@@ -302,6 +305,29 @@ pub fn read_claim(
                         members: listed,
                     }
                 }
+            }
+        }
+    }
+}
+
+// What the first bytes of a claim earn: its opening, its entry count and its first entry. That takes no arrays, so a claim that is refused
+// here is refused before any are cleared for it. Acceptance promises nothing: `read_claim` judges all of the file, these bytes too.
+pub fn judge_beginning(bytes: &[u8]) -> Verdict
+    ensures { λ r. ⌜ BeginningTells (readClaim (now (bytes .entry))) (shown r) ⌝ }
+{
+    if !opens_claim(bytes) {
+        return Verdict::Refused {
+            number: ClaimFault::OPENING,
+            place: 0,
+        };
+    }
+    let count = count_at(bytes, 4, 256, ClaimFault::COUNT, ClaimFault::LENGTH);
+    match count {
+        Number::Refused { number, place } => Verdict::Refused { number, place },
+        Number::Read { next, .. } => {
+            match entry_at(bytes, next) {
+                EntryRead::Refused { number, place } => Verdict::Refused { number, place },
+                EntryRead::Read { .. } => Verdict::Accepted,
             }
         }
     }

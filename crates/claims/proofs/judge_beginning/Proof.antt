@@ -1,0 +1,65 @@
+-- One law for each way to be refused: opening, count, first entry.
+use native.Mathlib.Omega.{arith}
+use borrow.Author.Needs.{needs}
+use Rattle.claims.specs.Numbers.{number-read, number-refused}
+use Rattle.claims.specs.ClaimEntry.{entry-refused}
+use Rattle.claims.specs.ClaimEntries.{entries-cut}
+use Rattle.claims.specs.ClaimWalk.{claim-closed, claim-long, claim-no-entries}
+use Rattle.claims.specs.ClaimBeginning.{first-place, first-cut}
+use Rattle.claims.proofs.judge_beginning.Statement.{statement}
+use Rattle.claims.proofs.judge_beginning.Tie as tie
+
+opens-claim-requires : tie.Need-opens-claim-requires
+opens-claim-requires c κs = search needs
+
+returns : tie.Need-returns
+returns c = claim-closed _ (c .before .opens-claim .ensures) (c .if1 .taken)
+
+count-at-requires : tie.Need-count-at-requires
+count-at-requires c κs = record { within = claim-long _ (c .before .opens-claim .ensures) (c .if1 .left); low = omega arith }
+
+enum-known-count : tie.Need-enum-known-count
+enum-known-count c = search needs
+
+enum-known-count-2 : tie.Need-enum-known-count-2
+enum-known-count-2 c = search needs
+
+entry-at-requires : tie.Need-entry-at-requires
+entry-at-requires c κs = first-place _ (number-read _ _ (c .before .before .before .count-at .ensures) (c .before .count2 .given .1))
+
+enum-known-number : tie.Need-enum-known-number
+enum-known-number c = search needs
+
+enum-told : tie.Need-enum-told
+enum-told c = search needs
+
+returns-2 : tie.Need-returns-2
+returns-2 c =
+    let counted = c .before .before .before in
+    claim-no-entries _ (counted .before .before .opens-claim .ensures) (counted .before .if1 .left) (entries-cut _ _ (number-refused _ _ (counted .count-at .ensures) (c .before .count .given .1)))
+
+returns-3 : tie.Need-returns-3
+returns-3 c =
+    let counted = c .before .before .before .before .before .before .before in
+    claim-no-entries _ (counted .before .before .opens-claim .ensures) (counted .before .if1 .left)
+    (first-cut _ (number-read _ _ (counted .count-at .ensures) (c .before .before .before .before .before .count2 .given .1))
+    (entry-refused _ _ (c .before .before .before .entry-at .ensures) (c .before .number .given .1)))
+
+returns-4 : tie.Need-returns-4
+returns-4 c = search needs
+
+pub judge-beginning-spec : {M : Type 1} → statement M
+judge-beginning-spec =
+    tie.close
+    (tie.spec
+    opens-claim-requires
+    returns
+    count-at-requires
+    enum-known-count
+    enum-known-count-2
+    entry-at-requires
+    enum-known-number
+    enum-told
+    returns-2
+    returns-3
+    returns-4)
