@@ -1,15 +1,38 @@
 // The files in document 01's order, the one reading of all calls: the claim by bytes, its table, then the proof beside it. A claim that is
 // well formed is held in columns and a list of members that the caller lends; a refused file may leave a part of its decoding there.
+ghost use mathlib.Core.Path.{_≡_};
 ghost use Rattle.claims.specs.ClaimWalk.{ClaimArrays, ClaimTells};
 ghost use Rattle.reader.specs.Files.{readFormed};
 ghost use Rattle.verdict.specs.Shown.{shown};
 ghost use Rattle.reader.specs.Found.{FewEntries, BesideTells, Unread, FilesTold};
+ghost use Rattle.reader.specs.Begins.{Begins, refusal};
 use claims::ClaimRead;
+use claims::judge_beginning;
 use claims::read_claim;
 use conditions::judge;
 use nodes::node_count;
 use proofs::judge_proof;
 use verdict::Verdict;
+
+// Whether a verdict is a refusal.
+pub fn refuses(verdict: Verdict) -> bool
+    ensures { λ r. ⌜ r ≡ refusal (shown verdict) ⌝ }
+{
+    match verdict {
+        Verdict::Accepted => false,
+        Verdict::Refused { .. } => true,
+    }
+}
+
+// What stands before the files, and then the claim's beginning: a caller asks for it before it makes room for the claim.
+pub fn begins(before: Verdict, claim: &[u8]) -> Verdict
+    ensures { λ r. ⌜ Begins (shown before) (now (claim .entry)) (shown r) ⌝ }
+{
+    match before {
+        Verdict::Refused { number, place } => Verdict::Refused { number, place },
+        Verdict::Accepted => judge_beginning(claim),
+    }
+}
 
 // 10 to 14: the claim's bytes; then 20 to 23 over its table.
 pub fn read_formed(
