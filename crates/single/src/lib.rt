@@ -7,6 +7,7 @@ ghost use Rattle.formula.specs.NodeColumns.{Columns};
 ghost use Rattle.calculus.specs.Judge.{judge as judged};
 ghost use Rattle.demands.specs.Check.{verdict};
 ghost use Rattle.laid.specs.Readable.{Readable, proofAt};
+use claims::judge_beginning;
 use nodes::decode_proof;
 use reader::FilesRead;
 use reader::read_beside;
@@ -208,8 +209,8 @@ fn judge_sized(
     )
 }
 
-// The first fault of two files, or acceptance.
-pub fn judge_files(claim: &[u8], proof: &[u8]) -> Verdict
+// The files in columns of its own.
+fn judge_read(claim: &[u8], proof: &[u8]) -> Verdict
     ensures { λ r. ⌜ shown r ≡ verdict (now (claim .entry)) (now (proof .entry)) ⌝ }
 {
     let mut kinds = [0u8; 256];
@@ -227,5 +228,15 @@ pub fn judge_files(claim: &[u8], proof: &[u8]) -> Verdict
             listed,
             nodes,
         } => judge_sized(proof, &kinds, &a, &b, entries, &members, listed, nodes),
+    }
+}
+
+// The first fault of two files, or acceptance. A claim that is refused by its beginning is refused before any column is cleared.
+pub fn judge_files(claim: &[u8], proof: &[u8]) -> Verdict
+    ensures { λ r. ⌜ shown r ≡ verdict (now (claim .entry)) (now (proof .entry)) ⌝ }
+{
+    match judge_beginning(claim) {
+        Verdict::Refused { number, place } => Verdict::Refused { number, place },
+        Verdict::Accepted => judge_read(claim, proof),
     }
 }
