@@ -3,6 +3,7 @@ use mathlib.Core.Path.{_≡_, refl, sym, ap, _∙_}
 use mathlib.Core.List.{List}
 use Prim.Native.Nat.{ℕ, _≤_}
 use native.Mathlib.Omega.{arith}
+use lib.Dec.{T}
 use lib.ListN.{length}
 use Rattle.verdict.specs.Verdict as verdicts
 use Rattle.verdict.specs.Verdict.{Verdict, accepted}
@@ -20,6 +21,7 @@ use Rattle.records.specs.Shown.{map-written, entries-shown, loaded-table}
 use Rattle.records.specs.declared.Entry.{Entry}
 use Rattle.records.specs.declared.Node.{Node}
 use Rattle.reader.specs.Files.{Files, firstly, files}
+use Rattle.reader.specs.Begins.{Begins, refusal}
 use Rattle.reader.specs.Found.{FilesGot, Tells}
 use Rattle.reader.specs.declared.Found.{Found}
 use Rattle.laid.specs.Readable.{Readable, proofAt, count, same-proof, same-entries, readable, readable-judged}
@@ -45,6 +47,12 @@ pub record AllLong (es : List Entry) (vs : List Node) (cs : List ℕ) : Type 0 w
   pub entries : 256 ≤ length es
   pub nodes : 1024 ≤ length vs
   pub codes : 24576 ≤ length cs
+
+-- what is refused at the beginning stands, and leaves the slices as they were
+pub early-stands : {before : Verdict} (claim proof : List ℕ) (es : List Entry) (vs : List Node) (cs : List ℕ) (v : Verdict) → Begins before claim v → T (refusal v)
+    → LentJudged (firstly before (files claim proof)) es vs cs v es vs cs
+early-stands claim proof es vs cs accepted begun h = absurd h
+early-stands claim proof es vs cs (verdicts.refused n q) begun h = rw (begun .stands n q refl proof) (record { answer = λ tag. refl; lent = λ tag. refl })
 
 module _ (claim proof : List ℕ) (bc : Bytes claim) (bp : Bytes proof) (ks xs ys ms : List ℕ) (f : Found) where
   abbrev Got : Type 0

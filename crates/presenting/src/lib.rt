@@ -9,7 +9,9 @@ use permit::State;
 use permit::numbered::Numbered;
 use permit::present::settle;
 use permit::present::stands_before;
+use reader::begins;
 use reader::find_files;
+use reader::refuses;
 use records::Entry;
 use records::Node;
 use records::load_entries;
@@ -19,7 +21,7 @@ use verdict::Verdict;
 
 // The files behind what stands before them: the claim's entries are stored as records and loaded from where they stand, then the nodes. A
 // refusal before the rules finds no node, and stores nothing.
-fn judge_lent(
+fn judge_read(
     before: Verdict,
     claim: &[u8],
     proof: &[u8],
@@ -61,6 +63,26 @@ fn judge_lent(
         nodes,
         codes,
     )
+}
+
+// The same, without the columns where what stands before the files, or the claim's beginning, is refused already.
+fn judge_lent(
+    before: Verdict,
+    claim: &[u8],
+    proof: &[u8],
+    entries: &mut [Entry],
+    nodes: &mut [Node],
+    codes: &mut [u16],
+) -> Verdict
+    requires { ⌜ (shown before ≡ accepted → AllLong (now entries) (now nodes) (now codes)) ⌝ }
+    ensures { λ r. ⌜ LentTold (shown before) (now (claim .entry)) (now (proof .entry)) (now (entries .entry)) (now (nodes .entry)) (now (codes .entry))
+        (shown r) (now (entries .exit)) (now (nodes .exit)) (now (codes .exit)) ⌝ }
+{
+    let early = begins(before, claim);
+    if refuses(early) {
+        return early;
+    }
+    judge_read(before, claim, proof, entries, nodes, codes)
 }
 
 // With 1 to 34 nothing is stored.
