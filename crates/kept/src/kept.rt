@@ -1,4 +1,4 @@
-// The test of each rule (refusal 37): the sequent that the rule asks of a child is built as a set, and compared with the child's.
+// The test of each rule (refusal 37): the sequent that the rule asks of a child, and the child's, are compared as sets.
 ghost use mathlib.Core.Path.{_≡_};
 ghost use mathlib.Core.List.{List, []};
 ghost use Prim.Native.Nat.{ℕ, _<_, _≤_};
@@ -25,20 +25,20 @@ use sequents::sets::code_of;
 use sequents::sets::entry_of;
 use sequents::sets::has;
 use sequents::sets::put;
+use sequents::sets::put_part;
+use sequents::sets::put_sequent;
 use sequents::sets::same;
 use sequents::sets::same_sequent;
-use sequents::sets::sequent;
-use sequents::sets::set_of;
 use sequents::sets::take;
 
-// 2 or: side plus both targets, focus kept.
+// 2 or: side plus both targets, focus kept. Both are put into the side, which nobody reads afterwards.
 fn or_kept(
     kinds: &[u8; 256],
     a: &[u16; 256],
     b: &[u16; 256],
     size: usize,
     principal: u16,
-    side: &[u64; 8],
+    side: &mut [u64; 8],
     first: &[u64; 8],
 ) -> bool
     requires { ⌜ Coded (now kinds) (now a) (now b) size principal ⌝ }
@@ -50,10 +50,9 @@ fn or_kept(
     }
     let left = operand_code(kinds, a, a, principal, principal % 2);
     let right = operand_code(kinds, a, b, principal, principal % 2);
-    let mut asked = *side;
-    put(&mut asked, left);
-    put(&mut asked, right);
-    same(first, &asked)
+    put(side, left);
+    put(side, right);
+    same(first, side)
 }
 
 // 3 and: side plus A's target for the first child, B's for the second, focus kept.
@@ -140,16 +139,19 @@ fn principal_kept(
     let focus = principal % 2;
     let from = wide(starts[v]);
     let to = wide(starts[v + 1]);
-    let mut side = set_of(codes, from, to);
+    let mut side = [0u64; 8];
+    put_part(&mut side, codes, from, to);
     if !has(&side, principal) {
         return false;
     }
     take(&mut side, principal);
-    let first = sequent(starts, codes, wide(links[4 * v + 1]));
+    let mut first = [0u64; 8];
+    put_sequent(&mut first, starts, codes, wide(links[4 * v + 1]));
     match rule {
-        Rule::OR => or_kept(kinds, a, b, size, principal, &side, &first),
+        Rule::OR => or_kept(kinds, a, b, size, principal, &mut side, &first),
         Rule::AND => {
-            let second = sequent(starts, codes, wide(links[4 * v + 2]));
+            let mut second = [0u64; 8];
+            put_sequent(&mut second, starts, codes, wide(links[4 * v + 2]));
             and_kept(kinds, a, b, size, principal, &side, &first, &second)
         }
         Rule::BOX => box_kept(kinds, a, b, size, principal, codes, from, to, &first),

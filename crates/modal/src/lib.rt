@@ -46,21 +46,26 @@ fn all_boxed(kinds: &[u8; 256], principal: u16, codes: &[u16], from: usize, to: 
     true
 }
 
-// The targets of modal members, each with its focus.
-fn stepped(kinds: &[u8; 256], a: &[u16; 256], codes: &[u16], from: usize, to: usize) -> [u64; 8]
+// The targets of modal members, each with its focus, into a set that has none.
+fn put_targets(
+    set: &mut [u64; 8],
+    kinds: &[u8; 256],
+    a: &[u16; 256],
+    codes: &[u16],
+    from: usize,
+    to: usize,
+)
     requires { ⌜ Span (now codes) from to × ((c : ℕ) → elements (part (now codes) from to) c → Within (now kinds) (now a)
-        (getD (now a) (entryOf c) 0)) ⌝ }
-    ensures { λ r. ⌜ ((ys : List ℕ) (n : ℕ) → ((c : ℕ) → elements (part (now (codes .entry)) from to) c → Modal (now (kinds .entry)) (now (a .entry))
-        ys n c) → Holds r (each (Stepped (tableOf (now (kinds .entry)) (now (a .entry)) ys n)) (part (now (codes .entry)) from to))) ⌝ }
+        (getD (now a) (entryOf c) 0)) × Holds (now set) [] ⌝ }
+    ensures { λ _. ⌜ ((ys : List ℕ) (n : ℕ) → ((c : ℕ) → elements (part (now (codes .entry)) from to) c → Modal (now (kinds .entry)) (now (a .entry)) ys n c) →
+        Holds (now (set .exit)) (each (Stepped (tableOf (now (kinds .entry)) (now (a .entry)) ys n)) (part (now (codes .entry)) from to))) ⌝ }
 {
-    let mut set = [0u64; 8];
     let mut i = to;
     while from < i {
         i -= 1;
         let code = codes[i];
-        put(&mut set, operand_code(kinds, a, a, code, code % 2));
+        put(set, operand_code(kinds, a, a, code, code % 2));
     }
-    set
 }
 
 // 4 box: the principal is a box, all others are diamonds; the child has the targets of all.
@@ -85,6 +90,7 @@ pub fn box_kept(
     if !all_boxed(kinds, principal, codes, from, to) {
         return false;
     }
-    let asked = stepped(kinds, a, codes, from, to);
+    let mut asked = [0u64; 8];
+    put_targets(&mut asked, kinds, a, codes, from, to);
     same(child, &asked)
 }

@@ -45,6 +45,10 @@ member-remove x c l =
     let s = lists-remove x l in
     same-test (tells-as (s .into c) (s .from c) (member-tells (remove x l) c)) (and-tells (member-tells l c) (not-tells (eqb-tells c x)))
 
+-- the words with the code c more
+abbrev pub inserted : List ℕ → ℕ → List ℕ
+inserted w c = set w (c / 64) (withBit (getD w (c / 64) 0) (c % 64))
+
 one-bit : (s : ℕ) → 1 * 2 ^ s % 2 ^ 64 < 2 ^ 64
 one-bit s = omega arith
 
@@ -59,7 +63,7 @@ module _ (w l : List ℕ) (c : ℕ) (small : c < 512) (H : Holds w l) where
       go (yes e) = rw (e, getD-set-same w (c / 64) x 0 within) h
       go (no d) = rw (getD-set-other w (c / 64) i x 0 d) (H .word i)
 
-  pub holds-with : Holds (set w (c / 64) (withBit (getD w (c / 64) 0) (c % 64))) (c ∷ l)
+  pub holds-with : Holds (inserted w c) (c ∷ l)
   unfolding member any
   holds-with = record {
     eight = simp length-set (H .eight);

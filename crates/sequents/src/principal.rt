@@ -2,27 +2,42 @@
 ghost use mathlib.Core.Path.{_≡_};
 ghost use mathlib.Core.List.{List, _∷_};
 ghost use Prim.Native.Nat.{ℕ, _<_};
-ghost use lib.ListN.{getD};
+ghost use lib.ListN.{length, getD};
 ghost use Rattle.verdict.specs.Tests.{same as sameSet};
 ghost use Rattle.formula.specs.Plain.{tableOf};
 ghost use Rattle.formula.specs.Target.{target as targetOf};
 ghost use Rattle.formula.specs.Codes.{code as codeOf, entryOf};
-ghost use Rattle.sequents.specs.CodeSet.{Holds};
+ghost use Rattle.sequents.specs.CodeSet.{Holds, inserted};
 ghost use Rattle.sequents.specs.Placed.{Within};
 use super::sets::code_of;
 use super::sets::entry_of;
-use super::sets::put;
-use super::sets::same;
 use formula::target;
+
+// Word i of a set with a code more.
+fn word_plus(set: &[u64; 8], code: u16, i: usize) -> u64
+    requires { ⌜ (code < 512) × (i < 8) ⌝ }
+    ensures { λ r. ⌜ (length (now (set .entry)) ≡ 8 → r ≡ getD (inserted (now (set .entry)) code) i 0) ⌝ }
+{
+    let place = code as usize;
+    if place / 64 != i {
+        return set[i];
+    }
+    set[i] | (1u64 << (place % 64))
+}
 
 // Whether a child's sequent is the side (document 01's term: the sequent without the principal) with a code more.
 pub fn is_side_plus(side: &[u64; 8], code: u16, child: &[u64; 8]) -> bool
     requires { ⌜ code < 512 ⌝ }
     ensures { λ r. ⌜ ((s m : List ℕ) → Holds (now (side .entry)) s → Holds (now (child .entry)) m → r ≡ sameSet m (code ∷ s)) ⌝ }
 {
-    let mut asked = *side;
-    put(&mut asked, code);
-    same(child, &asked)
+    let mut i: usize = 0;
+    while i < 8 {
+        if child[i] != word_plus(side, code, i) {
+            return false;
+        }
+        i += 1;
+    }
+    true
 }
 
 // The code of an operand's target.

@@ -1,6 +1,7 @@
-// A sequent as a set of codes: 512 bits in eight words, code c as bit c % 64 of word c / 64.
+// A sequent as a set of codes: 512 bits in eight words, code c as bit c % 64 of word c / 64. A set is filled where it stands
+// and never copied: a copy reads two words at once, and waits for the stores of one word that filled them.
 ghost use mathlib.Core.Path.{_≡_};
-ghost use mathlib.Core.List.{List, _∷_};
+ghost use mathlib.Core.List.{List, [], _∷_};
 ghost use Prim.Native.Nat.{ℕ, _<_};
 ghost use lib.ListN.{take};
 ghost use Rattle.verdict.specs.Tests.{member, same as sameSet, remove, each};
@@ -61,18 +62,16 @@ pub fn same(x: &[u64; 8], y: &[u64; 8]) -> bool
     true
 }
 
-// The codes from one place up to another.
-pub fn set_of(codes: &[u16], from: usize, to: usize) -> [u64; 8]
-    requires { ⌜ Span (now codes) from to ⌝ }
-    ensures { λ r. ⌜ Holds r (part (now (codes .entry)) from to) ⌝ }
+// The codes from one place up to another, into a set that has none.
+pub fn put_part(set: &mut [u64; 8], codes: &[u16], from: usize, to: usize)
+    requires { ⌜ Span (now codes) from to × Holds (now set) [] ⌝ }
+    ensures { λ _. ⌜ Holds (now (set .exit)) (part (now (codes .entry)) from to) ⌝ }
 {
-    let mut set = [0u64; 8];
     let mut i = to;
     while from < i {
         i -= 1;
-        put(&mut set, codes[i]);
+        put(set, codes[i]);
     }
-    set
 }
 
 // The entry of a code, as an index.
@@ -90,12 +89,12 @@ pub fn code_of(entry: u16, focus: u16) -> u16
     2 * entry + focus
 }
 
-// The sequent of node v.
-pub fn sequent(starts: &[u16], codes: &[u16], v: usize) -> [u64; 8]
-    requires { ⌜ Placed (now starts) (now codes) v ⌝ }
-    ensures { λ r. ⌜ Holds r (codesAt (now (starts .entry)) (now (codes .entry)) v) ⌝ }
+// The sequent of node v, into a set that has none.
+pub fn put_sequent(set: &mut [u64; 8], starts: &[u16], codes: &[u16], v: usize)
+    requires { ⌜ Placed (now starts) (now codes) v × Holds (now set) [] ⌝ }
+    ensures { λ _. ⌜ Holds (now (set .exit)) (codesAt (now (starts .entry)) (now (codes .entry)) v) ⌝ }
 {
-    set_of(codes, wide(starts[v]), wide(starts[v + 1]))
+    put_part(set, codes, wide(starts[v]), wide(starts[v + 1]));
 }
 
 // Whether nodes v and w have the same sequent, as a back leaf and its companion have.
@@ -103,23 +102,23 @@ pub fn same_sequent(starts: &[u16], codes: &[u16], v: usize, w: usize) -> bool
     requires { ⌜ Placed (now starts) (now codes) v × Placed (now starts) (now codes) w ⌝ }
     ensures { λ r. ⌜ r ≡ sameSet (codesAt (now (starts .entry)) (now (codes .entry)) v) (codesAt (now (starts .entry)) (now (codes .entry)) w) ⌝ }
 {
-    let here = sequent(starts, codes, v);
-    let there = sequent(starts, codes, w);
+    let mut here = [0u64; 8];
+    put_sequent(&mut here, starts, codes, v);
+    let mut there = [0u64; 8];
+    put_sequent(&mut there, starts, codes, w);
     same(&here, &there)
 }
 
-// The claim's members, all in focus.
-fn claim_set(members: &[u16; 24], count: usize) -> [u64; 8]
-    requires { ⌜ Members (now members) count ⌝ }
-    ensures { λ r. ⌜ Holds r (each inFocus (take count (now (members .entry)))) ⌝ }
+// The claim's members, all in focus, into a set that has none.
+fn put_claim(set: &mut [u64; 8], members: &[u16; 24], count: usize)
+    requires { ⌜ Members (now members) count × Holds (now set) [] ⌝ }
+    ensures { λ _. ⌜ Holds (now (set .exit)) (each inFocus (take count (now (members .entry)))) ⌝ }
 {
-    let mut set = [0u64; 8];
     let mut i = count;
     while 0 < i {
         i -= 1;
-        put(&mut set, code_of(members[i], 1));
+        put(set, code_of(members[i], 1));
     }
-    set
 }
 
 // Whether the root's members are the claim's, all in focus (refusal 36).
@@ -128,7 +127,9 @@ pub fn root_is_claim(members: &[u16; 24], count: usize, starts: &[u16], codes: &
     ensures { λ r. ⌜ ((t : Table) (rs ls : List ℕ) (n : ℕ) → 0 < n → r ≡ root (record { entries = t; members = take count (now (members .entry)) })
         (plain (proofOf rs ls (now (starts .entry)) (now (codes .entry)) n))) ⌝ }
 {
-    let found = sequent(starts, codes, 0);
-    let claimed = claim_set(members, count);
+    let mut found = [0u64; 8];
+    put_sequent(&mut found, starts, codes, 0);
+    let mut claimed = [0u64; 8];
+    put_claim(&mut claimed, members, count);
     same(&found, &claimed)
 }

@@ -6,6 +6,7 @@ use borrow.Author.Needs.{needs}
 use Rattle.verdict.specs.Sets.{elements}
 use Rattle.calculus.specs.Judge.{box-kept as Kept}
 use Rattle.sequents.specs.Part.{part}
+use Rattle.sequents.specs.CodeSet.{holds-none}
 use Rattle.sequents.specs.KeptLaws.{was-false, was-true, this-kind, other-kind}
 use Rattle.modal.specs.BoxLaws.{Modal, others-boxed, modal}
 use Rattle.modal.proofs.box_kept.Statement.{statement}
@@ -40,8 +41,8 @@ returns-2 c m b M =
       was-false (c .before .all-boxed .ensures ∙ others-boxed (p .0) _ (p .2) m []) (c .if2 .taken),
     ) refl
 
-stepped-requires : tie.Need-stepped-requires
-stepped-requires c κs = (c .before .before .before .before .before .before .pre .1, λ d o. modals c d o .within)
+put-targets-requires : tie.Need-put-targets-requires
+put-targets-requires c κs = (c .before .before .before .before .before .before .before .pre .1, λ d o. modals (c .before) d o .within, holds-none)
 
 same-requires : tie.Need-same-requires
 same-requires c κs = search needs
@@ -49,13 +50,13 @@ same-requires c κs = search needs
 returns-3 : tie.Need-returns-3
 unfolding Kept
 returns-3 c m b M =
-    let a = c .before .before .before .before .before .before .before .before .before .args in
-    let p = c .before .before .before .before .before .before .before .before .before .pre in
+    let a = c .before .before .before .before .before .before .before .before .before .before .args in
+    let p = c .before .before .before .before .before .before .before .before .before .before .pre in
     rw (
-      this-kind (p .0) _ _ _ b (c .before .before .before .before .before .before .before .entry-of .ensures) (c .before .before .before .before .before .if1 .left),
-      was-true (c .before .before .before .before .all-boxed .ensures ∙ others-boxed (p .0) _ (p .2) m []) (c .before .before .before .if2 .left),
+      this-kind (p .0) _ _ _ b (c .before .before .before .before .before .before .before .before .entry-of .ensures) (c .before .before .before .before .before .before .if1 .left),
+      was-true (c .before .before .before .before .before .all-boxed .ensures ∙ others-boxed (p .0) _ (p .2) m []) (c .before .before .before .before .if2 .left),
     )
-    (c .same .ensures m _ M (c .before .before .stepped .ensures (a .b .now) (a .size) (modals (c .before .before .before))))
+    (c .same .ensures m _ M (c .before .before .put-targets .ensures (a .b .now) (a .size) (modals (c .before .before .before .before))))
 
 pub box-kept-spec : {M : Type 1} → statement M
 box-kept-spec =
@@ -66,6 +67,6 @@ box-kept-spec =
     returns
     all-boxed-requires
     returns-2
-    stepped-requires
+    put-targets-requires
     same-requires
     returns-3)

@@ -41,14 +41,14 @@ same-requires c κs = search needs
 returns-2 : tie.Need-returns-2
 unfolding Kept sides
 returns-2 c l m S M =
-    let a = c .before .before .before .before .before .before .before .before .before .before .before .before .args in
-    let k = told (c .before .before .before .before .before .before .before .before .before) in
+    let a = c .before .before .before .before .before .before .before .before .before .before .before .args in
+    let k = told (c .before .before .before .before .before .before .before .before) in
     rw (
-      this-kind (c .before .before .before .before .before .before .before .before .before .before .before .before .pre) l m [] (S .belongs) (c .before .before .before .before .before .before .before .before .before .before .before .entry-of .ensures) (c .before .before .before .before .before .before .before .before .before .if1 .left),
+      this-kind (c .before .before .before .before .before .before .before .before .before .before .before .pre) l m [] (S .belongs) (c .before .before .before .before .before .before .before .before .before .before .entry-of .ensures) (c .before .before .before .before .before .before .before .before .if1 .left),
       k .a .is,
       k .b .is,
-      ← c .before .before .before .before .before .before .before .before .operand-code .ensures .1 (a .b .now) (a .size) (k .a .inside),
-      ← c .before .before .before .before .before .before .before .operand-code2 .ensures .1 (a .b .now) (a .size) (k .b .inside),
+      ← c .before .before .before .before .before .before .before .operand-code .ensures .1 (a .b .now) (a .size) (k .a .inside),
+      ← c .before .before .before .before .before .before .operand-code2 .ensures .1 (a .b .now) (a .size) (k .b .inside),
     )
     (c .same .ensures m _ M (c .before .before .put2 .ensures _ (c .before .before .before .before .put .ensures _ (S .holds))))
 

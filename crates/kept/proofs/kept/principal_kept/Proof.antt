@@ -12,33 +12,43 @@ use Rattle.formula.specs.Rule
 use Rattle.formula.specs.Plain.{tableOf}
 use Rattle.formula.specs.PlainNodes.{codesAt}
 use Rattle.calculus.specs.Judge.{belongs, sides, weaken-kept}
-use Rattle.sequents.specs.CodeSet.{Holds}
+use Rattle.sequents.specs.CodeSet.{Holds, holds-none}
 use Rattle.sequents.specs.Placed.{Side, Coded}
 use Rattle.sequents.specs.KeptLaws.{was-false, was-true}
 use Rattle.kept.specs.Judged.{placed, first-placed, second-placed, coded, around, keeps-or-here, keeps-and-here, keeps-box-here, keeps-mu-here, keeps-nu-here, keeps-w-here, keeps-f-here, keeps-u-here, keeps-alien, past}
 use Rattle.kept.proofs.kept.principal_kept.Statement.{statement}
 use Rattle.kept.proofs.kept.principal_kept.Tie as tie
 
+-- the function's start, from where a set is filled, the principal belongs, and the first child's set is filled
+abbrev filling : tie.After-side → tie.Start
+filling c = c .before .before .before .before .before .before .before .before .before .before .before
+
+abbrev belonged : tie.Else1 → tie.Start
+belonged c = filling (c .before .before .before .before)
+
+abbrev passed : tie.After-put-sequent → tie.Else1
+passed c = c .before .before .before .before .before .before
+
 -- the node's own set
-own : (c : tie.After-set-of) → let a = c .before .before .before .before .before .before .before .before .before .before .before .args in Holds (c .set-of .result) (codesAt (a .starts .now) (a .codes .now) (a .v))
-own c = rw (c .before .before .before .wide .ensures, c .before .wide2 .ensures) at (c .set-of .ensures)
+own : (c : tie.After-put-part) → let a = filling (c .before) .args in Holds (c .put-part .last .0) (codesAt (a .starts .now) (a .codes .now) (a .v))
+own c = rw (c .before .before .before .before .wide .ensures, c .before .before .wide2 .ensures) at (c .put-part .ensures)
 
 -- whether the principal belongs
-belonging : (c : tie.After-has) → let a = c .before .before .before .before .before .before .before .before .before .before .before .before .before .args in c .has .result ≡ member (codesAt (a .starts .now) (a .codes .now) (a .v)) (getD (a .links .now) (4 * a .v) 0)
+belonging : (c : tie.After-has) → let a = filling (c .before .before .before) .args in c .has .result ≡ member (codesAt (a .starts .now) (a .codes .now) (a .v)) (getD (a .links .now) (4 * a .v) 0)
 belonging c = c .has .ensures _ (own (c .before .before))
 
 -- where it does, it is the code of an entry, and the side is what is left
-principal : (c : tie.Else1) → let a = c .before .before .before .before .before .before .before .before .before .before .before .before .before .before .args in Coded (a .kinds .now) (a .a .now) (a .b .now) (a .size) (getD (a .links .now) (4 * a .v) 0)
+principal : (c : tie.Else1) → let a = belonged c .args in Coded (a .kinds .now) (a .a .now) (a .b .now) (a .size) (getD (a .links .now) (4 * a .v) 0)
 principal c =
-    let p = c .before .before .before .before .before .before .before .before .before .before .before .before .before .before .pre in
+    let p = belonged c .pre in
     coded (p .0) _ (p .1) (was-true (belonging (c .before)) (c .if1 .left))
 
-sided : (c : tie.After-take) → let a = c .before .before .before .before .before .before .before .before .before .before .before .before .before .before .before .before .args in Side (c .take .last .0) (getD (a .links .now) (4 * a .v) 0) (codesAt (a .starts .now) (a .codes .now) (a .v))
+sided : (c : tie.After-take) → let a = belonged (c .before .before) .args in Side (c .take .last .0) (getD (a .links .now) (4 * a .v) 0) (codesAt (a .starts .now) (a .codes .now) (a .v))
 sided c = record { belongs = was-true (belonging (c .before .before .before)) (c .before .before .if1 .left); holds = c .take .ensures _ (own (c .before .before .before .before .before)) }
 
 -- the first child's set
-first : (c : tie.After-sequent) → let a = c .before .before .before .before .before .before .before .before .before .before .before .before .before .before .before .before .before .before .before .args in Holds (c .sequent .result) (codesAt (a .starts .now) (a .codes .now) (getD (a .links .now) (4 * a .v + 1) 0))
-first c = rw (c .before .wide3 .ensures) at (c .sequent .ensures)
+first : (c : tie.After-put-sequent) → let a = belonged (passed c) .args in Holds (c .put-sequent .last .0) (codesAt (a .starts .now) (a .codes .now) (getD (a .links .now) (4 * a .v + 1) 0))
+first c = rw (c .before .wide3 .ensures) at (c .put-sequent .ensures)
 
 shared-slice-read-rule : tie.Need-shared-slice-read-rule
 shared-slice-read-rule c = search needs
@@ -73,17 +83,17 @@ shared-slice-read-wide-2 c = search needs
 wide-requires-2 : tie.Need-wide-requires-2
 wide-requires-2 c κs = search needs
 
-set-of-requires : tie.Need-set-of-requires
-set-of-requires c κs =
-    let p = c .before .before .before .before .before .before .before .before .before .before .pre in
-    rw (c .before .before .wide .ensures, c .wide2 .ensures) (placed (p .0) _ (p .1) .span)
+put-part-requires : tie.Need-put-part-requires
+put-part-requires c κs =
+    let p = filling c .pre in
+    rw (c .before .before .before .wide .ensures, c .before .wide2 .ensures) (placed (p .0) _ (p .1) .span, holds-none)
 
 has-requires : tie.Need-has-requires
 has-requires c κs = search needs
 
 returns : tie.Need-returns
 returns c =
-    let p = c .before .before .before .before .before .before .before .before .before .before .before .before .before .before .pre in
+    let p = filling (c .before .before .before .before) .pre in
     keeps-alien (p .0) _ (p .1) _ (p .2) (p .3) (was-false (belonging (c .before)) (c .if1 .taken))
 
 take-requires : tie.Need-take-requires
@@ -104,13 +114,13 @@ shared-slice-read-wide-3 c = search needs
 wide-requires-3 : tie.Need-wide-requires-3
 wide-requires-3 c κs = search needs
 
-sequent-requires : tie.Need-sequent-requires
-sequent-requires c κs =
-    let p = c .before .before .before .before .before .before .before .before .before .before .before .before .before .before .before .before .before .before .pre in
-    rw (c .wide3 .ensures) (first-placed (p .0) _ (p .1) (p .2) (omega (arith, p .3)))
+put-sequent-requires : tie.Need-put-sequent-requires
+put-sequent-requires c κs =
+    let p = belonged (c .before .before .before .before .before) .pre in
+    rw (c .wide3 .ensures) (first-placed (p .0) _ (p .1) (p .2) (omega (arith, p .3)), holds-none)
 
 or-kept-requires : tie.Need-or-kept-requires
-or-kept-requires c κs = principal (c .before .before .before .before .before .before .before .before)
+or-kept-requires c κs = principal (passed (c .before .before .before))
 
 mul-wide-5 : tie.Need-mul-wide-5
 mul-wide-5 c = search needs
@@ -127,81 +137,89 @@ shared-slice-read-wide-4 c = search needs
 wide-requires-4 : tie.Need-wide-requires-4
 wide-requires-4 c κs = search needs
 
-sequent-requires-2 : tie.Need-sequent-requires-2
-sequent-requires-2 c κs =
-    let p = c .before .before .before .before .before .before .before .before .before .before .before .before .before .before .before .before .before .before .before .before .before .before .pre in
-    rw (c .wide4 .ensures) (second-placed (p .0) _ (p .1) (c .before .before .match .keys2))
+put-sequent-requires-2 : tie.Need-put-sequent-requires-2
+put-sequent-requires-2 c κs =
+    let p = belonged (passed (c .before .before .before .before)) .pre in
+    rw (c .wide4 .ensures) (second-placed (p .0) _ (p .1) (c .before .before .before .match .keys2), holds-none)
 
 and-kept-requires : tie.Need-and-kept-requires
-and-kept-requires c κs = principal (c .before .before .before .before .before .before .before .before .before .before .before .before)
+and-kept-requires c κs = principal (passed (c .before .before .before .before .before .before .before .before))
 
 box-kept-requires : tie.Need-box-kept-requires
 box-kept-requires c κs =
-    let p = c .before .before .before .before .before .before .before .before .before .before .before .before .before .before .before .before .before .before .before .before .before .pre in
-    rw (c .before .before .before .before .before .before .before .before .before .before .before .before .before .wide .ensures, c .before .before .before .before .before .before .before .before .before .before .before .wide2 .ensures) (principal (c .before .before .before .before .before .before .before), placed (p .0) _ (p .1) .span, p .0 .members _ (p .1))
+    let p = c .before .before .before .before .before .before .before .before .before .before .before .before .before .before .before .before .before .before .before .before .before .before .before .pre in
+    rw (c .before .before .before .before .before .before .before .before .before .before .before .before .before .before .before .wide .ensures, c .before .before .before .before .before .before .before .before .before .before .before .before .before .wide2 .ensures) (principal (passed (c .before .before)), placed (p .0) _ (p .1) .span, p .0 .members _ (p .1))
 
 fixpoint-kept-requires : tie.Need-fixpoint-kept-requires
-fixpoint-kept-requires c κs = (principal (c .before .before .before .before .before .before .before .before), inl refl, omega arith)
+fixpoint-kept-requires c κs = (principal (passed (c .before .before .before)), inl refl, omega arith)
 
 fixpoint-kept-requires-2 : tie.Need-fixpoint-kept-requires-2
-fixpoint-kept-requires-2 c κs = (principal (c .before .before .before .before .before .before .before .before), inr refl, omega arith)
+fixpoint-kept-requires-2 c κs = (principal (passed (c .before .before .before)), inr refl, omega arith)
 
 same-requires : tie.Need-same-requires
 same-requires c κs = search needs
 
 focus-kept-requires : tie.Need-focus-kept-requires
-focus-kept-requires c κs = let C = principal (c .before .before .before .before .before .before .before .before) in (omega (arith, C .inside, C .small), omega arith)
+focus-kept-requires c κs = let C = principal (passed (c .before .before .before)) in (omega (arith, C .inside, C .small), omega arith)
 
 focus-kept-requires-2 : tie.Need-focus-kept-requires-2
-focus-kept-requires-2 c κs = let C = principal (c .before .before .before .before .before .before .before .before) in (omega (arith, C .inside, C .small), omega arith)
+focus-kept-requires-2 c κs = let C = principal (passed (c .before .before .before)) in (omega (arith, C .inside, C .small), omega arith)
 
 returns-2 : tie.Need-returns-2
 returns-2 c =
-    let p = c .before .before .before .before .before .before .before .before .before .before .before .before .before .before .before .before .before .before .before .before .before .before .before .pre in
-    c .or-kept .ensures _ _ (sided (c .before .before .before .before .before .before .before)) (first (c .before .before .before .before)) ∙ keeps-or-here (p .0) _ (p .1) _ (c .before .before .before .match .keys1)
+    let f = c .before .before .before .before in
+    let p = belonged (passed f) .pre in
+    c .or-kept .ensures _ _ (sided (f .before .before .before .before)) (first f) ∙ keeps-or-here (p .0) _ (p .1) _ (c .before .before .before .match .keys1)
 
 returns-3 : tie.Need-returns-3
 returns-3 c =
-    let p = c .before .before .before .before .before .before .before .before .before .before .before .before .before .before .before .before .before .before .before .before .before .before .before .before .before .before .before .pre in
-    c .and-kept .ensures _ _ _ (sided (c .before .before .before .before .before .before .before .before .before .before .before)) (first (c .before .before .before .before .before .before .before .before)) (rw (c .before .before .before .before .before .wide4 .ensures) at (c .before .before .before .before .sequent2 .ensures)) ∙ keeps-and-here (p .0) _ (p .1) _ (c .before .before .before .before .before .before .before .match .keys2)
+    let f = c .before .before .before .before .before .before .before .before .before in
+    let p = belonged (passed f) .pre in
+    c .and-kept .ensures _ _ _ (sided (f .before .before .before .before)) (first f) (rw (c .before .before .before .before .before .wide4 .ensures) at (c .before .before .before .before .put-sequent2 .ensures)) ∙ keeps-and-here (p .0) _ (p .1) _ (c .before .before .before .before .before .before .before .before .match .keys2)
 
 returns-4 : tie.Need-returns-4
 returns-4 c =
-    let p = c .before .before .before .before .before .before .before .before .before .before .before .before .before .before .before .before .before .before .before .before .before .before .pre in
-    rw (c .before .before .before .before .before .before .before .before .before .before .before .before .before .before .wide .ensures, c .before .before .before .before .before .before .before .before .before .before .before .before .wide2 .ensures) at (c .box-kept .ensures) _ (sided (c .before .before .before .before .before .before) .belongs) (first (c .before .before .before)) ∙ keeps-box-here (p .0) _ (p .1) _ (c .before .before .match .keys3)
+    let f = c .before .before .before in
+    let p = belonged (passed f) .pre in
+    rw (c .before .before .before .before .before .before .before .before .before .before .before .before .before .before .before .before .wide .ensures, c .before .before .before .before .before .before .before .before .before .before .before .before .before .before .wide2 .ensures) at (c .box-kept .ensures) _ (sided (f .before .before .before .before) .belongs) (first f) ∙ keeps-box-here (p .0) _ (p .1) _ (c .before .before .match .keys3)
 
 returns-5 : tie.Need-returns-5
 returns-5 c =
-    let p = c .before .before .before .before .before .before .before .before .before .before .before .before .before .before .before .before .before .before .before .before .before .before .before .pre in
-    c .fixpoint-kept .ensures _ _ (sided (c .before .before .before .before .before .before .before)) (first (c .before .before .before .before)) ∙ keeps-mu-here (p .0) _ (p .1) _ (c .before .before .before .match .keys4)
+    let f = c .before .before .before .before in
+    let p = belonged (passed f) .pre in
+    c .fixpoint-kept .ensures _ _ (sided (f .before .before .before .before)) (first f) ∙ keeps-mu-here (p .0) _ (p .1) _ (c .before .before .before .match .keys4)
 
 returns-6 : tie.Need-returns-6
 returns-6 c =
-    let p = c .before .before .before .before .before .before .before .before .before .before .before .before .before .before .before .before .before .before .before .before .before .before .before .pre in
-    c .fixpoint-kept2 .ensures _ _ (sided (c .before .before .before .before .before .before .before)) (first (c .before .before .before .before)) ∙ keeps-nu-here (p .0) _ (p .1) _ (c .before .before .before .match .keys5)
+    let f = c .before .before .before .before in
+    let p = belonged (passed f) .pre in
+    c .fixpoint-kept2 .ensures _ _ (sided (f .before .before .before .before)) (first f) ∙ keeps-nu-here (p .0) _ (p .1) _ (c .before .before .before .match .keys5)
 
 returns-7 : tie.Need-returns-7
 unfolding weaken-kept belongs sides
 returns-7 c =
-    let p = c .before .before .before .before .before .before .before .before .before .before .before .before .before .before .before .before .before .before .before .before .before .before .before .pre in
-    let a = c .before .before .before .before .before .before .before .before .before .before .before .before .before .before .before .before .before .before .before .before .before .before .before .args in
-    let s = sided (c .before .before .before .before .before .before .before) in
-    let w : c .same .result ≡ weaken-kept (tableOf (a .kinds .now) (a .a .now) (a .b .now) (a .size)) (around (a .links .now) (a .starts .now) (a .codes .now) (a .v) []) 0 = rw (s .belongs) (c .same .ensures _ _ (first (c .before .before .before .before)) (s .holds)) in
+    let f = c .before .before .before .before in
+    let p = belonged (passed f) .pre in
+    let a = belonged (passed f) .args in
+    let s = sided (f .before .before .before .before) in
+    let w : c .same .result ≡ weaken-kept (tableOf (a .kinds .now) (a .a .now) (a .b .now) (a .size)) (around (a .links .now) (a .starts .now) (a .codes .now) (a .v) []) 0 = rw (s .belongs) (c .same .ensures _ _ (first f) (s .holds)) in
     w ∙ keeps-w-here (p .0) _ (p .1) _ (c .before .before .before .match .keys6)
 
 returns-8 : tie.Need-returns-8
 returns-8 c =
-    let p = c .before .before .before .before .before .before .before .before .before .before .before .before .before .before .before .before .before .before .before .before .before .before .before .pre in
-    c .focus-kept .ensures _ _ _ (sided (c .before .before .before .before .before .before .before)) (first (c .before .before .before .before)) ∙ keeps-f-here (p .0) _ (p .1) _ (c .before .before .before .match .keys7)
+    let f = c .before .before .before .before in
+    let p = belonged (passed f) .pre in
+    c .focus-kept .ensures _ _ _ (sided (f .before .before .before .before)) (first f) ∙ keeps-f-here (p .0) _ (p .1) _ (c .before .before .before .match .keys7)
 
 returns-9 : tie.Need-returns-9
 returns-9 c =
-    let p = c .before .before .before .before .before .before .before .before .before .before .before .before .before .before .before .before .before .before .before .before .before .before .before .pre in
-    c .focus-kept2 .ensures _ _ _ (sided (c .before .before .before .before .before .before .before)) (first (c .before .before .before .before)) ∙ keeps-u-here (p .0) _ (p .1) _ (c .before .before .before .match .keys8)
+    let f = c .before .before .before .before in
+    let p = belonged (passed f) .pre in
+    c .focus-kept2 .ensures _ _ _ (sided (f .before .before .before .before)) (first f) ∙ keeps-u-here (p .0) _ (p .1) _ (c .before .before .before .match .keys8)
 
 returns-10 : tie.Need-returns-10
 returns-10 c =
-    let p = c .before .before .before .before .before .before .before .before .before .before .before .before .before .before .before .before .before .before .before .before .pre in
+    let p = belonged (passed (c .before)) .pre in
     let n = c .match .rest in
     let beyond = past Rule.U (past Rule.F (past Rule.W (past Rule.NU (past Rule.MU (past Rule.BOX (past Rule.AND (past Rule.OR (p .2) (n .0 .0 .0 .0 .0 .0 .0 .1)) (n .0 .0 .0 .0 .0 .0 .1)) (n .0 .0 .0 .0 .0 .1)) (n .0 .0 .0 .0 .1)) (n .0 .0 .0 .1)) (n .0 .0 .1)) (n .0 .1)) (n .1) in
     absurd (lt-irrefl _ (lt-of-lt-of-le beyond (p .3)))
@@ -221,7 +239,7 @@ principal-kept-spec =
     mul-wide-2
     shared-slice-read-wide-2
     wide-requires-2
-    set-of-requires
+    put-part-requires
     has-requires
     returns
     take-requires
@@ -230,14 +248,14 @@ principal-kept-spec =
     mul-wide-4
     shared-slice-read-wide-3
     wide-requires-3
-    sequent-requires
+    put-sequent-requires
     or-kept-requires
     mul-wide-5
     add-wide-3
     mul-wide-6
     shared-slice-read-wide-4
     wide-requires-4
-    sequent-requires-2
+    put-sequent-requires-2
     and-kept-requires
     box-kept-requires
     fixpoint-kept-requires

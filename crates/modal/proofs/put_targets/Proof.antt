@@ -1,4 +1,4 @@
--- `stepped` meets its contract. The invariant: the set holds the targets of the codes from i on.
+-- `put_targets` meets its contract. The invariant: the set holds the targets of the codes from i on.
 use mathlib.Core.Path.{_≡_}
 use mathlib.Core.List.{List}
 use Prim.Native.Nat.{ℕ, _≤_, _-_}
@@ -9,19 +9,19 @@ use Rattle.verdict.specs.Sets.{elements}
 use Rattle.verdict.specs.Tests.{each}
 use Rattle.formula.specs.Plain.{tableOf}
 use Rattle.sequents.specs.Part.{part, part-member}
-use Rattle.sequents.specs.CodeSet.{Holds, holds-none, each-before, each-end}
+use Rattle.sequents.specs.CodeSet.{Holds, each-before, each-end}
 use Rattle.calculus.specs.Rules.{stepped as Stepped}
 use Rattle.modal.specs.BoxLaws.{Modal}
-use Rattle.modal.proofs.stepped.Statement.{statement}
-use Rattle.modal.proofs.stepped.Tie as tie
+use Rattle.modal.proofs.put_targets.Statement.{statement}
+use Rattle.modal.proofs.put_targets.Tie as tie
 
 abbrev Inv-loop : tie.InvT-loop
-Inv-loop kinds a codes from to set₀ i₀ set i =
+Inv-loop set₀ kinds a codes from to i₀ set i =
     (from ≤ i) × (i ≤ to)
     × ((ys : List ℕ) (n : ℕ) → ((c : ℕ) → elements (part codes from to) c → Modal kinds a ys n c) → Holds set (each (Stepped (tableOf kinds a ys n)) (part codes i to)))
 
 abbrev μ-loop : tie.MeasureT-loop
-μ-loop kinds a codes from to set₀ i₀ set i = i - from
+μ-loop set₀ kinds a codes from to i₀ set i = i - from
 
 -- the code at hand is one of the part
 here : (c : tie.After-shared-slice-known2 Inv-loop μ-loop) → let s = c .before .before .before .before in
@@ -31,7 +31,7 @@ here c =
     part-member (s .args .codes .now) (s .args .from) (s .args .to) (c .before .before .loop .i - 1) (omega arith) (omega arith) (s .pre .0 .long)
 
 loop-holds : tie.Need-loop-holds Inv-loop μ-loop
-loop-holds c = (search needs, search needs, λ ys n M. each-end _ (c .before .args .codes .now) (c .before .args .to) holds-none)
+loop-holds c = (search needs, search needs, λ ys n M. each-end _ (c .before .args .codes .now) (c .before .args .to) (c .before .pre .2))
 
 sub-i : tie.Need-sub-i Inv-loop μ-loop
 sub-i c = search needs
@@ -71,8 +71,8 @@ returns c ys n M =
     let whole : c .before .loop .i ≡ c .before .before .before .args .from = omega arith in
     rw whole at (c .before .loop .inv .2 ys n M)
 
-pub stepped-spec : {M : Type 1} → statement M
-stepped-spec =
+pub put-targets-spec : {M : Type 1} → statement M
+put-targets-spec =
     tie.close
     (tie.spec
     Inv-loop

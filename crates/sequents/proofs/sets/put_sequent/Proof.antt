@@ -1,7 +1,7 @@
--- `sequent` meets its contract: the codes of node v stand from its start up to the next node's.
+-- `put_sequent` meets its contract: the codes of node v stand from its start up to the next node's.
 use borrow.Author.Needs.{needs}
-use Rattle.sequents.proofs.sets.sequent.Statement.{statement}
-use Rattle.sequents.proofs.sets.sequent.Tie as tie
+use Rattle.sequents.proofs.sets.put_sequent.Statement.{statement}
+use Rattle.sequents.proofs.sets.put_sequent.Tie as tie
 
 mul-wide : tie.Need-mul-wide
 mul-wide c = search needs
@@ -24,16 +24,16 @@ shared-slice-read-wide-2 c = search needs
 wide-requires-2 : tie.Need-wide-requires-2
 wide-requires-2 c κs = search needs
 
-set-of-requires : tie.Need-set-of-requires
-set-of-requires c κs =
-    let p = c .before .before .before .before .before .before .pre in
-    rw (c .before .before .wide .ensures, c .wide2 .ensures) (p .span)
+put-part-requires : tie.Need-put-part-requires
+put-part-requires c κs =
+    let p = c .before .before .before .before .before .before .before .pre in
+    rw (c .before .before .wide .ensures, c .wide2 .ensures) (p .0 .span, p .1)
 
 returns : tie.Need-returns
-returns c = rw (c .before .before .before .wide .ensures, c .before .wide2 .ensures) at (c .set-of .ensures)
+returns c = rw (c .before .before .before .wide .ensures, c .before .wide2 .ensures) at (c .put-part .ensures)
 
-pub sequent-spec : {M : Type 1} → statement M
-sequent-spec =
+pub put-sequent-spec : {M : Type 1} → statement M
+put-sequent-spec =
     tie.close
     (tie.spec
     mul-wide
@@ -43,5 +43,5 @@ sequent-spec =
     mul-wide-2
     shared-slice-read-wide-2
     wide-requires-2
-    set-of-requires
+    put-part-requires
     returns)
