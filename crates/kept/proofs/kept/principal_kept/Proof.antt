@@ -19,7 +19,7 @@ use Rattle.kept.specs.Judged.{placed, first-placed, second-placed, coded
 use Rattle.kept.proofs.kept.principal_kept.Statement.{statement}
 use Rattle.kept.proofs.kept.principal_kept.Tie as tie
 
--- the function's start, from where a set is filled, the principal belongs, and the first child's set is filled
+-- the function's start, from where the node's own set is lent and from where the principal belongs; the latter from the first child's set
 abbrev filling : tie.After-side → tie.Start
 filling c = c .before .before .before .before .before .before .before .before .before .before .before
 
