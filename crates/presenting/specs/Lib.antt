@@ -1,6 +1,3 @@
--- what lent records hold
-pub mod LentSlices
 -- presenting, stage by stage, and its promise
-pub mod LentJudged
 pub mod PresentStep
 pub mod PresentCall

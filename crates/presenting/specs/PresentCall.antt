@@ -18,7 +18,7 @@ use Rattle.permit.specs.LentState.{plain-reads}
 use Rattle.permit.specs.declared.State.{State}
 use Rattle.permit.specs.declared.numbered.Numbered.{Numbered}
 use Rattle.demands.specs.Slices.{Lent, short, LongEnough}
-use Rattle.presenting.specs.LentSlices.{lentOf}
+use Rattle.lent_files.specs.LentSlices.{lentOf}
 use Rattle.calculus.specs.Judge.{judge}
 use Rattle.reader.specs.Files.{Files, files}
 use Rattle.demands.specs.Present.{held, presentedBy, ifLong, presenting}

@@ -24,8 +24,8 @@ use Rattle.permit.specs.declared.State.{State}
 use Rattle.permit.specs.declared.numbered.Numbered.{Numbered}
 use Rattle.demands.specs.Slices.{short}
 use Rattle.demands.specs.Present.{Presented, held, presentedBy, ifLong, presenting}
-use Rattle.presenting.specs.LentSlices.{lentOf}
-use Rattle.presenting.specs.LentJudged.{LentJudged, AllLong}
+use Rattle.lent_files.specs.LentSlices.{lentOf}
+use Rattle.lent_files.specs.LentJudged.{LentJudged, AllLong}
 
 module _ (s : State) (tag : ℕ) (claim proof : List ℕ) (es : List Entry) (vs : List Node) (cs : List ℕ) where
   -- what presenting to the state s answers and leaves

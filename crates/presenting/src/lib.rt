@@ -1,89 +1,13 @@
-// "Presenting a tag, claim and proof (on acceptance it holds that tag)": what stands before the files, the files, the lent records and
-// what the judge says of what stands there, and the state that the verdict leaves.
-ghost use mathlib.Core.Path.{_≡_};
-ghost use Rattle.verdict.specs.Verdict.{accepted};
-ghost use Rattle.verdict.specs.Shown.{shown};
-ghost use Rattle.presenting.specs.LentJudged.{AllLong, LentTold};
+// "Presenting a tag, claim and proof (on acceptance it holds that tag)": what stands before the files, what the judge says of the files in
+// the lent slices, and the state that the verdict leaves.
 ghost use Rattle.presenting.specs.PresentCall.{PresentCall};
+use lent_files::judge_lent;
 use permit::State;
 use permit::numbered::Numbered;
 use permit::present::settle;
 use permit::present::stands_before;
-use reader::begins;
-use reader::find_files;
-use reader::refuses;
 use records::Entry;
 use records::Node;
-use records::load_entries;
-use records::store_entries;
-use standing::judge_stored;
-use verdict::Verdict;
-
-// The files behind what stands before them: the claim's entries are stored as records and loaded from where they stand, then the nodes. A
-// refusal before the rules finds no node, and stores nothing.
-fn judge_read(
-    before: Verdict,
-    claim: &[u8],
-    proof: &[u8],
-    entries: &mut [Entry],
-    nodes: &mut [Node],
-    codes: &mut [u16],
-) -> Verdict
-    requires { ⌜ (shown before ≡ accepted → AllLong (now entries) (now nodes) (now codes)) ⌝ }
-    ensures { λ r. ⌜ LentTold (shown before) (now (claim .entry)) (now (proof .entry)) (now (entries .entry)) (now (nodes .entry)) (now (codes .entry))
-        (shown r) (now (entries .exit)) (now (nodes .exit)) (now (codes .exit)) ⌝ }
-{
-    let mut kinds = [0u8; 256];
-    let mut a = [0u16; 256];
-    let mut b = [0u16; 256];
-    let mut members = [0u16; 24];
-    let found = find_files(
-        before,
-        claim,
-        proof,
-        &mut kinds,
-        &mut a,
-        &mut b,
-        &mut members,
-    );
-    if found.nodes == 0 {
-        return found.verdict;
-    }
-    store_entries(entries, &kinds, &a, &b, found.entries);
-    load_entries(entries, found.entries, &mut kinds, &mut a, &mut b);
-    judge_stored(
-        proof,
-        &kinds,
-        &a,
-        &b,
-        found.entries,
-        &members,
-        found.listed,
-        found.nodes,
-        nodes,
-        codes,
-    )
-}
-
-// The same, without the columns where what stands before the files, or the claim's beginning, is refused already.
-fn judge_lent(
-    before: Verdict,
-    claim: &[u8],
-    proof: &[u8],
-    entries: &mut [Entry],
-    nodes: &mut [Node],
-    codes: &mut [u16],
-) -> Verdict
-    requires { ⌜ (shown before ≡ accepted → AllLong (now entries) (now nodes) (now codes)) ⌝ }
-    ensures { λ r. ⌜ LentTold (shown before) (now (claim .entry)) (now (proof .entry)) (now (entries .entry)) (now (nodes .entry)) (now (codes .entry))
-        (shown r) (now (entries .exit)) (now (nodes .exit)) (now (codes .exit)) ⌝ }
-{
-    let early = begins(before, claim);
-    if refuses(early) {
-        return early;
-    }
-    judge_read(before, claim, proof, entries, nodes, codes)
-}
 
 // With 1 to 34 nothing is stored.
 pub fn present_step(

@@ -29,7 +29,7 @@ use Rattle.standing.specs.Standing.{RoomFor, JudgedStored}
 use Rattle.standing.specs.StandingLaws.{first-shown, no-shorter}
 use Rattle.demands.specs.Slices.{decodedInto}
 use Rattle.demands.specs.Present.{presentedBy}
-use Rattle.presenting.specs.LentSlices.{lentOf}
+use Rattle.lent_files.specs.LentSlices.{lentOf}
 
 -- what is answered, and what is left in the slices: as presenting is defined, whatever the tag
 pub record LentJudged (x : Reading (Files Derivation)) (es : List Entry) (vs : List Node) (cs : List ℕ) (v : Verdict) (es′ : List Entry) (vs′ : List Node) (cs′ : List ℕ) : Type 0 where

@@ -85,11 +85,11 @@ use Rattle.reader.proofs.find_files as find
 use Rattle.reader.proofs.find_files.Symbol as find-def
 use Rattle.reader.proofs.find_files.Symbol.{name as #find}
 use Rattle.reader.proofs.find_files.Met as find-thm
-use Rattle.presenting.specs.LentJudged.{AllLong, LentTold, nothing-refused, refusal-stands, may-store, may-load, may-judge, lent-judged}
-use Rattle.presenting.proofs.judge_read.Key.{name as #fn}
-use Rattle.presenting.proofs.judge_read as f
-use Rattle.presenting.proofs.judge_read.Statement as stated
-use Rattle.presenting.proofs.judge_read.Code as code
+use Rattle.lent_files.specs.LentJudged.{AllLong, LentTold, nothing-refused, refusal-stands, may-store, may-load, may-judge, lent-judged}
+use Rattle.lent_files.proofs.judge_read.Key.{name as #fn}
+use Rattle.lent_files.proofs.judge_read as f
+use Rattle.lent_files.proofs.judge_read.Statement as stated
+use Rattle.lent_files.proofs.judge_read.Code as code
 
 abbrev stayed : Stays (f.ended .signature .params) (f.ended .kept)
 stayed = (stay-none (λ _. Ver.the-row) yes, (stay-none-slice (0 ∷ []) tt (plain (λ _. u8)) yes, (stay-none-slice (1 ∷ []) tt (plain (λ _. u8)) yes, (stay-slice (2 ∷ []) tt (plain (λ _. E.the-row)), (stay-slice (3 ∷ []) tt (plain (λ _. T.the-row)), (stay-slice (4 ∷ []) tt (plain (λ _. u16)), tt))))))
