@@ -4,9 +4,7 @@ ghost use mathlib.Core.Path.{_≡_};
 ghost use Rattle.verdict.specs.Verdict.{accepted};
 ghost use Rattle.verdict.specs.Shown.{shown};
 ghost use Rattle.lent_files.specs.LentJudged.{AllLong, LentTold};
-use reader::begins;
 use reader::find_files;
-use reader::refuses;
 use records::Entry;
 use records::Node;
 use records::load_entries;
@@ -15,7 +13,7 @@ use standing::judge_stored;
 use verdict::Verdict;
 
 // The files behind what stands before them. A refusal before the rules finds no node.
-fn judge_read(
+pub fn judge_read(
     before: Verdict,
     claim: &[u8],
     proof: &[u8],
@@ -57,24 +55,4 @@ fn judge_read(
         nodes,
         codes,
     )
-}
-
-// The same, without the columns where what stands before the files, or the claim's beginning, is refused already.
-pub fn judge_lent(
-    before: Verdict,
-    claim: &[u8],
-    proof: &[u8],
-    entries: &mut [Entry],
-    nodes: &mut [Node],
-    codes: &mut [u16],
-) -> Verdict
-    requires { ⌜ (shown before ≡ accepted → AllLong (now entries) (now nodes) (now codes)) ⌝ }
-    ensures { λ r. ⌜ LentTold (shown before) (now (claim .entry)) (now (proof .entry)) (now (entries .entry)) (now (nodes .entry)) (now (codes .entry))
-        (shown r) (now (entries .exit)) (now (nodes .exit)) (now (codes .exit)) ⌝ }
-{
-    let early = begins(before, claim);
-    if refuses(early) {
-        return early;
-    }
-    judge_read(before, claim, proof, entries, nodes, codes)
 }

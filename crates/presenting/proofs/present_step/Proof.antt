@@ -62,10 +62,10 @@ use Rattle.permit.proofs.present.stands_before as stand
 use Rattle.permit.proofs.present.stands_before.Symbol as stand-def
 use Rattle.permit.proofs.present.stands_before.Symbol.{name as #stand}
 use Rattle.permit.proofs.present.stands_before.Met as stand-thm
-use Rattle.lent_files.proofs.judge_lent as rule-on
-use Rattle.lent_files.proofs.judge_lent.Symbol as rule-on-def
-use Rattle.lent_files.proofs.judge_lent.Symbol.{name as #rule-on}
-use Rattle.lent_files.proofs.judge_lent.Met as rule-on-thm
+use Rattle.presenting.proofs.judge_lent as rule-on
+use Rattle.presenting.proofs.judge_lent.Symbol as rule-on-def
+use Rattle.presenting.proofs.judge_lent.Symbol.{name as #rule-on}
+use Rattle.presenting.proofs.judge_lent.Met as rule-on-thm
 use Rattle.permit.proofs.present.settle as leave
 use Rattle.permit.proofs.present.settle.Symbol as leave-def
 use Rattle.permit.proofs.present.settle.Symbol.{name as #leave}
@@ -277,5 +277,5 @@ present-step-spec 𝓤 H 𝓜 𝓖 𝓡 =
     (tables 𝓤 H 𝓜 𝓡 code.env .C) (tables 𝓤 H 𝓜 𝓡 code.env .Λ) #fn code.function (code.unfolded 𝓤 H 𝓜 𝓡)
     (f-meets 𝓤 H (𝓖 .A) (givenOf 𝓤 H 𝓜 𝓖) (𝓜 .mem) (𝓡 .run) (tablesOf 𝓤 H 𝓜 (tables 𝓤 H 𝓜 𝓡 code.env))
     (cited 𝓤 H (Stand 𝓤 H (𝓖 .A) (𝓜 .mem) (𝓡 .run)) 𝓜 𝓡 code.env #stand stand-def.routine code.calls-permit·present·stands-before (stand-thm.met 𝓤 H 𝓜 𝓖 𝓡))
-    (cited 𝓤 H (Rule 𝓤 H (𝓖 .A) (𝓜 .mem) (𝓡 .run)) 𝓜 𝓡 code.env #rule-on rule-on-def.routine code.calls-lent-files·judge-lent (rule-on-thm.met 𝓤 H 𝓜 𝓖 𝓡))
+    (cited 𝓤 H (Rule 𝓤 H (𝓖 .A) (𝓜 .mem) (𝓡 .run)) 𝓜 𝓡 code.env #rule-on rule-on-def.routine code.calls-presenting·judge-lent (rule-on-thm.met 𝓤 H 𝓜 𝓖 𝓡))
     (cited 𝓤 H (Leave 𝓤 H (𝓖 .A) (𝓜 .mem) (𝓡 .run)) 𝓜 𝓡 code.env #leave leave-def.routine code.calls-permit·present·settle (leave-thm.met 𝓤 H 𝓜 𝓖 𝓡)))

@@ -59,16 +59,16 @@ use Rattle.reader.proofs.refuses as refuse
 use Rattle.reader.proofs.refuses.Symbol as refuse-def
 use Rattle.reader.proofs.refuses.Symbol.{name as #refuse}
 use Rattle.reader.proofs.refuses.Met as refuse-thm
 use Rattle.lent_files.specs.LentJudged.{LentTold, AllLong, early-stands}
-use Rattle.lent_files.proofs.Bytes.{holds-bytes}
+use Rattle.presenting.proofs.Bytes.{holds-bytes}
 use Rattle.lent_files.proofs.judge_read as read
 use Rattle.lent_files.proofs.judge_read.Symbol as read-def
 use Rattle.lent_files.proofs.judge_read.Symbol.{name as #read}
 use Rattle.lent_files.proofs.judge_read.Met as read-thm
-use Rattle.lent_files.proofs.judge_lent.Key.{name as #fn}
-use Rattle.lent_files.proofs.judge_lent as f
-use Rattle.lent_files.proofs.judge_lent.Statement as stated
-use Rattle.lent_files.proofs.judge_lent.Code as code
+use Rattle.presenting.proofs.judge_lent.Key.{name as #fn}
+use Rattle.presenting.proofs.judge_lent as f
+use Rattle.presenting.proofs.judge_lent.Statement as stated
+use Rattle.presenting.proofs.judge_lent.Code as code
 
 abbrev stayed : Stays (f.ended .signature .params) (f.ended .kept)
 stayed = (stay-none (λ _. Ver.the-row) yes, (stay-none-slice (0 ∷ []) tt (plain (λ _. u8)) yes, (stay-none-slice (1 ∷ []) tt (plain (λ _. u8)) yes, (gave-slice (2 ∷ []) tt (plain (λ _. E.the-row)), (gave-slice (3 ∷ []) tt (plain (λ _. T.the-row)), (gave-slice (4 ∷ []) tt (plain (λ _. u16)), tt))))))
