@@ -1,19 +1,39 @@
 -- a claim file's first bytes, judged by themselves: its opening, its entry count and its first entry
-use mathlib.Core.Path.{_≡_, _∙_}
+use mathlib.Core.Path.{_≡_, sym, ap, _∙_}
+use mathlib.Core.Bool.{Bool, true, false, not}
 use mathlib.Core.List.{List, []}
 use Prim.Native.Nat.{ℕ, _+_}
 use native.Mathlib.Omega.{arith}
+use borrow.Author.Tests.{not-true, not-false}
 use Rattle.verdict.specs.Verdict as verdicts
-use Rattle.verdict.specs.Verdict.{Verdict, accepted}
+use Rattle.verdict.specs.Verdict.{Verdict, accepted, pick}
+use Rattle.formula.specs.Table.{Entry}
 use Rattle.formula.specs.Claim.{Claim}
-use Rattle.encoding.specs.Parse.{fault}
+use Rattle.encoding.specs.Parse.{Got, fault, got}
 use Rattle.encoding.specs.File.{Reading, refused}
+use Rattle.encoding.specs.Opening.{opens}
 use Rattle.encoding.specs.Places.{InFile}
 use Rattle.encoding.specs.Walk.{Reached}
-use Rattle.claims.specs.ReadClaim.{early}
+use Rattle.claims.specs.ClaimFile.{claimOpening}
+use Rattle.claims.specs.ReadClaim.{early, readClaim}
 use Rattle.claims.specs.Numbers.{countAt, count-inside}
 use Rattle.claims.specs.ClaimEntry.{entryAt}
-use Rattle.claims.specs.ClaimEntries.{entriesAt, entries-start, none-entered, entering-stops}
+use Rattle.claims.specs.ClaimEntries.{entriesAt, entries-start, entries-cut, none-entered, entering-stops}
+use Rattle.claims.specs.ClaimWalk.{claim-closed, claim-no-entries}
+
+-- what a first entry earns by itself, and what the count before it does
+abbrev earns : {A : Type 0} → Got A → Verdict
+earns (fault n q) = verdicts.refused n q
+earns (got x r o) = accepted
+
+abbrev counted : List ℕ → Got ℕ → Verdict
+counted s (fault n q) = verdicts.refused n q
+counted s (got k r o) = earns (entryAt s o)
+
+-- what the opening, the entry count and the first entry earn
+unfoldable pub beginning : List ℕ → Verdict
+unfolding opens countAt entryAt
+beginning s = pick (opens claimOpening s) (counted s (countAt 256 12 early s 4)) (verdicts.refused 10 0)
 
 -- a refusal is that of the whole file; acceptance says nothing of it
 abbrev pub BeginningTells : Reading Claim → Verdict → Type 0
@@ -31,3 +51,29 @@ module _ (s : List ℕ) {k o : ℕ} (c : Reached s (4 + 2) (countAt 256 12 early
 
   pub first-cut : {n q : ℕ} → entryAt s o ≡ fault n q → entriesAt s 4 ≡ fault n q
   first-cut e = entries-start s 4 c ∙ entering-stops s o k [] [] [] (none-entered s o k [] [] [] (c .inside)) (omega (arith, count-inside early s 4 256 12 c)) e
+
+-- the beginning is judged, and a refusal of it stands
+pub record Begun (s : List ℕ) (v : Verdict) : Type 0 where
+  pub earned : v ≡ beginning s
+  pub stands : BeginningTells (readClaim s) v
+
+module _ (s : List ℕ) {opened : Bool} (test : opened ≡ opens claimOpening s) where
+  pub begun-closed : not opened ≡ true → Begun s (verdicts.refused 10 0)
+  unfolding beginning
+  begun-closed h = record { earned = sym (ap (λ (b : Bool). pick b (counted s (countAt 256 12 early s 4)) (verdicts.refused 10 0)) (sym test ∙ not-true opened h)); stands = claim-closed s test h }
+
+  module _ (h : not opened ≡ false) where
+    -- past the opening
+    open-beginning : beginning s ≡ counted s (countAt 256 12 early s 4)
+    unfolding beginning
+    open-beginning = ap (λ (b : Bool). pick b (counted s (countAt 256 12 early s 4)) (verdicts.refused 10 0)) (sym test ∙ not-false opened h)
+
+    pub begun-uncounted : {n q : ℕ} → countAt 256 12 early s 4 ≡ fault n q → Begun s (verdicts.refused n q)
+    begun-uncounted e = record { earned = sym (open-beginning ∙ ap (counted s) e); stands = claim-no-entries s test h (entries-cut s 4 e) }
+
+    module _ {k o : ℕ} (c : Reached s (4 + 2) (countAt 256 12 early s 4) k o) where
+      pub begun-cut : {n q : ℕ} → entryAt s o ≡ fault n q → Begun s (verdicts.refused n q)
+      begun-cut e = record { earned = sym (open-beginning ∙ ap (counted s) (c .found) ∙ ap earns e); stands = claim-no-entries s test h (first-cut s c e) }
+
+      pub begun-passed : {x : Entry} {z : ℕ} {r : List ℕ} → entryAt s o ≡ got x r z → Begun s accepted
+      begun-passed e = record { earned = sym (open-beginning ∙ ap (counted s) (c .found) ∙ ap earns e); stands = tt }

@@ -11,7 +11,7 @@ ghost use Rattle.claims.specs.ClaimEntry.{entryAt, EntryTells};
 ghost use Rattle.claims.specs.ClaimEntries.{PartTells, EntryArrays, EntriesStored, entriesAt, entriesFrom};
 ghost use Rattle.claims.specs.ClaimMembers.{mayFollow, memberAt, MembersStored, membersAt, membersFrom};
 ghost use Rattle.claims.specs.ClaimWalk.{ClaimArrays, ClaimTells, refusal};
-ghost use Rattle.claims.specs.ClaimBeginning.{BeginningTells};
+ghost use Rattle.claims.specs.ClaimBeginning.{Begun};
 ghost use Rattle.verdict.specs.Shown.{shown};
 use crate::number::Number;
 use crate::number::count_at;
@@ -311,9 +311,9 @@ pub fn read_claim(
 }
 
 // What the first bytes of a claim earn: its opening, its entry count and its first entry. That takes no arrays, so a claim that is refused
-// here is refused before any are cleared for it. Acceptance promises nothing: `read_claim` judges all of the file, these bytes too.
+// here is refused before any are cleared for it. Acceptance says nothing of the file: `read_claim` judges all of it, these bytes too.
 pub fn judge_beginning(bytes: &[u8]) -> Verdict
-    ensures { λ r. ⌜ BeginningTells (readClaim (now (bytes .entry))) (shown r) ⌝ }
+    ensures { λ r. ⌜ Begun (now (bytes .entry)) (shown r) ⌝ }
 {
     if !opens_claim(bytes) {
         return Verdict::Refused {

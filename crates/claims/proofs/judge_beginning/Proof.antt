@@ -2,10 +2,9 @@
 use native.Mathlib.Omega.{arith}
 use borrow.Author.Needs.{needs}
 use Rattle.claims.specs.Numbers.{number-read, number-refused}
-use Rattle.claims.specs.ClaimEntry.{entry-refused}
-use Rattle.claims.specs.ClaimEntries.{entries-cut}
-use Rattle.claims.specs.ClaimWalk.{claim-closed, claim-long, claim-no-entries}
-use Rattle.claims.specs.ClaimBeginning.{first-place, first-cut}
+use Rattle.claims.specs.ClaimEntry.{entry-refused, entry-read}
+use Rattle.claims.specs.ClaimWalk.{claim-long}
+use Rattle.claims.specs.ClaimBeginning.{first-place, begun-closed, begun-uncounted, begun-cut, begun-passed}
 use Rattle.claims.proofs.judge_beginning.Statement.{statement}
 use Rattle.claims.proofs.judge_beginning.Tie as tie
 
@@ -13,7 +12,7 @@ opens-claim-requires : tie.Need-opens-claim-requires
 opens-claim-requires c κs = search needs
 
 returns : tie.Need-returns
-returns c = claim-closed _ (c .before .opens-claim .ensures) (c .if1 .taken)
+returns c = begun-closed _ (c .before .opens-claim .ensures) (c .if1 .taken)
 
 count-at-requires : tie.Need-count-at-requires
 count-at-requires c κs = record { within = claim-long _ (c .before .opens-claim .ensures) (c .if1 .left); low = omega arith }
@@ -35,18 +34,22 @@ enum-told c = search needs
 
 returns-2 : tie.Need-returns-2
 returns-2 c =
-    let counted = c .before .before .before in
-    claim-no-entries _ (counted .before .before .opens-claim .ensures) (counted .before .if1 .left) (entries-cut _ _ (number-refused _ _ (counted .count-at .ensures) (c .before .count .given .1)))
+    let at-count = c .before .before .before in
+    begun-uncounted _ (at-count .before .before .opens-claim .ensures) (at-count .before .if1 .left) (number-refused _ _ (at-count .count-at .ensures) (c .before .count .given .1))
 
 returns-3 : tie.Need-returns-3
 returns-3 c =
-    let counted = c .before .before .before .before .before .before .before in
-    claim-no-entries _ (counted .before .before .opens-claim .ensures) (counted .before .if1 .left)
-    (first-cut _ (number-read _ _ (counted .count-at .ensures) (c .before .before .before .before .before .count2 .given .1))
-    (entry-refused _ _ (c .before .before .before .entry-at .ensures) (c .before .number .given .1)))
+    let at-count = c .before .before .before .before .before .before .before in
+    begun-cut _ (at-count .before .before .opens-claim .ensures) (at-count .before .if1 .left)
+    (number-read _ _ (at-count .count-at .ensures) (c .before .before .before .before .before .count2 .given .1))
+    (entry-refused _ _ (c .before .before .before .entry-at .ensures) (c .before .number .given .1))
 
 returns-4 : tie.Need-returns-4
-returns-4 c = search needs
+returns-4 c =
+    let at-count = c .before .before .before .before .before .before in
+    begun-passed _ (at-count .before .before .opens-claim .ensures) (at-count .before .if1 .left)
+    (number-read _ _ (at-count .count-at .ensures) (c .before .before .before .before .count2 .given .1))
+    (entry-read _ _ (c .before .before .entry-at .ensures) (c .enum-told .given .1) .found)
 
 pub judge-beginning-spec : {M : Type 1} → statement M
 judge-beginning-spec =

@@ -30,7 +30,7 @@ judge-read-requires : tie.Need-judge-read-requires
 judge-read-requires c κs = search needs
 
 returns : tie.Need-returns
-returns c = refused-early _ _ (beginning-refused (c .before .before .before .judge-beginning .ensures) (ap shown (c .before .number .given .1)))
+returns c = refused-early _ _ (beginning-refused (c .before .before .before .judge-beginning .ensures .stands) (ap shown (c .before .number .given .1)))
 
 returns-2 : tie.Need-returns-2
 returns-2 c = search needs
