@@ -173,7 +173,7 @@ fn read_entries(bytes: &[u8], kinds: &mut [u8; 256], a: &mut [u16; 256], b: &mut
 }
 
 // Members rise strictly, lie in range and are no names.
-fn may_follow(kinds: &[u8; 256], entries: usize, floor: usize, member: usize) -> bool
+pub fn may_follow(kinds: &[u8; 256], entries: usize, floor: usize, member: usize) -> bool
     requires { ⌜ entries ≤ 256 ⌝ }
     ensures { λ r. ⌜ r ≡ mayFollow (now (kinds .entry)) entries floor member ⌝ }
 {

@@ -3,14 +3,14 @@
 -- tests/believed.sh counts and lists them
 use mathlib.Core.Path.{_≡_}
 use mathlib.Core.Logic.{_↔_, _⊎_}
-use mathlib.Core.Bool.{true, false}
+use mathlib.Core.Bool.{true, false, _||_}
 use mathlib.Core.List.{List}
-use Prim.Native.Nat.{ℕ, suc, _<_}
+use Prim.Native.Nat.{ℕ, suc, _<_, _≤_}
 use lib.ListN.{length, getD}
 use Rattle.verdict.specs.Verdict.{accepted, refused}
 use Rattle.verdict.specs.Sets.{elements}
 use Rattle.encoding.specs.Encode.{Bytes}
-use Rattle.encoding.specs.File.{good}
+use Rattle.encoding.specs.File.{good, refused as refused-reading}
 use Rattle.formula.specs.Kind
 use Rattle.formula.specs.Table.{Table, entry, kind}
 use Rattle.formula.specs.Claim.{Claim, Derivation}
@@ -32,7 +32,12 @@ use Rattle.claims.specs.ClaimExact.{claim-decodes, claim-encodes, one-claim}
 use Rattle.proofs.specs.ProofFile.{FitProof, encodeProof}
 use Rattle.proofs.specs.ReadProof.{readProof}
 use Rattle.proofs.specs.ProofExact.{proof-decodes, proof-encodes}
+use Rattle.reader.specs.Files.{Files, readFormed, files}
 use Rattle.calculus.specs.Sequents.{sequent}
+use Rattle.tree.specs.Owners.{tree-judged}
+use Rattle.writing.specs.Writing.{ClaimRecords, ProofRecords, claimFile, proofFile, shortClaim, shortProof, writingClaim, writingProof}
+use Rattle.writing.specs.ClaimTrips.{claimOf, ClaimGiven, claim-roomy}
+use Rattle.writing.specs.ProofTrips.{derivationOf, ProofGiven, LongProof, proof-roomy}
 use Rattle.model.specs.Described.{modelOf}
 use Rattle.permit.specs.GateState.{Gate, opened}
 use Rattle.demands.specs.Slices.{Lent, LongEnough, LentWords}
@@ -46,6 +51,7 @@ use Rattle.demands.specs.EvaluationEarned.{EvaluationEarned, Evaluable}
 use Rattle.demands.specs.CheckExact as check
 use Rattle.demands.specs.EvaluateExact as evaluation
 use Rattle.demands.specs.Sound as soundness
+use Rattle.demands.specs.Written as written
 use Rattle.demands.specs.Refutable.{muOfBox, falseAlone, mu-of-box-refuted, false-refuted}
 
 module _ (claim proof : List ℕ) (bc : Bytes claim) (bp : Bytes proof) where
@@ -197,3 +203,39 @@ proof-round-trip = proof-decodes
 
 pub proof-bytes-back : (c : Claim) {bytes : List ℕ} {d : Derivation} → Bytes bytes → readProof c bytes ≡ good d → encodeProof d ≡ bytes
 proof-bytes-back = proof-encodes
+
+-- T-01: writing a claim's records, and a proof's over them, into a slice with room for so many bytes
+module _ (c : ClaimRecords) (room : ℕ) where
+  -- the refusal is the one that the reader would give for the file that the records make
+  pub claim-refused-as-read : shortClaim c ≡ false → {n q : ℕ} → readFormed (claimFile c) ≡ refused-reading n q → writingClaim c room ≡ refused-reading n q
+  claim-refused-as-read = written.claim-refuses c room
+
+  -- reading a written file gives the records back, and it is never longer than this
+  pub claim-reads-back : {file : List ℕ} → writingClaim c room ≡ good file → (readFormed file ≡ good (claimOf c)) × (length file ≤ 1592)
+  claim-reads-back = written.claim-back c room
+
+  -- a slice of that length never earns 70
+  pub claim-has-room : shortClaim c ≡ false → (k : Claim) → readFormed (claimFile c) ≡ good k → 1592 ≤ room → writingClaim c room ≡ good (claimFile c)
+  claim-has-room = claim-roomy c room
+
+  -- writing the records of an accepted claim gives its bytes back
+  pub claim-written-again : {claim proof : List ℕ} → Bytes claim → Bytes proof → (k : Correct claim proof) → ClaimGiven c (k .read .claim)
+      → 256 ≤ length (c .entries) → length claim ≤ room → writingClaim c room ≡ good claim
+  claim-written-again bc bp k given long = written.accepted-claim-again bc bp k c given long room
+
+  module _ (d : ProofRecords) where
+    pub proof-refused-as-read : (shortClaim c || shortProof d) ≡ false → {n q : ℕ} → files (claimFile c) (proofFile d) ≡ refused-reading n q
+        → writingProof c d room ≡ refused-reading n q
+    proof-refused-as-read = written.proof-refuses c room d
+
+    pub proof-reads-back : {file : List ℕ} → writingProof c d room ≡ good file
+        → (readProof (claimOf c) file ≡ good (derivationOf d)) × ProofGiven d (derivationOf d .nodes) × (length file ≤ 58374)
+    proof-reads-back = written.proof-back c room d
+
+    pub proof-has-room : shortClaim c ≡ false → shortProof d ≡ false → (f : Files Derivation) → files (claimFile c) (proofFile d) ≡ good f
+        → tree-judged (f .beside .nodes) ≡ accepted → 58374 ≤ room → writingProof c d room ≡ good (proofFile d)
+    proof-has-room = proof-roomy c d room
+
+    pub proof-written-again : {claim proof : List ℕ} → Bytes claim → Bytes proof → (k : Correct claim proof) → ClaimGiven c (k .read .claim)
+        → ProofGiven d (k .read .beside .nodes) → 256 ≤ length (c .entries) → LongProof d → length proof ≤ room → writingProof c d room ≡ good proof
+    proof-written-again bc bp k given nodes long = written.accepted-proof-again bc bp k c given long room d nodes

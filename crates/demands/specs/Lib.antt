@@ -11,6 +11,7 @@ pub mod EvaluationEarned
 pub mod CheckExact
 pub mod EvaluateExact
 pub mod Sound
+pub mod Written
 pub mod Refutable
 pub mod PresentLaws
 -- the page

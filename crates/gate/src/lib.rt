@@ -1,6 +1,7 @@
-// The gate's calls: the single check, and opening, closing, taking, presenting and evaluating on what C lends. Its states and the steps
-// by value are in the crate `permit`.
+// The gate's calls: the single check, and opening, closing, taking, presenting, evaluating and writing on what C lends. Its states and the
+// steps by value are in the crate `permit`.
 pub mod check;
 pub mod evaluate;
 pub mod lent;
 pub mod present;
+pub mod write;

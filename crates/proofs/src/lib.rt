@@ -69,7 +69,7 @@ fn map_fits(map: u8, rule: u8) -> bool
 }
 
 // Whether a code's entry is in range and no name.
-fn is_code(kinds: &[u8; 256], count: usize, code: u16) -> bool
+pub fn is_code(kinds: &[u8; 256], count: usize, code: u16) -> bool
     requires { ⌜ count ≤ 256 ⌝ }
     ensures { λ r. ⌜ r ≡ isCode (kindTable (now (kinds .entry)) count) code ⌝ }
 {

@@ -11,5 +11,5 @@ mod At
 mod Put
 pub mod Count
 mod Store
-mod Between
-mod Load
+pub mod Between
+pub mod Load

@@ -1,4 +1,4 @@
--- The first n records of a lent slice, loaded into three columns: one walk for every declared record type T and the function that sets row i of the columns. `load_entries` and `load_nodes` cite it.
+-- The first n records of a lent slice, loaded into three columns: one walk for every declared record type T and the function that sets row i of the columns. `load_entries`, `load_nodes` and `load_node_fields` cite it.
 --     Loads            what the contracts say: row i set, what its setter asks, the columns loaded so far, and what the load asks
 --     function         the MIR: `front; while i < n { let record = at(records, i); set(kinds, a, b, i, record); i += 1; }`, where the front is what a function does first, with locals τs of its own
 --     Get, Row         the contracts of the two callees. All that the walk knows of them is that each meets its contract

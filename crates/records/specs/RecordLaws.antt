@@ -10,7 +10,7 @@ use Rattle.formula.specs.Table as tables
 use Rattle.formula.specs.Table.{Table}
 use Rattle.formula.specs.Columns.{column, column-length}
 use Rattle.formula.specs.Records.{NodeRecord}
-use Rattle.records.specs.Records.{blankEntry, blankNode, shownEntry, shownNode, firstEntries, firstNodes, ruleColumn, linkColumn, startColumn, total, linksSet, RowSet, NodeRowSet, EntriesLoaded, NodesLoaded}
+use Rattle.records.specs.Records.{blankEntry, blankNode, shownEntry, shownNode, firstEntries, firstNodes, ruleColumn, linkColumn, startColumn, countColumn, total, linksSet, RowSet, NodeRowSet, FieldsSet, EntriesLoaded, NodesLoaded, FieldsLoaded}
 use Rattle.records.specs.declared.Entry.{Entry}
 use Rattle.records.specs.declared.Node.{Node}
 
@@ -196,6 +196,19 @@ module _ (vs : List Node) (i : ℕ) (r : Node) (h : i < length vs) (is : r ≡ g
     starts = row .starts ∙ node-starts ss ss₁ c (loaded .starts);
   }
 
+  node-counts : (old now : List ℕ) → i < length old → now ≡ written (countColumn so-far) old → set now i (r .count) ≡ written (countColumn one-more) old
+  node-counts old now l e =
+      written-more (countColumn so-far) old now i (r .count) e (length-map so-far (λ v. v .count) ∙ there) l
+      ∙ ap (λ (c : List ℕ). written c old) (sym (map-append (λ v. v .count) so-far (shownNode r ∷ [])) ∙ ap countColumn first-is)
+
+  pub fields-more : {rs ls ns rs₁ ls₁ ns₁ rs₂ ls₂ ns₂ : List ℕ} → i < length rs → 4 * i + 3 < length ls → i < length ns
+      → FieldsLoaded vs i rs ls ns rs₁ ls₁ ns₁ → FieldsSet rs₁ ls₁ ns₁ i r rs₂ ls₂ ns₂ → FieldsLoaded vs (i + 1) rs ls ns rs₂ ls₂ ns₂
+  fields-more {rs} {ls} {ns} {rs₁} {ls₁} {ns₁} a b c loaded row = record {
+    rules = row .rules ∙ node-rules rs rs₁ a (loaded .rules);
+    links = row .links ∙ node-links ls ls₁ b (loaded .links);
+    counts = row .counts ∙ node-counts ns ns₁ c (loaded .counts);
+  }
+
   -- a start fits its field, where the codes of all records fit their slice
   pub start-fits : {rs ls ss rs₁ ls₁ ss₁ : List ℕ} (n : ℕ) → i < n → total (firstNodes vs n) ≤ 24576 → NodesLoaded vs i rs ls ss rs₁ ls₁ ss₁ → getD ss₁ i 0 + r .count < 65536
   start-fits {ss = ss} {ss₁ = ss₁} n less fits loaded =
@@ -207,3 +220,7 @@ module _ (vs : List Node) (i : ℕ) (r : Node) (h : i < length vs) (is : r ≡ g
 pub nodes-none : (vs : List Node) (rs ls ss ss₁ : List ℕ) → 0 < length ss → ss₁ ≡ set ss 0 0 → NodesLoaded vs 0 rs ls ss rs ls ss₁
 unfolding ruleColumn linkColumn startColumn
 nodes-none vs rs ls ss ss₁ h e = record { rules = refl; links = refl; starts = e ∙ written-more [] ss ss 0 0 refl refl h }
+
+pub fields-none : (vs : List Node) (rs ls ns : List ℕ) → FieldsLoaded vs 0 rs ls ns rs ls ns
+unfolding ruleColumn linkColumn
+fields-none vs rs ls ns = record { rules = refl; links = refl; counts = refl }

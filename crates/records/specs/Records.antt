@@ -39,12 +39,15 @@ firstEntries es n = shownEntries (take n es)
 abbrev pub firstNodes : List Node → ℕ → List NodeRecord
 firstNodes vs n = shownNodes (take n vs)
 
--- the columns have room for n entries; for n nodes, four links each and a start more
+-- the columns have room for n entries; for n nodes, four links each and a start more, or a count each
 abbrev pub EntryRoom : List ℕ → List ℕ → List ℕ → ℕ → Type 0
 EntryRoom ks xs ys n = (n ≤ length ks) × (n ≤ length xs) × (n ≤ length ys)
 
 abbrev pub NodeRoom : List ℕ → List ℕ → List ℕ → ℕ → Type 0
 NodeRoom rs ls ss n = (n ≤ length rs) × (4 * n ≤ length ls) × (n < length ss)
+
+abbrev pub FieldRoom : List ℕ → List ℕ → List ℕ → ℕ → Type 0
+FieldRoom rs ls ns n = (n ≤ length rs) × (4 * n ≤ length ls) × (n ≤ length ns)
 
 -- the record of entry i of the columns
 abbrev pub entryOf : List ℕ → List ℕ → List ℕ → ℕ → Entry
@@ -74,7 +77,7 @@ CountFits ss v = (getD ss v 0 ≤ getD ss (v + 1) 0) × (getD ss (v + 1) 0 ≤ g
 abbrev pub CountsFit : List ℕ → ℕ → Type 0
 CountsFit ss n = (v : ℕ) → v < n → CountFits ss v
 
--- the columns that node records make: a rule, four links, and where the codes start, the end of the last one's too
+-- the columns that node records make: a rule, four links, where the codes start, the end of the last one's too, and how many codes
 unfoldable pub ruleColumn : List NodeRecord → List ℕ
 ruleColumn [] = []
 ruleColumn (v ∷ p) = v .rule ∷ ruleColumn p
@@ -86,6 +89,9 @@ linkColumn (v ∷ p) = v .principal ∷ v .first ∷ v .second ∷ v .back ∷ l
 unfoldable pub startColumn : ℕ → List NodeRecord → List ℕ
 startColumn s [] = s ∷ []
 startColumn s (v ∷ p) = s ∷ startColumn (s + v .count) p
+
+abbrev pub countColumn : List NodeRecord → List ℕ
+countColumn p = map (λ (v : NodeRecord). v .count) p
 
 -- how many codes the records have
 unfoldable pub total : List NodeRecord → ℕ
@@ -106,6 +112,11 @@ pub record NodeRowSet (rs ls ss : List ℕ) (v : ℕ) (node : Node) (rs′ ls′
   pub links : ls′ ≡ linksSet ls v node
   pub starts : ss′ ≡ set ss (v + 1) (getD ss v 0 + node .count)
 
+pub record FieldsSet (rs ls ns : List ℕ) (v : ℕ) (node : Node) (rs′ ls′ ns′ : List ℕ) : Type 0 where
+  pub rules : rs′ ≡ set rs v (node .rule)
+  pub links : ls′ ≡ linksSet ls v node
+  pub counts : ns′ ≡ set ns v (node .count)
+
 -- the columns hold what stands in the first n records, and are unchanged beyond it
 pub record EntriesLoaded (es : List Entry) (n : ℕ) (ks xs ys ks′ xs′ ys′ : List ℕ) : Type 0 where
   pub kinds : ks′ ≡ written (kindColumn (firstEntries es n)) ks
@@ -116,3 +127,9 @@ pub record NodesLoaded (vs : List Node) (n : ℕ) (rs ls ss rs′ ls′ ss′ : 
   pub rules : rs′ ≡ written (ruleColumn (firstNodes vs n)) rs
   pub links : ls′ ≡ written (linkColumn (firstNodes vs n)) ls
   pub starts : ss′ ≡ written (startColumn 0 (firstNodes vs n)) ss
+
+-- whatever the records say
+pub record FieldsLoaded (vs : List Node) (n : ℕ) (rs ls ns rs′ ls′ ns′ : List ℕ) : Type 0 where
+  pub rules : rs′ ≡ written (ruleColumn (firstNodes vs n)) rs
+  pub links : ls′ ≡ written (linkColumn (firstNodes vs n)) ls
+  pub counts : ns′ ≡ written (countColumn (firstNodes vs n)) ns

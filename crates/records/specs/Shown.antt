@@ -12,7 +12,7 @@ use Rattle.formula.specs.Plain.{tableOf}
 use Rattle.formula.specs.Nodes.{Node, Proof, node}
 use Rattle.formula.specs.PlainNodes.{plainNode, proofOf, codesAt}
 use Rattle.formula.specs.Records.{NodeRecord, recordOf, nodeRecords, allCodes}
-use Rattle.records.specs.Records.{shownEntry, shownNode, shownEntries, shownNodes, firstEntries, firstNodes, entryOf, entriesOf, nodeOf, nodesOf, ruleColumn, linkColumn, startColumn, total, EntriesLoaded, NodesLoaded}
+use Rattle.records.specs.Records.{shownEntry, shownNode, shownEntries, shownNodes, firstEntries, firstNodes, entryOf, entriesOf, nodeOf, nodesOf, ruleColumn, linkColumn, startColumn, countColumn, total, EntriesLoaded, NodesLoaded}
 use Rattle.records.specs.declared.Entry as declared-entry
 use Rattle.records.specs.declared.Node as declared-node
 
@@ -21,6 +21,11 @@ module _ {A B : Type 0} (f : A → B) where
   map-drop zero l = refl
   map-drop (suc n) [] = refl
   map-drop (suc n) (x ∷ l) = map-drop n l
+
+  pub map-take : (n : ℕ) (l : List A) → map f (take n l) ≡ take n (map f l)
+  map-take zero l = refl
+  map-take (suc n) [] = refl
+  map-take (suc n) (x ∷ l) = ap (λ (r : List B). f x ∷ r) (map-take n l)
 
   -- what is written shows what it shows, and so does what is left beyond it
   pub map-written : (new old : List A) → map f (written new old) ≡ written (map f new) (map f old)
@@ -86,24 +91,33 @@ unfolding total nodeRecords allCodes
 total-codes [] = refl
 total-codes (v ∷ p) = ap (λ (k : ℕ). length (v .codes) + k) (total-codes p) ∙ sym (length-append (v .codes) (allCodes p))
 
--- ---- the proof that stands in columns written from its records
+-- ---- what stands in columns written from records
+-- past the end of the records, in no law
+abbrev pub noRecord : NodeRecord
+noRecord = record { rule = 0; principal = 0; first = 0; second = 0; back = 0; count = 0 }
+
 module _ (rest : List ℕ) where
-  rule-at : (p : Proof) (v : ℕ) → v < length p → getD (ruleColumn (nodeRecords p) ++ rest) v 0 ≡ node p v .rule
-  unfolding ruleColumn nodeRecords
+  pub rule-at : (p : List NodeRecord) (v : ℕ) → v < length p → getD (ruleColumn p ++ rest) v 0 ≡ getD p v noRecord .rule
+  unfolding ruleColumn
   rule-at [] v h = absurd (omega arith)
   rule-at (w ∷ p) zero h = refl
   rule-at (w ∷ p) (suc v) h = rule-at p v (le-of-suc-le-suc h)
 
+  pub count-at : (p : List NodeRecord) (v : ℕ) → v < length p → getD (countColumn p ++ rest) v 0 ≡ getD p v noRecord .count
+  count-at [] v h = absurd (omega arith)
+  count-at (w ∷ p) zero h = refl
+  count-at (w ∷ p) (suc v) h = count-at p v (le-of-suc-le-suc h)
+
   -- a link by its number: principal, first child, second child, back link
-  abbrev link : Node → ℕ → ℕ
+  abbrev link : NodeRecord → ℕ → ℕ
   link w j = getD (w .principal ∷ w .first ∷ w .second ∷ w .back ∷ []) j 0
 
-  link-at : (p : Proof) (v j : ℕ) → j < 4 → v < length p → getD (linkColumn (nodeRecords p) ++ rest) (4 * v + j) 0 ≡ link (node p v) j
-  unfolding linkColumn nodeRecords
+  pub link-at : (p : List NodeRecord) (v j : ℕ) → j < 4 → v < length p → getD (linkColumn p ++ rest) (4 * v + j) 0 ≡ link (getD p v noRecord) j
+  unfolding linkColumn
   link-at [] v j l h = absurd (omega arith)
-  link-at (w ∷ p) zero j l h = let none : 4 * 0 + j ≡ j = omega arith in ap (λ (k : ℕ). getD (linkColumn (nodeRecords (w ∷ p)) ++ rest) k 0) none ∙ head j l
+  link-at (w ∷ p) zero j l h = let none : 4 * 0 + j ≡ j = omega arith in ap (λ (k : ℕ). getD (linkColumn (w ∷ p) ++ rest) k 0) none ∙ head j l
     where
-      head : (j : ℕ) → j < 4 → getD (linkColumn (nodeRecords (w ∷ p)) ++ rest) j 0 ≡ link w j
+      head : (j : ℕ) → j < 4 → getD (linkColumn (w ∷ p) ++ rest) j 0 ≡ link w j
       head zero l = refl
       head (suc zero) l = refl
       head (suc (suc zero)) l = refl
@@ -111,7 +125,18 @@ module _ (rest : List ℕ) where
       head (suc (suc (suc (suc j)))) l = absurd (omega arith)
   link-at (w ∷ p) (suc v) j l h =
       let four : 4 * suc v + j ≡ suc (suc (suc (suc (4 * v + j)))) = omega arith in
-      ap (λ (k : ℕ). getD (linkColumn (nodeRecords (w ∷ p)) ++ rest) k 0) four ∙ link-at p v j l (le-of-suc-le-suc h)
+      ap (λ (k : ℕ). getD (linkColumn (w ∷ p) ++ rest) k 0) four ∙ link-at p v j l (le-of-suc-le-suc h)
+
+  -- the first link stands at 4 × v
+  pub principal-at : (p : List NodeRecord) (v : ℕ) → v < length p → getD (linkColumn p ++ rest) (4 * v) 0 ≡ getD p v noRecord .principal
+  principal-at p v h = let first : 4 * v ≡ 4 * v + 0 = omega arith in ap (λ (k : ℕ). getD (linkColumn p ++ rest) k 0) first ∙ link-at p v 0 (omega arith) h
+
+-- ---- the proof that stands in columns written from its records
+record-at : (p : Proof) (v : ℕ) → v < length p → (v < length (nodeRecords p)) × (getD (nodeRecords p) v noRecord ≡ recordOf (node p v))
+unfolding nodeRecords
+record-at [] v h = absurd (omega arith)
+record-at (w ∷ p) zero h = (omega arith, refl)
+record-at (w ∷ p) (suc v) h = let r = record-at p v (le-of-suc-le-suc h) in (omega (arith, r .0), r .1)
 
 -- the codes of a node stand from its start on, however many stand before them
 codes-at : (p : Proof) (s : ℕ) (before rest more : List ℕ) (v : ℕ) → length before ≡ s → v < length p → codesAt (startColumn s (nodeRecords p) ++ rest) (before ++ (allCodes p ++ more)) v ≡ node p v .codes
@@ -136,7 +161,8 @@ codes-at (w ∷ p) s before rest more (suc v) e h =
     ∙ ap (λ (k : ℕ). take (getD (s ∷ starts) k 0 - getD starts v 0) (drop (getD starts v 0) ((before ++ w .codes) ++ (allCodes p ++ more)))) after
     ∙ codes-at p (s + length (w .codes)) (before ++ w .codes) rest more v long (le-of-suc-le-suc h)
 
-list-of : {A : Type 0} (d : A) (g : ℕ → A) (l : List A) (e : ℕ) → ((i : ℕ) → i < length l → g (e + i) ≡ getD l i d) → valuesFrom g e (length l) ≡ l
+-- a list is that of its elements
+pub list-of : {A : Type 0} (d : A) (g : ℕ → A) (l : List A) (e : ℕ) → ((i : ℕ) → i < length l → g (e + i) ≡ getD l i d) → valuesFrom g e (length l) ≡ l
 unfolding valuesFrom
 list-of d g [] e h = refl
 list-of d g (x ∷ l) e h =
@@ -155,9 +181,9 @@ proof-of-columns p rs ls ss cs = list-of _ _ p 0 same
     same : (v : ℕ) → v < length p → plainNode (written (ruleColumn (nodeRecords p)) rs) (written (linkColumn (nodeRecords p)) ls) (written (startColumn 0 (nodeRecords p)) ss) (written (allCodes p) cs) (0 + v) ≡ node p v
     same v l =
         let here : 0 + v ≡ v = omega arith in
-        let zero-more : 4 * v ≡ 4 * v + 0 = omega arith in
-        let principal : getD (written (linkColumn (nodeRecords p)) ls) (4 * v) 0 ≡ node p v .principal = ap (λ (k : ℕ). getD (written (linkColumn (nodeRecords p)) ls) k 0) zero-more ∙ link-at _ p v 0 (omega arith) l in
-        rw (here, rule-at _ p v l, principal, link-at _ p v 1 (omega arith) l, link-at _ p v 2 (omega arith) l, link-at _ p v 3 (omega arith) l, codes-at p 0 [] (drop (length (startColumn 0 (nodeRecords p))) ss) (drop (length (allCodes p)) cs) v refl l) refl
+        let p′ = nodeRecords p in
+        let r = record-at p v l in
+        rw (here, rule-at _ p′ v (r .0), principal-at _ p′ v (r .0), link-at _ p′ v 1 (omega arith) (r .0), link-at _ p′ v 2 (omega arith) (r .0), link-at _ p′ v 3 (omega arith) (r .0), r .1, codes-at p 0 [] (drop (length (startColumn 0 p′)) ss) (drop (length (allCodes p)) cs) v refl l) refl
 
 -- the proof of loaded columns is the one whose records stand in the slice
 pub loaded-proof : (vs : List declared-node.Node) (n : ℕ) (p : Proof) (cs : List ℕ) {rs ls ss rs′ ls′ ss′ : List ℕ} → firstNodes vs n ≡ nodeRecords p → length p ≡ n

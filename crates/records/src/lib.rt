@@ -5,7 +5,7 @@ ghost use Prim.Native.Nat.{_+_, _*_, _<_, _≤_};
 ghost use lib.ListN.{length, getD, set};
 ghost use Rattle.verdict.specs.Lists.{written};
 ghost use Rattle.records.specs.Records.{blankEntry, blankNode, entryOf, entriesOf, nodeOf, nodesOf};
-ghost use Rattle.records.specs.Records.{EntryRoom, NodeRoom, CountFits, CountsFit, firstNodes, total, linksSet, RowSet, NodeRowSet, EntriesLoaded, NodesLoaded};
+ghost use Rattle.records.specs.Records.{EntryRoom, NodeRoom, FieldRoom, CountFits, CountsFit, firstNodes, total, linksSet, RowSet, NodeRowSet, FieldsSet, EntriesLoaded, NodesLoaded, FieldsLoaded};
 
 // "An entry's record is its kind, A and B."
 #[repr(C)]
@@ -148,6 +148,17 @@ fn set_node(rules: &mut [u8], links: &mut [u16], starts: &mut [u16], v: usize, n
     starts[v + 1] = starts[v] + (node.count as u16);
 }
 
+// A record's fields and its code count, in the columns at v.
+fn set_node_fields(rules: &mut [u8], links: &mut [u16], counts: &mut [u16], v: usize, node: Node)
+    requires { ⌜ FieldRoom (now rules) (now links) (now counts) (v + 1) ⌝ }
+    ensures { λ _. ⌜ FieldsSet (now (rules .entry)) (now (links .entry)) (now (counts .entry)) v node (now (rules .exit)) (now (links .exit))
+        (now (counts .exit)) ⌝ }
+{
+    rules[v] = node.rule;
+    set_links(links, v, node);
+    counts[v] = node.count as u16;
+}
+
 // The first records are those of the columns, and the slice is unchanged beyond them.
 pub fn store_nodes(nodes: &mut [Node], rules: &[u8], links: &[u16], starts: &[u16], count: usize)
     requires { ⌜ NodeRoom (now rules) (now links) (now starts) count × (count ≤ length (now nodes)) × CountsFit (now starts) count ⌝ }
@@ -179,6 +190,26 @@ pub fn load_nodes(
     while i < count {
         let node = node_at(nodes, i);
         set_node(rules, links, starts, i, node);
+        i += 1;
+    }
+}
+
+// The same for nodes that nobody has judged: how many codes each says it has, and not where they start.
+pub fn load_node_fields(
+    nodes: &[Node],
+    count: usize,
+    rules: &mut [u8],
+    links: &mut [u16],
+    counts: &mut [u16],
+)
+    requires { ⌜ FieldRoom (now rules) (now links) (now counts) count × (count ≤ length (now nodes)) ⌝ }
+    ensures { λ _. ⌜ FieldsLoaded (now (nodes .entry)) count (now (rules .entry)) (now (links .entry)) (now (counts .entry)) (now (rules .exit))
+        (now (links .exit)) (now (counts .exit)) ⌝ }
+{
+    let mut i: usize = 0;
+    while i < count {
+        let node = node_at(nodes, i);
+        set_node_fields(rules, links, counts, i, node);
         i += 1;
     }
 }

@@ -1,0 +1,53 @@
+-- records as they are held in columns of plain numbers, where the slice they were lent in is long enough and no more than the most count
+use mathlib.Core.Path.{_≡_}
+use mathlib.Core.List.{List}
+use Prim.Native.Nat.{ℕ, _+_, _*_, _≤_}
+use lib.ListN.{length, getD, take}
+use Rattle.verdict.specs.Lists.{valuesFrom}
+use Rattle.formula.specs.Table.{Table}
+use Rattle.formula.specs.Plain.{tableOf}
+use Rattle.formula.specs.Records.{NodeRecord}
+use Rattle.writing.specs.Promises.{WriteClaim, WriteProof}
+
+-- the links of node v stand at 4 × v: principal, first child, second child, back link
+abbrev pub plainRecord : List ℕ → List ℕ → List ℕ → ℕ → NodeRecord
+plainRecord rs ls ns v = record {
+  rule = getD rs v 0;
+  principal = getD ls (4 * v) 0;
+  first = getD ls (4 * v + 1) 0;
+  second = getD ls (4 * v + 2) 0;
+  back = getD ls (4 * v + 3) 0;
+  count = getD ns v 0;
+}
+
+abbrev pub recordsOf : List ℕ → List ℕ → List ℕ → ℕ → List NodeRecord
+recordsOf rs ls ns m = valuesFrom (plainRecord rs ls ns) 0 m
+
+abbrev pub EntriesHeld : Table → ℕ → List ℕ → List ℕ → List ℕ → Type 0
+EntriesHeld es n ks xs ys = 256 ≤ length es → n ≤ 256 → take n es ≡ tableOf ks xs ys n
+
+abbrev pub NodesHeld : List NodeRecord → ℕ → List ℕ → List ℕ → List ℕ → Type 0
+NodesHeld vs m rs ls ns = 1024 ≤ length vs → m ≤ 1024 → take m vs ≡ recordsOf rs ls ns m
+
+-- columns with room for m nodes
+pub record ColumnsFor (m : ℕ) (rs ls ns : List ℕ) : Type 0 where
+  pub rules : m ≤ length rs
+  pub links : 4 * m ≤ length ls
+  pub counts : m ≤ length ns
+
+-- how many of the given records are loaded from a lent slice
+pub record Loadable (lent most given r : ℕ) : Type 0 where
+  pub fits : r ≤ lent
+  pub few : r ≤ most
+  pub all : most ≤ lent → given ≤ most → r ≡ given
+
+-- whatever entries were lent, if the columns hold the given ones
+abbrev pub ClaimWritten : ℕ → ℕ → List ℕ → List ℕ → List ℕ → List ℕ → List ℕ → ℕ → List ℕ → Type 0
+ClaimWritten lent n ks xs ys ms out r out′ =
+    (es : Table) → length es ≡ lent → EntriesHeld es n ks xs ys → WriteClaim (record { entries = es; count = n; members = ms }) out r out′
+
+-- whatever entries and nodes were lent
+abbrev pub ProofWritten : ℕ → ℕ → List ℕ → List ℕ → List ℕ → List ℕ → ℕ → ℕ → List ℕ → List ℕ → List ℕ → List ℕ → List ℕ → ℕ → List ℕ → Type 0
+ProofWritten lent n ks xs ys ms lent-nodes m rs ls ns cs out r out′ =
+    (es : Table) (vs : List NodeRecord) → length es ≡ lent → length vs ≡ lent-nodes → EntriesHeld es n ks xs ys → NodesHeld vs m rs ls ns
+    → WriteProof (record { entries = es; count = n; members = ms }) (record { nodes = vs; count = m; codes = cs }) out r out′

@@ -1,0 +1,12 @@
+pub mod RecordBytes
+pub mod Writing
+pub mod Ends
+pub mod FieldEnds
+pub mod ClaimEnds
+pub mod ProofEnds
+pub mod ClaimTrips
+pub mod ProofTrips
+pub mod Encoded
+pub mod Promises
+pub mod Held
+pub mod Answers

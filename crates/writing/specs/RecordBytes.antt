@@ -1,0 +1,54 @@
+-- the bytes that records make, whatever they hold: the file of which the reader is asked
+use mathlib.Core.List.{List, [], _∷_, _++_}
+use mathlib.Core.Bool.{Bool, not, _||_}
+use Prim.Native.Nat.{ℕ, _+_}
+use lib.Dec.{eqb, leb}
+use lib.ListN.{length, take, drop}
+use Rattle.verdict.specs.Tests.{choose}
+use Rattle.bits.specs.IfSet.{ifSet}
+use Rattle.formula.specs.Table.{Entry, Table}
+use Rattle.formula.specs.Records.{NodeRecord}
+use Rattle.formula.specs.Fields.{hasA, hasB, hasPrincipal, hasFirst, hasSecond, hasBack}
+use Rattle.encoding.specs.Encode.{encodeTwo, encodePart, encodeField, encodeAll}
+use Rattle.claims.specs.ClaimFile.{claimOpening}
+use Rattle.proofs.specs.ProofFile.{proofOpening}
+
+-- a field stands where the kind or rule has it, and where it holds a value other than 0: then the map is unfit
+abbrev pub stands : Bool → ℕ → Bool
+stands has x = has || not (eqb x 0)
+
+-- a count that two bytes cannot hold stands as the greatest that they can: out of range too
+abbrev pub clipped : ℕ → ℕ
+clipped n = choose (leb n 65535) n 65535
+
+abbrev pub entryBytes : Entry → List ℕ
+entryBytes e =
+    let a = stands (hasA (e .kind)) (e .a) in
+    let b = stands (hasB (e .kind)) (e .b) in
+    (ifSet a 1 + ifSet b 2) ∷ e .kind ∷ (encodeField a (e .a) ++ encodeField b (e .b))
+
+-- n entries, and as many members as their list has
+abbrev pub claimBytes : ℕ → Table → List ℕ → List ℕ
+claimBytes n es ms =
+    claimOpening ++ ((encodeTwo (clipped n) ++ encodeAll entryBytes es) ++ (encodeTwo (clipped (length ms)) ++ encodeAll encodeTwo ms))
+
+-- the code count that the record gives, and its codes; count 0 means no bit 4
+abbrev pub nodeBytes : NodeRecord → List ℕ → List ℕ
+nodeBytes v cs =
+    let p = stands (hasPrincipal (v .rule)) (v .principal) in
+    let f = stands (hasFirst (v .rule)) (v .first) in
+    let s = stands (hasSecond (v .rule)) (v .second) in
+    let b = stands (hasBack (v .rule)) (v .back) in
+    let c = not (eqb (v .count) 0) in
+    (ifSet p 1 + ifSet f 2 + ifSet s 4 + ifSet b 8 + ifSet c 16) ∷ v .rule
+    ∷ ((encodeField p (v .principal) ++ (encodeField f (v .first) ++ (encodeField s (v .second) ++ encodeField b (v .back))))
+    ++ encodePart c (λ (l : List ℕ). v .count ∷ encodeAll encodeTwo l) cs)
+
+-- codes follow each other without gaps: each node's stand after those of the nodes before it
+unfoldable pub nodesBytes : List NodeRecord → List ℕ → List ℕ
+nodesBytes [] cs = []
+nodesBytes (v ∷ vs) cs = nodeBytes v (take (v .count) cs) ++ nodesBytes vs (drop (v .count) cs)
+
+-- n nodes
+abbrev pub proofBytes : ℕ → List NodeRecord → List ℕ → List ℕ
+proofBytes n vs cs = proofOpening ++ (encodeTwo (clipped n) ++ nodesBytes vs cs)
