@@ -3,12 +3,13 @@
 
 use reference::corpus::{self, CheckRecord, EvalRecord};
 use reference::generate::{self, Tally};
-use reference::{check, describe, evaluate, Refusal};
+use reference::{check, describe, evaluate, Refusal, Written};
 use std::fmt::Write;
 
 pub const USAGE: &str = "usage:
   reference check FILE                      run a corpus of claims and proofs
   reference eval FILE                       run a corpus of claims and models
+  reference write FILE                      run a corpus of records to be written
   reference verdict CLAIM PROOF             judge one claim and proof
   reference generate check SEED COUNT FILE  write a corpus of claims and proofs
   reference generate eval SEED COUNT FILE   write a corpus of claims and models";
@@ -42,6 +43,15 @@ pub fn run_evals(file: &str) -> Outcome {
             Some(refusal) => Err(refusal),
         };
         (got != expected).then(|| mismatch(show_words(&expected), show_words(&got)))
+    }))
+}
+
+pub fn run_writes(file: &str) -> Outcome {
+    let records = corpus::read_writes(&read(file)?).map_err(|damage| about(file, damage))?;
+    Ok(compare(&records, |record| {
+        let got = [record.records.write_claim(), record.records.write_proof()];
+        let expected = [record.claim.clone(), record.proof.clone()];
+        (got != expected).then(|| mismatch(show_files(&expected), show_files(&got)))
     }))
 }
 
@@ -100,6 +110,14 @@ fn show_words(outcome: &Result<Vec<u64>, Refusal>) -> String {
             format!("words [{}]", words.join(" "))
         }
     }
+}
+
+fn show_files(files: &[Written; 2]) -> String {
+    let shown = files.each_ref().map(|file| match file {
+        Err(refusal) => refusal.to_string(),
+        Ok(bytes) => format!("{} bytes {bytes:02x?}", bytes.len()),
+    });
+    shown.join(" and ")
 }
 
 /// The share of each outcome in a generated corpus.

@@ -1,6 +1,8 @@
 //! Corpus files: records of inputs with the answer each must get. All numbers
 //! little-endian.
 
+use crate::refusal::Refusal;
+use crate::write::{EntryRecord, NodeRecord, Records, Written};
 use std::fmt;
 
 /// `[u32 claim length][claim][u32 proof length][proof][u32 answer]`
@@ -20,7 +22,20 @@ pub struct EvalRecord {
     pub words: Vec<u64>,
 }
 
-/// A corpus that ends inside a record.
+/// What is given to the two calls of the writer, and what they answer:
+/// `[u32 form][u32 entry count][u32 n][n × entry][u32 n][n × u16 goal counts]`
+/// `[u32 n][n × u16 members][u32 node count][u32 n][n × node]`
+/// `[u32 n][n × u16 roots][u32 n][n × u16 codes]`, then for the claim and for the
+/// proof `[u64 answer][u32 n][n bytes]`.
+#[derive(Clone, Debug, PartialEq, Eq)]
+pub struct WriteRecord {
+    pub records: Records,
+    pub claim: Written,
+    pub proof: Written,
+}
+
+/// A corpus that ends inside a record, or has a length that is not that of the
+/// bytes beside it.
 #[derive(Clone, Copy, Debug, PartialEq, Eq)]
 pub struct Damaged {
     pub record: usize,
@@ -32,7 +47,7 @@ impl fmt::Display for Damaged {
         let Damaged { record, offset } = self;
         write!(
             f,
-            "damaged corpus: record {record} is cut short at byte {offset}"
+            "damaged corpus: record {record} is not whole at byte {offset}"
         )
     }
 }
@@ -53,9 +68,57 @@ pub fn read_evals(bytes: &[u8]) -> Result<Vec<EvalRecord>, Damaged> {
             claim: reader.file()?,
             model: reader.file()?,
             answer: reader.four()?,
-            words: reader.words()?,
+            words: reader.list(Reader::eight)?,
         })
     })
+}
+
+/// Form, goal counts and roots say nothing. "Entries, nodes and codes are to be
+/// lent at full length (256, 1,024, 24,576) or longer, filled up with anything".
+pub fn read_writes(bytes: &[u8]) -> Result<Vec<WriteRecord>, Damaged> {
+    read_all(bytes, |reader| {
+        reader.four()?;
+        let entry_count = reader.size()?;
+        let entries = reader.list(Reader::entry)?;
+        reader.list(Reader::two)?;
+        let members = reader.list(Reader::two)?;
+        let node_count = reader.size()?;
+        let nodes = reader.list(Reader::node)?;
+        reader.list(Reader::two)?;
+        let codes = reader.list(Reader::two)?;
+        Some(WriteRecord {
+            records: Records {
+                entries: filled(entries, 256, ANY_ENTRY),
+                entry_count,
+                members,
+                nodes: filled(nodes, 1024, ANY_NODE),
+                node_count,
+                codes: filled(codes, 24_576, 0xfffe),
+            },
+            claim: reader.written()?,
+            proof: reader.written()?,
+        })
+    })
+}
+
+const ANY_ENTRY: EntryRecord = EntryRecord {
+    kind: 0xff,
+    a: 0xfffe,
+    b: 0xfffd,
+};
+
+const ANY_NODE: NodeRecord = NodeRecord {
+    rule: 0xff,
+    principal: 0xfffe,
+    first: 0xfffd,
+    second: 0xfffc,
+    back: 0xfffb,
+    count: 0xfe,
+};
+
+fn filled<T: Clone>(mut list: Vec<T>, length: usize, with: T) -> Vec<T> {
+    list.resize(list.len().max(length), with);
+    list
 }
 
 pub fn write_checks(records: &[CheckRecord]) -> Vec<u8> {
@@ -113,22 +176,67 @@ impl Reader<'_> {
         Some(*head)
     }
 
+    fn one(&mut self) -> Option<u8> {
+        self.take().map(u8::from_le_bytes)
+    }
+
+    fn two(&mut self) -> Option<u16> {
+        self.take().map(u16::from_le_bytes)
+    }
+
     fn four(&mut self) -> Option<u32> {
         self.take().map(u32::from_le_bytes)
     }
 
+    fn eight(&mut self) -> Option<u64> {
+        self.take().map(u64::from_le_bytes)
+    }
+
+    fn size(&mut self) -> Option<usize> {
+        usize::try_from(self.four()?).ok()
+    }
+
     fn file(&mut self) -> Option<Vec<u8>> {
-        let length = usize::try_from(self.four()?).ok()?;
+        let length = self.size()?;
         let (file, rest) = self.rest.split_at_checked(length)?;
         self.rest = rest;
         Some(file.to_vec())
     }
 
-    fn words(&mut self) -> Option<Vec<u64>> {
+    fn list<T>(&mut self, item: impl Fn(&mut Self) -> Option<T>) -> Option<Vec<T>> {
         let count = self.four()?;
-        (0..count)
-            .map(|_| self.take().map(u64::from_le_bytes))
-            .collect()
+        (0..count).map(|_| item(self)).collect()
+    }
+
+    fn entry(&mut self) -> Option<EntryRecord> {
+        Some(EntryRecord {
+            kind: self.one()?,
+            a: self.two()?,
+            b: self.two()?,
+        })
+    }
+
+    fn node(&mut self) -> Option<NodeRecord> {
+        Some(NodeRecord {
+            rule: self.one()?,
+            principal: self.two()?,
+            first: self.two()?,
+            second: self.two()?,
+            back: self.two()?,
+            count: self.one()?,
+        })
+    }
+
+    /// "an answer being the length, or 2^32 + refusal × 65,536 + place, and then
+    /// no bytes"
+    fn written(&mut self) -> Option<Written> {
+        let answer = self.eight()?;
+        let file = self.file()?;
+        match (answer >> 32, Refusal::unpack(answer as u32)) {
+            (0, _) if answer == file.len() as u64 => Some(Ok(file)),
+            (1, Some(refusal)) if file.is_empty() => Some(Err(refusal)),
+            _ => None,
+        }
     }
 }
 
@@ -151,6 +259,42 @@ mod tests {
             words: vec![u64::MAX, 1],
         }];
         assert_eq!(read_evals(&write_evals(&evals)), Ok(evals));
+    }
+
+    /// A record without entries, members, nodes, codes, goal counts and roots.
+    fn of_nothing(claim: &[u8]) -> Vec<u8> {
+        let refusal: u64 = 1 << 32 | 32 << 16 | 4;
+        let proof = [&refusal.to_le_bytes()[..], &[0; 4]].concat();
+        [&[0; 36], claim, &proof].concat()
+    }
+
+    #[test]
+    fn records_to_be_written_are_filled_up() {
+        let claim = [2, 0, 0, 0, 0, 0, 0, 0, 2, 0, 0, 0, 8, 9];
+        let read = read_writes(&of_nothing(&claim)).expect("a whole record");
+        let [record] = &read[..] else {
+            panic!("one record");
+        };
+        assert_eq!(record.claim, Ok(vec![8, 9]));
+        assert_eq!(record.proof, Err(Refusal::new(32, 4)));
+        let Records {
+            entries,
+            nodes,
+            codes,
+            ..
+        } = &record.records;
+        assert_eq!(
+            (entries.len(), nodes.len(), codes.len()),
+            (256, 1024, 24_576)
+        );
+    }
+
+    #[test]
+    fn a_length_beside_other_bytes_is_damage() {
+        let claim = [3, 0, 0, 0, 0, 0, 0, 0, 2, 0, 0, 0, 8, 9];
+        let offset = 36 + claim.len();
+        let damaged = Damaged { record: 0, offset };
+        assert_eq!(read_writes(&of_nothing(&claim)), Err(damaged));
     }
 
     #[test]

@@ -1,12 +1,14 @@
-//! A checker and evaluator for claims, Focus proofs and finite models, written
-//! from the specification alone. It is the independent judge for the real gate:
-//! plain Rust, no dependencies, no shared definitions.
+//! A checker and evaluator for claims, Focus proofs and finite models, and a
+//! writer of claims and proofs, written from the specification alone. It is the
+//! independent judge for the real gate: plain Rust, no dependencies, no shared
+//! definitions.
 //!
 //! The layers, from the bytes up:
 //! * `bytes`, `claim`, `proof`, `model` read files (refusals 10–14, 30–34, 60–64);
 //! * `formula` judges entries (20–23), `tree` child numbers (35);
 //! * `rules` and `loops` judge a decoded proof (36–39);
 //! * `evaluate` gives each entry its meaning in a model;
+//! * `write` judges records by the same numbers and lays files down (70);
 //! * `check` and `gate` are the calls, `corpus` and `generate` serve the tests.
 
 mod bits;
@@ -23,6 +25,7 @@ mod refusal;
 mod rules;
 mod sequent;
 mod tree;
+mod write;
 
 pub mod corpus;
 pub mod draft;
@@ -34,3 +37,7 @@ pub use gate::Gate;
 pub use model::Model;
 pub use proof::{Node, Proof, Rule};
 pub use refusal::{describe, Refusal};
+pub use write::{
+    write_claim, write_proof, written, ClaimRecords, EntryRecord, NodeRecord, ProofRecords,
+    Records, Written,
+};

@@ -46,6 +46,16 @@ fn a_generated_corpus_passes() {
 }
 
 #[test]
+fn the_records_to_be_written_pass() {
+    let path = concat!(
+        env!("CARGO_MANIFEST_DIR"),
+        "/../tests/vectors/t01/write.bin"
+    );
+    let passed = run(&["write", path]);
+    assert_eq!(passed, ("640 passed, 0 failed\n".to_string(), Some(0)));
+}
+
+#[test]
 fn mismatches_are_shown() {
     let mut records: Vec<_> = generate::checks(1).take(50).collect();
     for record in records.iter_mut().skip(20) {
@@ -66,6 +76,7 @@ fn damaged_and_missing_files_are_errors() {
     for args in [
         &["check", &cut][..],
         &["eval", &cut],
+        &["write", &cut],
         &["check", "no such file"],
         &["generate", "check", "one", "2", &cut],
         &["verdict"],

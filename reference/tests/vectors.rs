@@ -4,14 +4,14 @@ use reference::{check, corpus, describe, evaluate, Refusal};
 use std::path::Path;
 
 fn vectors(file: &str) -> Vec<u8> {
-    let folder = Path::new(env!("CARGO_MANIFEST_DIR")).join("../tests/vectors/base");
+    let folder = Path::new(env!("CARGO_MANIFEST_DIR")).join("../tests/vectors");
     std::fs::read(folder.join(file)).expect("the vectors lie beside the reference")
 }
 
 #[test]
 fn every_record_agrees() {
-    let checks = corpus::read_checks(&vectors("check.bin")).expect("whole records");
-    let evals = corpus::read_evals(&vectors("eval.bin")).expect("whole records");
+    let checks = corpus::read_checks(&vectors("base/check.bin")).expect("whole records");
+    let evals = corpus::read_evals(&vectors("base/eval.bin")).expect("whole records");
     assert_eq!((checks.len(), evals.len()), (3551, 519));
     for (index, record) in checks.iter().enumerate() {
         let got = check(&record.claim, &record.proof);
@@ -27,4 +27,17 @@ fn every_record_agrees() {
         assert_eq!(got, expected, "eval record {index}");
     }
     println!("vectors: {} records agree", checks.len() + evals.len());
+}
+
+#[test]
+fn every_record_to_be_written_agrees() {
+    let writes = corpus::read_writes(&vectors("t01/write.bin")).expect("whole records");
+    assert_eq!(writes.len(), 640);
+    for (index, record) in writes.iter().enumerate() {
+        let got = record.records.write_claim();
+        assert_eq!(got, record.claim, "write record {index}: claim");
+        let got = record.records.write_proof();
+        assert_eq!(got, record.proof, "write record {index}: proof");
+    }
+    println!("vectors: {} records to be written agree", writes.len());
 }

@@ -1,5 +1,6 @@
-//! A deterministic generator of inputs: claims with proofs and claims with
-//! models, good, nearly good and damaged. The same seed gives the same inputs.
+//! A deterministic generator of inputs: claims with proofs, claims with models
+//! and records to be written, good, nearly good and damaged. The same seed gives
+//! the same inputs.
 
 mod damage;
 mod formulas;
@@ -8,6 +9,7 @@ mod near_miss;
 mod number;
 mod pairs;
 mod provable;
+mod records;
 mod rng;
 mod search;
 mod step;
@@ -19,7 +21,7 @@ pub use rng::Rng;
 pub use tally::Tally;
 
 use crate::check::{check, evaluate};
-use crate::corpus::{CheckRecord, EvalRecord};
+use crate::corpus::{CheckRecord, EvalRecord, WriteRecord};
 use crate::draft;
 use crate::refusal::answer;
 
@@ -46,6 +48,18 @@ pub fn evals(seed: u64) -> impl Iterator<Item = EvalRecord> {
             model,
             answer: answer(&outcome),
             words: outcome.unwrap_or_default(),
+        }
+    })
+}
+
+/// An endless run of records to be written with the reference's answers.
+pub fn writes(seed: u64) -> impl Iterator<Item = WriteRecord> {
+    inputs(seed, |rng| {
+        let records = records::records(rng);
+        WriteRecord {
+            claim: records.write_claim(),
+            proof: records.write_proof(),
+            records,
         }
     })
 }

@@ -123,6 +123,25 @@ fn any_members(rng: &mut Rng, entries: &[Entry]) -> Vec<u16> {
     fit
 }
 
+/// A claim and a proof with whatever flaw; the claim may break 20 to 23.
+pub fn any_proved(rng: &mut Rng) -> Proved {
+    match rng.below(8) {
+        0..=2 => accepted(rng),
+        3 => flawed(rng),
+        4 => changed(rng),
+        5 => other_members(rng),
+        6 => hard_pair(rng),
+        _ => {
+            let claim = any_claim(rng, true);
+            Proved {
+                entries: claim.entries,
+                members: claim.members,
+                nodes: accepted(rng).nodes,
+            }
+        }
+    }
+}
+
 /// The bytes of a claim and a proof.
 pub fn check_pair(rng: &mut Rng) -> (Vec<u8>, Vec<u8>) {
     match rng.below(40) {

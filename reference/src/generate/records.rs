@@ -1,0 +1,237 @@
+//! Records to be written: those of generated claims and proofs, as they are or
+//! with something changed, in slices of any length that may be lent.
+
+use super::pairs::{self, Proved};
+use super::rng::Rng;
+use crate::claim::{Entry, Kind};
+use crate::draft::DraftNode;
+use crate::proof::Rule;
+use crate::write::{EntryRecord, NodeRecord, Records};
+
+/// Two in three with one or two changes; some leave the records good.
+pub fn records(rng: &mut Rng) -> Records {
+    let proved = match rng.below(24) {
+        0 => large(rng),
+        _ => pairs::any_proved(rng),
+    };
+    let mut records = of(&proved);
+    for _ in 0..rng.below(3) {
+        change(rng, &mut records);
+    }
+    fill_up(rng, &mut records);
+    records
+}
+
+/// The records of a claim and proof, and nothing beyond them.
+fn of(proved: &Proved) -> Records {
+    let entries = proved.entries.iter().map(entry_record).collect();
+    let nodes = proved.nodes.iter().map(node_record).collect();
+    let codes = proved.nodes.iter().flat_map(|node| node.codes.clone());
+    Records {
+        entries,
+        entry_count: proved.entries.len(),
+        members: proved.members.clone(),
+        nodes,
+        node_count: proved.nodes.len(),
+        codes: codes.collect(),
+    }
+}
+
+/// The field, or 0 where the map lacks its bit.
+fn field(map: u8, bit: u8, field: u16) -> u16 {
+    field * u16::from(map >> bit & 1)
+}
+
+fn entry_record(entry: &Entry) -> EntryRecord {
+    let map = entry.kind.map();
+    EntryRecord {
+        kind: entry.kind as u8,
+        a: field(map, 0, entry.a),
+        b: field(map, 1, entry.b),
+    }
+}
+
+fn node_record(node: &DraftNode) -> NodeRecord {
+    let map = node.rule.low_bits();
+    NodeRecord {
+        rule: node.rule as u8,
+        principal: field(map, 0, node.principal),
+        first: field(map, 1, node.first),
+        second: field(map, 2, node.second),
+        back: field(map, 3, node.back),
+        count: node.codes.len() as u8,
+    }
+}
+
+/// Counts at their limits or just beyond; nodes of any rule, one below the other,
+/// that no rule would let stand.
+fn large(rng: &mut Rng) -> Proved {
+    let mut entries = vec![Entry::new(Kind::True, 0, 0)];
+    for below in 0..rng.between(254, 256) as u16 {
+        let kind = rng.pick(&[Kind::Or, Kind::And, Kind::Box]);
+        entries.push(Entry::new(kind.unwrap_or(Kind::Or), below, 0));
+    }
+    let members = rising(rng, 256);
+    let count = rng.between(1000, 1025) as u16;
+    let rules = [Rule::W, Rule::D, Rule::F, Rule::Or];
+    let mut nodes: Vec<DraftNode> = (1..count)
+        .map(|child| {
+            let rule = rng.pick(&rules).unwrap_or(Rule::W);
+            let mut node = DraftNode::new(rule, rng.below(512) as u16, rising(rng, 508));
+            node.first = child;
+            node
+        })
+        .collect();
+    nodes.push(DraftNode::new(Rule::Back, 0, rising(rng, 508)));
+    Proved {
+        entries,
+        members,
+        nodes,
+    }
+}
+
+/// Up to 24 numbers, often as many.
+fn rising(rng: &mut Rng, below: usize) -> Vec<u16> {
+    let count = if rng.chance(1, 3) {
+        24
+    } else {
+        rng.between(1, 24)
+    };
+    let mut list: Vec<u16> = (0..count).map(|_| rng.below(below) as u16).collect();
+    list.sort_unstable();
+    list.dedup();
+    list
+}
+
+fn change(rng: &mut Rng, records: &mut Records) {
+    match rng.below(16) {
+        0 => records.entry_count = other_count(rng, records.entry_count),
+        1 => records.node_count = other_count(rng, records.node_count),
+        2..=5 => change_entry(rng, records),
+        6..=7 => change_members(rng, &mut records.members),
+        8..=13 => change_node(rng, &mut records.nodes),
+        _ => change_code(rng, &mut records.codes),
+    }
+}
+
+/// "any number is judged, none is cut": what is beyond 16 or 32 bits counts.
+fn other_count(rng: &mut Rng, count: usize) -> usize {
+    let shift = rng.between(8, usize::BITS as usize - 1);
+    match rng.below(8) {
+        0 => 0,
+        1 => count + 1,
+        2 => count.saturating_sub(1),
+        3 => rng.pick(&[1, 255, 256, 257, 1023, 1024, 1025]).unwrap_or(1),
+        4 => rng.below(count + 1),
+        5 => usize::MAX - rng.below(2),
+        _ => count | 1 << shift,
+    }
+}
+
+fn other_number(rng: &mut Rng, number: u16) -> u16 {
+    match rng.below(10) {
+        0 => 0,
+        1 => number.wrapping_add(1),
+        2 => number.wrapping_sub(1),
+        3 => number ^ 1,
+        4 => number.wrapping_add(256),
+        5 => 1 << rng.below(16),
+        6 => u16::MAX,
+        7 => rng.word() as u16,
+        _ => rng.below(40) as u16,
+    }
+}
+
+fn other_byte(rng: &mut Rng, byte: u8) -> u8 {
+    match rng.below(6) {
+        0 => byte.wrapping_add(1),
+        1 => byte.wrapping_sub(1),
+        2 => rng.word() as u8,
+        3 => rng.between(23, 26) as u8,
+        _ => rng.below(13) as u8,
+    }
+}
+
+fn change_entry(rng: &mut Rng, records: &mut Records) {
+    let at = rng.below(records.entries.len());
+    let Some(entry) = records.entries.get_mut(at) else {
+        return;
+    };
+    match rng.below(3) {
+        0 => entry.kind = other_byte(rng, entry.kind),
+        1 => entry.a = other_number(rng, entry.a),
+        _ => entry.b = other_number(rng, entry.b),
+    }
+}
+
+fn change_members(rng: &mut Rng, members: &mut Vec<u16>) {
+    let at = rng.below(members.len());
+    match rng.below(10) {
+        0 => members.clear(),
+        1 => members.resize(rng.between(23, 26), 300),
+        2 => *members = (0..rng.between(23, 26) as u16).collect(),
+        // One that a count of 16 bits would take for the length it was.
+        3 if rng.chance(1, 4) => members.resize(members.len() + 65_536, 0),
+        4 => members.insert(at, rng.below(40) as u16),
+        5 => members.reverse(),
+        6 => members.truncate(at),
+        _ => change_code(rng, members),
+    }
+}
+
+fn change_node(rng: &mut Rng, nodes: &mut [NodeRecord]) {
+    let at = rng.below(nodes.len());
+    let Some(node) = nodes.get_mut(at) else {
+        return;
+    };
+    match rng.below(7) {
+        0 => node.rule = other_byte(rng, node.rule),
+        1 => node.principal = other_number(rng, node.principal),
+        2 => node.first = other_number(rng, node.first),
+        3 => node.second = other_number(rng, node.second),
+        4 => node.back = other_number(rng, node.back),
+        _ => node.count = other_byte(rng, node.count),
+    }
+}
+
+fn change_code(rng: &mut Rng, codes: &mut [u16]) {
+    let at = rng.below(codes.len());
+    if let Some(code) = codes.get_mut(at) {
+        *code = other_number(rng, *code);
+    }
+}
+
+/// Slices as long as they must be, or longer, with anything beyond the records:
+/// what no record has, or what one might have.
+fn fill_up(rng: &mut Rng, records: &mut Records) {
+    let more = rng.pick(&[0, 0, 1, 300]).unwrap_or(0);
+    let mask = rng.pick(&[u64::MAX, 0x0007_0007_0007_0007]).unwrap_or(0);
+    let length = |least: usize, given: usize| least.max(given) + more;
+    let entries = &mut records.entries;
+    entries.resize_with(length(256, entries.len()), || any_entry(rng.word() & mask));
+    let nodes = &mut records.nodes;
+    nodes.resize_with(length(1024, nodes.len()), || {
+        any_node(rng.word() & mask, rng.word() & mask)
+    });
+    let codes = &mut records.codes;
+    codes.resize_with(length(24_576, codes.len()), || (rng.word() & mask) as u16);
+}
+
+fn any_entry(word: u64) -> EntryRecord {
+    EntryRecord {
+        kind: word as u8,
+        a: (word >> 16) as u16,
+        b: (word >> 32) as u16,
+    }
+}
+
+fn any_node(word: u64, fields: u64) -> NodeRecord {
+    NodeRecord {
+        rule: word as u8,
+        principal: fields as u16,
+        first: (fields >> 16) as u16,
+        second: (fields >> 32) as u16,
+        back: (fields >> 48) as u16,
+        count: (word >> 16) as u8,
+    }
+}

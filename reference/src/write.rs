@@ -1,0 +1,330 @@
+//! The writer: judges the records of a claim or a proof, with the number and
+//! place that a reader would give for their file, and lays its bytes down in a
+//! lent slice (refusals 1, 12 to 14, 20 to 23, 32 to 35 and 70).
+
+use crate::bytes::{Fault, Form, CLAIM, PROOF};
+use crate::claim::{may_be_member, Entry, Kind};
+use crate::formula;
+use crate::proof::{Node, Rule};
+use crate::refusal::Refusal;
+use crate::tree;
+
+/// The least lengths of lent record slices, and the most that a file has of each.
+const ENTRIES: usize = 256;
+const NODES: usize = 1024;
+const CODES: usize = MEMBERS * NODES;
+
+/// The most members of a claim, and codes of a node.
+const MEMBERS: usize = 24;
+
+const SHORT_SLICE: u16 = 1;
+const SHORT_OUTPUT: u16 = 70;
+
+/// An entry as a caller's table holds it; each field is any number.
+#[derive(Clone, Copy, Debug, PartialEq, Eq)]
+pub struct EntryRecord {
+    pub kind: u8,
+    pub a: u16,
+    pub b: u16,
+}
+
+/// A node as a caller's table holds it.
+#[derive(Clone, Copy, Debug, PartialEq, Eq)]
+pub struct NodeRecord {
+    pub rule: u8,
+    pub principal: u16,
+    pub first: u16,
+    pub second: u16,
+    pub back: u16,
+    pub count: u8,
+}
+
+/// "entry and node counts are numbers given beside the slices, and the count of
+/// a claim's members is the length of their slice"
+#[derive(Clone, Copy, Debug)]
+pub struct ClaimRecords<'a> {
+    pub entries: &'a [EntryRecord],
+    pub entry_count: usize,
+    pub members: &'a [u16],
+}
+
+/// The codes of a node follow those of the nodes before it.
+#[derive(Clone, Copy, Debug)]
+pub struct ProofRecords<'a> {
+    pub nodes: &'a [NodeRecord],
+    pub node_count: usize,
+    pub codes: &'a [u16],
+}
+
+/// The length of the claim's file. "No refusal of the writer writes a byte."
+pub fn write_claim(claim: ClaimRecords, out: &mut [u8]) -> Result<usize, Refusal> {
+    long_enough(claim.entries.len() >= ENTRIES)?;
+    let (entries, length) = judge_claim(claim)?;
+    lay_claim(&entries, claim.members, room(out, length)?);
+    Ok(length)
+}
+
+/// The length of the proof's file, which is laid down "once its claim's records
+/// have passed".
+pub fn write_proof(
+    claim: ClaimRecords,
+    proof: ProofRecords,
+    out: &mut [u8],
+) -> Result<usize, Refusal> {
+    let short = claim.entries.len() < ENTRIES;
+    long_enough(!short && proof.nodes.len() >= NODES && proof.codes.len() >= CODES)?;
+    let (entries, _) = judge_claim(claim)?;
+    let (nodes, length) = judge_proof(proof, &entries)?;
+    lay_proof(&nodes, proof.codes, room(out, length)?);
+    Ok(length)
+}
+
+/// "A call that writes files answers the length", or 2^32 + the packed refusal.
+pub fn written(outcome: Result<usize, Refusal>) -> u64 {
+    match outcome {
+        Ok(length) => length as u64,
+        Err(refusal) => 1 << 32 | u64::from(refusal.packed()),
+    }
+}
+
+/// "Refusal 1 comes first".
+fn long_enough(long: bool) -> Result<(), Refusal> {
+    match long {
+        true => Ok(()),
+        false => Err(Refusal::new(SHORT_SLICE, 0)),
+    }
+}
+
+/// "70, the output slice is shorter than the file, judged after the records"
+fn room(out: &mut [u8], length: usize) -> Result<&mut [u8], Refusal> {
+    out.get_mut(..length).ok_or(Refusal::new(SHORT_OUTPUT, 0))
+}
+
+/// The entries, and the length of their file.
+fn judge_claim(claim: ClaimRecords) -> Result<(Vec<Entry>, usize), Refusal> {
+    let mut walk = Walk::after_opening(&CLAIM);
+    walk.count(claim.entry_count, ENTRIES, 2)?;
+    let mut entries = Vec::with_capacity(claim.entry_count);
+    for record in &claim.entries[..claim.entry_count] {
+        let entry = record.entry().ok_or(walk.refusal(Fault::Map))?;
+        walk.head(entry.kind.map());
+        entries.push(entry);
+    }
+    walk.count(claim.members.len(), MEMBERS, 2)?;
+    walk.rising(claim.members, |member| may_be_member(&entries, member))?;
+    formula::judge(&entries)?;
+    Ok((entries, walk.at))
+}
+
+/// The nodes, and the length of their file.
+fn judge_proof(proof: ProofRecords, entries: &[Entry]) -> Result<(Vec<Node>, usize), Refusal> {
+    let mut walk = Walk::after_opening(&PROOF);
+    walk.count(proof.node_count, NODES, 2)?;
+    let mut nodes = Vec::with_capacity(proof.node_count);
+    let mut rest = proof.codes;
+    for record in &proof.nodes[..proof.node_count] {
+        let node = record.node().ok_or(walk.refusal(Fault::Map))?;
+        walk.head(node.rule.low_bits());
+        if node.count > 0 {
+            walk.count(node.count.into(), MEMBERS, 1)?;
+            let (codes, others) = rest.split_at(node.count.into());
+            walk.rising(codes, |code| may_be_member(entries, code / 2))?;
+            rest = others;
+        }
+        nodes.push(node);
+    }
+    tree::parents(&nodes)?;
+    Ok((nodes, walk.at))
+}
+
+impl EntryRecord {
+    /// "A value other than 0 in a field that the kind or rule lacks counts as an
+    /// unfit map."
+    fn entry(self) -> Option<Entry> {
+        let kind = Kind::from_byte(self.kind)?;
+        fit(kind.map(), [self.a, self.b]).then_some(Entry::new(kind, self.a, self.b))
+    }
+}
+
+impl NodeRecord {
+    fn fields(self) -> [u16; 4] {
+        [self.principal, self.first, self.second, self.back]
+    }
+
+    fn node(self) -> Option<Node> {
+        let rule = Rule::from_byte(self.rule)?;
+        fit(rule.low_bits(), self.fields()).then_some(Node {
+            rule,
+            principal: self.principal,
+            first: self.first,
+            second: self.second,
+            back: self.back,
+            count: self.count,
+        })
+    }
+}
+
+/// Whether each field without a bit in the map is 0.
+fn fit<const N: usize>(map: u8, fields: [u16; N]) -> bool {
+    let lacks = |bit: usize| map >> bit & 1 == 0;
+    !(0..N).any(|bit| lacks(bit) && fields[bit] != 0)
+}
+
+/// How far a file reaches, by the records that were judged so far.
+struct Walk {
+    number: u16,
+    at: usize,
+}
+
+impl Walk {
+    fn after_opening(form: &Form) -> Walk {
+        Walk {
+            number: form.number,
+            at: form.opening.len(),
+        }
+    }
+
+    fn refusal(&self, fault: Fault) -> Refusal {
+        Refusal::new(self.number + fault as u16, self.at)
+    }
+
+    /// A count from 1, of so many bytes in the file.
+    fn count(&mut self, count: usize, most: usize, bytes: usize) -> Result<(), Refusal> {
+        if !(1..=most).contains(&count) {
+            return Err(self.refusal(Fault::Count));
+        }
+        self.at += bytes;
+        Ok(())
+    }
+
+    /// A map, a kind or rule, and the map's two-byte fields.
+    fn head(&mut self, map: u8) {
+        self.at += 2 + 2 * map.count_ones() as usize;
+    }
+
+    /// Two-byte numbers, strictly rising and each one fit to be a member.
+    fn rising(&mut self, list: &[u16], fit: impl Fn(u16) -> bool) -> Result<(), Refusal> {
+        let mut last = None;
+        for &member in list {
+            if last.is_some_and(|last| member <= last) || !fit(member) {
+                return Err(self.refusal(Fault::Member));
+            }
+            last = Some(member);
+            self.at += 2;
+        }
+        Ok(())
+    }
+}
+
+fn lay_claim(entries: &[Entry], members: &[u16], file: &mut [u8]) {
+    let mut pen = Pen { file, at: 0 };
+    pen.put(CLAIM.opening);
+    pen.two(entries.len() as u16);
+    for entry in entries {
+        let map = entry.kind.map();
+        pen.put([map, entry.kind as u8]);
+        pen.fields(map, [entry.a, entry.b]);
+    }
+    pen.two(members.len() as u16);
+    pen.list(members);
+}
+
+fn lay_proof(nodes: &[Node], codes: &[u16], file: &mut [u8]) {
+    let mut pen = Pen { file, at: 0 };
+    let mut rest = codes;
+    pen.put(PROOF.opening);
+    pen.two(nodes.len() as u16);
+    for node in nodes {
+        let map = node.rule.low_bits();
+        let bit = u8::from(node.count > 0) << 4;
+        pen.put([map | bit, node.rule as u8]);
+        pen.fields(map, [node.principal, node.first, node.second, node.back]);
+        if node.count > 0 {
+            let (codes, others) = rest.split_at(node.count.into());
+            pen.put([node.count]);
+            pen.list(codes);
+            rest = others;
+        }
+    }
+}
+
+/// Lays bytes down one behind the other.
+struct Pen<'a> {
+    file: &'a mut [u8],
+    at: usize,
+}
+
+impl Pen<'_> {
+    fn put<const N: usize>(&mut self, bytes: [u8; N]) {
+        self.file[self.at..self.at + N].copy_from_slice(&bytes);
+        self.at += N;
+    }
+
+    fn two(&mut self, number: u16) {
+        self.put(number.to_le_bytes());
+    }
+
+    /// The fields whose bit stands.
+    fn fields<const N: usize>(&mut self, map: u8, fields: [u16; N]) {
+        for (bit, field) in fields.into_iter().enumerate() {
+            if map >> bit & 1 == 1 {
+                self.two(field);
+            }
+        }
+    }
+
+    fn list(&mut self, members: &[u16]) {
+        for &member in members {
+            self.two(member);
+        }
+    }
+}
+
+/// The records of a claim and a proof, with slices long enough to be lent: what
+/// lies beyond the counts says nothing.
+#[derive(Clone, Debug, PartialEq, Eq)]
+pub struct Records {
+    pub entries: Vec<EntryRecord>,
+    pub entry_count: usize,
+    pub members: Vec<u16>,
+    pub nodes: Vec<NodeRecord>,
+    pub node_count: usize,
+    pub codes: Vec<u16>,
+}
+
+/// A file that was laid down.
+pub type Written = Result<Vec<u8>, Refusal>;
+
+impl Records {
+    pub fn claim(&self) -> ClaimRecords<'_> {
+        ClaimRecords {
+            entries: &self.entries,
+            entry_count: self.entry_count,
+            members: &self.members,
+        }
+    }
+
+    pub fn proof(&self) -> ProofRecords<'_> {
+        ProofRecords {
+            nodes: &self.nodes,
+            node_count: self.node_count,
+            codes: &self.codes,
+        }
+    }
+
+    pub fn write_claim(&self) -> Written {
+        in_room(|out| write_claim(self.claim(), out))
+    }
+
+    pub fn write_proof(&self) -> Written {
+        in_room(|out| write_proof(self.claim(), self.proof(), out))
+    }
+}
+
+/// "an accepted proof never needs over 58,374 bytes", and a claim far fewer.
+fn in_room(write: impl Fn(&mut [u8]) -> Result<usize, Refusal>) -> Written {
+    let mut out = vec![0; 58_374];
+    let length = write(&mut out)?;
+    out.truncate(length);
+    Ok(out)
+}

@@ -1,0 +1,400 @@
+//! The writer: what it lays down, what it refuses, and that it says what the
+//! reader says of the file that the records stand for.
+
+use reference::corpus::WriteRecord;
+use reference::generate::{self, Tally};
+use reference::{
+    check, judge, write_claim, write_proof, written, Claim, ClaimRecords, Decoded, EntryRecord,
+    Kind, NodeRecord, ProofRecords, Records, Refusal, Rule,
+};
+
+fn refusal<T>(number: u16, place: u16) -> Result<T, Refusal> {
+    Err(Refusal { number, place })
+}
+
+fn entry(kind: Kind, a: u16, b: u16) -> EntryRecord {
+    let kind = kind as u8;
+    EntryRecord { kind, a, b }
+}
+
+fn node(rule: Rule, [principal, first, second, back]: [u16; 4], count: u8) -> NodeRecord {
+    NodeRecord {
+        rule: rule as u8,
+        principal,
+        first,
+        second,
+        back,
+        count,
+    }
+}
+
+/// The records in slices of the least lengths.
+fn lent(entries: &[EntryRecord], members: &[u16], nodes: &[NodeRecord], codes: &[u16]) -> Records {
+    let mut records = Records {
+        entries: entries.to_vec(),
+        entry_count: entries.len(),
+        members: members.to_vec(),
+        nodes: nodes.to_vec(),
+        node_count: nodes.len(),
+        codes: codes.to_vec(),
+    };
+    let unlike = entry(Kind::Name, 0xffff, 0xffff);
+    records.entries.resize(256.max(entries.len()), unlike);
+    let unlike = node(Rule::And, [0xffff; 4], 0xff);
+    records.nodes.resize(1024.max(nodes.len()), unlike);
+    records.codes.resize(24_576.max(codes.len()), 0xffff);
+    records
+}
+
+/// Nu of box, the first sample of the specification.
+fn nu_of_box() -> Records {
+    lent(
+        &[
+            entry(Kind::Name, 2, 0),
+            entry(Kind::Box, 0, 0),
+            entry(Kind::Nu, 1, 0),
+        ],
+        &[2],
+        &[
+            node(Rule::D, [0, 1, 0, 0], 1),
+            node(Rule::Nu, [5, 2, 0, 0], 1),
+            node(Rule::Box, [3, 3, 0, 0], 1),
+            node(Rule::Back, [0, 0, 0, 0], 1),
+        ],
+        &[5, 5, 3, 5],
+    )
+}
+
+const CLAIM: &[u8] = b"CLM1\x03\0\x01\x0a\x02\0\x01\x07\0\0\x01\x09\x01\0\x01\0\x02\0";
+const PROOF: &[u8] = b"PRF1\x04\0\x12\x0a\x01\0\x01\x05\0\x13\x06\x05\0\x02\0\x01\x05\0\
+                       \x13\x04\x03\0\x03\0\x01\x03\0\x18\x0b\0\0\x01\x05\0";
+
+#[test]
+fn nu_of_box_is_laid_down() {
+    assert_eq!(nu_of_box().write_claim(), Ok(CLAIM.to_vec()));
+    assert_eq!(nu_of_box().write_proof(), Ok(PROOF.to_vec()));
+    assert_eq!(check(CLAIM, PROOF), 0);
+}
+
+#[test]
+fn an_answer_is_a_length_or_a_refusal() {
+    assert_eq!(written(Ok(38)), 38);
+    let answer = written(refusal(32, 12));
+    assert_eq!(answer, (1 << 32) + 32 * 65_536 + 12);
+}
+
+/// Both calls with changed records, the claim's refusal being the proof's too.
+fn assert_refused(change: impl Fn(&mut Records), number: u16, place: u16) {
+    let mut records = nu_of_box();
+    change(&mut records);
+    let expected = refusal(number, place);
+    if number < 30 {
+        assert_eq!(records.write_claim(), expected);
+    } else {
+        assert_eq!(records.write_claim(), Ok(CLAIM.to_vec()));
+    }
+    assert_eq!(records.write_proof(), expected);
+}
+
+#[test]
+fn counts_of_any_size() {
+    for count in [0, 257, 65_536 + 3, usize::MAX, (1 << 32) + 3] {
+        assert_refused(|records| records.entry_count = count, 12, 4);
+    }
+    for count in [0, 1025, 65_536 + 4, usize::MAX, (1 << 32) + 4] {
+        assert_refused(|records| records.node_count = count, 32, 4);
+    }
+    for count in [0, 25, 65_537] {
+        assert_refused(|records| records.members.resize(count, 2), 12, 18);
+    }
+    for count in [25, 255] {
+        assert_refused(|records| records.nodes[1].count = count, 32, 19);
+    }
+}
+
+#[test]
+fn unfit_maps_and_members() {
+    assert_refused(|records| records.entries[1].kind = 11, 13, 10);
+    assert_refused(|records| records.entries[2].b = 1, 13, 14);
+    assert_refused(|records| records.members[0] = 0, 14, 20);
+    assert_refused(|records| records.members[0] = 3, 14, 20);
+    assert_refused(|records| records.members.push(2), 14, 22);
+    assert_refused(|records| records.nodes[0].rule = 12, 33, 6);
+    assert_refused(|records| records.nodes[0].principal = 5, 33, 6);
+    assert_refused(|records| records.nodes[1].second = 3, 33, 13);
+    assert_refused(|records| records.nodes[1].back = 1, 33, 13);
+    assert_refused(|records| records.nodes[3].first = 1, 33, 31);
+    assert_refused(|records| records.codes[0] = 1, 34, 11);
+    assert_refused(|records| records.codes[3] = 6, 34, 36);
+}
+
+#[test]
+fn tables_and_trees() {
+    assert_refused(|records| records.entries[0].a = 1, 20, 0);
+    let diamond = |records: &mut Records| {
+        records.entries[3] = entry(Kind::Diamond, 0, 0);
+        records.entry_count = 4;
+    };
+    assert_refused(diamond, 21, 3);
+    assert_refused(|records| records.entries[1].kind = 8, 22, 1);
+    assert_refused(|records| records.entries[2].a = 0, 23, 2);
+    assert_refused(|records| records.nodes[2].first = 2, 35, 2);
+    assert_refused(|records| records.node_count = 3, 35, 2);
+    assert_refused(|records| records.nodes[2].first = 1, 35, 2);
+    let orphan = |records: &mut Records| {
+        records.nodes[2] = node(Rule::Ax2, [0; 4], 1);
+    };
+    assert_refused(orphan, 35, 3);
+}
+
+/// The claim's records come before the proof's own.
+#[test]
+fn the_claim_is_judged_first() {
+    let both = |records: &mut Records| {
+        records.node_count = 0;
+        records.entries[0].a = 1;
+    };
+    assert_refused(both, 20, 0);
+}
+
+fn without_last<T>(list: &[T]) -> &[T] {
+    &list[..list.len() - 1]
+}
+
+/// "Refusal 1 comes first", 70 is "judged after the records", and no refusal
+/// writes a byte.
+#[test]
+fn short_slices() {
+    let good = nu_of_box();
+    let mut bad = nu_of_box();
+    bad.entry_count = 0;
+    for records in [&good, &bad] {
+        let (claim, proof) = (records.claim(), records.proof());
+        let entries = without_last(claim.entries);
+        let short = ClaimRecords { entries, ..claim };
+        let mut out = [7; 100];
+        assert_eq!(write_claim(short, &mut out), refusal(1, 0));
+        assert_eq!(write_proof(short, proof, &mut out), refusal(1, 0));
+        let nodes = without_last(proof.nodes);
+        let short = ProofRecords { nodes, ..proof };
+        assert_eq!(write_proof(claim, short, &mut out), refusal(1, 0));
+        let codes = without_last(proof.codes);
+        let short = ProofRecords { codes, ..proof };
+        assert_eq!(write_proof(claim, short, &mut out), refusal(1, 0));
+        assert_eq!(out, [7; 100]);
+    }
+    let mut out = [7; 100];
+    for length in 0..CLAIM.len() {
+        let got = write_claim(good.claim(), &mut out[..length]);
+        assert_eq!(got, refusal(70, 0));
+    }
+    for length in 0..PROOF.len() {
+        let got = write_proof(good.claim(), good.proof(), &mut out[..length]);
+        assert_eq!(got, refusal(70, 0));
+    }
+    assert_eq!(write_claim(bad.claim(), &mut []), refusal(12, 4));
+    assert_eq!(out, [7; 100]);
+}
+
+#[test]
+fn bytes_beyond_the_end_are_untouched() {
+    let records = nu_of_box();
+    let mut out = [7; 100];
+    let length = write_proof(records.claim(), records.proof(), &mut out);
+    assert_eq!(length, Ok(PROOF.len()));
+    assert_eq!(out[..], [PROOF, &[7].repeat(100 - PROOF.len())].concat());
+    let length = write_claim(records.claim(), &mut out[..CLAIM.len()]);
+    assert_eq!(length, Ok(CLAIM.len()));
+    assert_eq!(out[..PROOF.len()], [CLAIM, &PROOF[CLAIM.len()..]].concat());
+}
+
+/// 256 entries, the first of which has no operands below it, and 24 members; then
+/// 1,024 nodes of 24 codes.
+#[test]
+fn the_longest_files() {
+    let mut entries = vec![entry(Kind::Letter, 31, 0)];
+    entries.resize(256, entry(Kind::Or, 0, 0));
+    let members: Vec<u16> = (232..256).collect();
+    let mut nodes: Vec<_> = (1..1024)
+        .map(|child| node(Rule::W, [9, child, 0, 0], 24))
+        .collect();
+    nodes.push(node(Rule::Back, [0, 0, 0, 1023], 24));
+    let codes: Vec<u16> = (488..512).collect();
+    let records = lent(&entries, &members, &nodes, &codes.repeat(1024));
+    let (claim, proof) = (records.write_claim(), records.write_proof());
+    let (claim, proof) = (claim.expect("a claim"), proof.expect("a proof"));
+    assert_eq!((claim.len(), proof.len()), (1590, 56_324));
+    assert_gives_back(&records, &claim, &proof);
+}
+
+/// "Reading a written file must give the records back".
+fn assert_gives_back(records: &Records, claim: &[u8], proof: &[u8]) {
+    let decoded = judge(claim, proof).decoded;
+    let decoded = decoded.expect("what is written is well formed");
+    assert!(begin_with(records, &records_of(&decoded)));
+}
+
+fn records_of(decoded: &Decoded) -> Records {
+    let Decoded { claim, proof } = decoded;
+    let entries = claim.entries.iter().map(|e| entry(e.kind, e.a, e.b));
+    let fields = |n: &reference::Node| [n.principal, n.first, n.second, n.back];
+    let nodes = proof.nodes.iter().map(|n| node(n.rule, fields(n), n.count));
+    Records {
+        entries: entries.collect(),
+        entry_count: claim.entries.len(),
+        members: claim.members.clone(),
+        nodes: nodes.collect(),
+        node_count: proof.nodes.len(),
+        codes: proof.codes.clone(),
+    }
+}
+
+/// Whether what was read are the lent records up to the counts.
+fn begin_with(lent: &Records, read: &Records) -> bool {
+    lent.entry_count == read.entry_count
+        && lent.entries.starts_with(&read.entries)
+        && lent.members == read.members
+        && lent.node_count == read.node_count
+        && lent.nodes.starts_with(&read.nodes)
+        && lent.codes.starts_with(&read.codes)
+}
+
+#[test]
+fn the_same_seed_gives_the_same_records() {
+    let writes = |seed| generate::writes(seed).take(20).collect::<Vec<_>>();
+    assert!(writes(3) == writes(3));
+    assert!(writes(3) != writes(4));
+}
+
+#[test]
+fn every_outcome_of_writing_occurs() {
+    let number = |outcome: Result<_, Refusal>| outcome.map_or_else(Refusal::packed, |_: Vec<u8>| 0);
+    let writes = generate::writes(1).take(10_000);
+    let (claims, proofs): (Vec<u32>, Vec<u32>) = writes
+        .map(|record| (number(record.claim), number(record.proof)))
+        .unzip();
+    let (claims, proofs) = (Tally::of(claims.into_iter()), Tally::of(proofs.into_iter()));
+    println!("{claims}\n{proofs}");
+    for number in (12..=14).chain(20..=23) {
+        assert!(claims.count(number) > 0, "no refusal {number} in\n{claims}");
+    }
+    for number in (12..=14).chain(20..=23).chain(32..=35) {
+        assert!(proofs.count(number) > 0, "no refusal {number} in\n{proofs}");
+    }
+    assert!(proofs.count(0) * 4 > proofs.total(), "few in\n{proofs}");
+}
+
+#[test]
+fn written_files_give_the_records_back() {
+    let mut files = 0;
+    for record in generate::writes(2).take(5000) {
+        let WriteRecord { records, .. } = &record;
+        let Ok(claim) = &record.claim else {
+            continue;
+        };
+        let read = Claim::read(claim).expect("what is written is well formed");
+        assert_eq!(read.members, records.members);
+        if let Ok(proof) = &record.proof {
+            assert_gives_back(records, claim, proof);
+            files += 1;
+        }
+    }
+    assert!(files > 1000, "only {files} proofs are written");
+}
+
+/// "writing the records of an accepted file must give its bytes back", and so for
+/// every well-formed one.
+#[test]
+fn records_of_files_give_the_bytes_back() {
+    let mut files = 0;
+    for record in generate::checks(12).take(5000) {
+        let judged = judge(&record.claim, &record.proof);
+        if !matches!(judged.answer() >> 16, 0 | 36..=39) {
+            continue;
+        }
+        let read = records_of(&judged.decoded.expect("well formed"));
+        let records = lent(&read.entries, &read.members, &read.nodes, &read.codes);
+        assert_eq!(records.write_claim(), Ok(record.claim));
+        assert_eq!(records.write_proof(), Ok(record.proof));
+        files += 1;
+    }
+    assert!(files > 2000, "only {files} files are written again");
+}
+
+/// The file that records stand for, fit or not: each field that is not 0 has its
+/// bit, and so has each that the kind or rule has. None where a count has no two
+/// bytes, or promises more records than there are.
+fn files(records: &Records) -> Option<(Vec<u8>, Vec<u8>)> {
+    let mut claim = b"CLM1".to_vec();
+    put_count(&mut claim, records.entry_count)?;
+    for record in records.entries.get(..records.entry_count)? {
+        let map = Kind::from_byte(record.kind).map_or(0, Kind::map);
+        put_fields(&mut claim, map, record.kind, &[record.a, record.b]);
+    }
+    put_count(&mut claim, records.members.len())?;
+    put_list(&mut claim, &records.members);
+    let mut proof = b"PRF1".to_vec();
+    put_count(&mut proof, records.node_count)?;
+    let mut codes = records.codes.iter().copied();
+    for record in records.nodes.get(..records.node_count)? {
+        let map = Rule::from_byte(record.rule).map_or(0, Rule::low_bits);
+        let bit = u8::from(record.count > 0) << 4;
+        let fields = [record.principal, record.first, record.second, record.back];
+        put_fields(&mut proof, map | bit, record.rule, &fields);
+        if record.count > 0 {
+            let codes: Vec<u16> = codes.by_ref().take(record.count.into()).collect();
+            proof.push(record.count);
+            put_list(&mut proof, &codes);
+        }
+    }
+    Some((claim, proof))
+}
+
+fn put_count(file: &mut Vec<u8>, count: usize) -> Option<()> {
+    put_list(file, &[u16::try_from(count).ok()?]);
+    Some(())
+}
+
+fn put_list(file: &mut Vec<u8>, list: &[u16]) {
+    file.extend(list.iter().flat_map(|number| number.to_le_bytes()));
+}
+
+fn put_fields(file: &mut Vec<u8>, map: u8, second: u8, fields: &[u16]) {
+    let bits = fields.iter().enumerate();
+    let map = bits.fold(map, |map, (bit, &field)| map | u8::from(field != 0) << bit);
+    file.extend([map, second]);
+    for (bit, &field) in fields.iter().enumerate() {
+        if map >> bit & 1 == 1 {
+            put_list(file, &[field]);
+        }
+    }
+}
+
+/// "with the number and place the reader would give for the file"
+#[test]
+fn the_reader_says_the_same_of_the_file() {
+    let (mut read, mut refused) = (0, 0);
+    for record in generate::writes(5).take(10_000) {
+        let Some((claim, proof)) = files(&record.records) else {
+            continue;
+        };
+        let answer = check(&claim, &proof);
+        let expected = match answer >> 16 {
+            0 | 36..=39 => Ok(proof),
+            _ => Err(Refusal::unpack(answer).expect("a refusal")),
+        };
+        assert_eq!(record.proof, expected);
+        // A claim alone, before a proof that is none.
+        let expected = match Refusal::unpack(check(&claim, b"")) {
+            Some(Refusal { number: 30, .. }) => Ok(claim),
+            other => Err(other.expect("a refusal")),
+        };
+        assert_eq!(record.claim, expected);
+        read += 1;
+        refused += usize::from(record.proof.is_err());
+    }
+    assert!(
+        read > 8000 && refused > 3000,
+        "{refused} of {read} files refused"
+    );
+}
