@@ -1,9 +1,10 @@
 /* The Focus proof gate for a loader written in C: link target/staticlib/libgate.a.
  *
  * An answer is 0 for done or accepted, else refusal x 65,536 + place; focus_take
- * alone answers otherwise. For every call: no pointer is null, each leads to as
- * many elements as its length says, and what the call may write overlaps nothing
- * else that it is lent. The gate keeps no pointer and has no memory of its own. */
+ * and the two calls that write files answer otherwise. For every call: no pointer
+ * is null, each leads to as many elements as its length says, and what the call
+ * may write overlaps nothing else that it is lent. The gate keeps no pointer and
+ * has no memory of its own. */
 #ifndef FOCUS_GATE_H
 #define FOCUS_GATE_H
 
@@ -19,6 +20,10 @@ extern "C" {
 #define FOCUS_NODES 1024
 #define FOCUS_CODES 24576
 #define FOCUS_WORDS 256
+
+/* Output slices of these lengths are long enough for every claim and every proof. */
+#define FOCUS_CLAIM_BYTES 1592
+#define FOCUS_PROOF_BYTES 58374
 
 /* The phases of a gate. Any other number reads as closed. */
 enum {
@@ -62,7 +67,9 @@ enum {
     FOCUS_MODEL_LENGTH = 61,  /* ends early (its length), or bytes follow (offset) */
     FOCUS_MODEL_COUNT = 62,   /* a count out of range (its offset) */
     FOCUS_MODEL_MAP = 63,     /* map unfit, a zero mask or successor count (offset of the map) */
-    FOCUS_MODEL_MEMBER = 64   /* a successor not rising or out of range (its offset) */
+    FOCUS_MODEL_MEMBER = 64,  /* a successor not rising or out of range (its offset) */
+
+    FOCUS_OUTPUT_SHORT = 70   /* an output slice shorter than the file (0) */
 };
 
 /* The two parts of an answer that is not 0. */
@@ -72,6 +79,9 @@ enum {
 /* What focus_take answered: a tag, or a refusal whose parts FOCUS_NUMBER and
  * FOCUS_PLACE give. Every 32-bit tag is a tag, 0 too. */
 #define FOCUS_TOOK(answer) ((uint64_t)(answer) >> 32 == 0)
+
+/* What a call that writes a file answered: its length, or a refusal likewise. */
+#define FOCUS_WROTE(answer) ((uint64_t)(answer) >> 32 == 0)
 
 /* A gate, lent to each call. One with all bytes zero is closed, as a gate starts.
  * The tag means something only in FOCUS_PHASE_HOLDING. */
@@ -126,6 +136,23 @@ uint32_t focus_evaluate(const uint8_t *claim, size_t claim_len,
  * It writes nothing. */
 uint32_t focus_check(const uint8_t *claim, size_t claim_len,
                      const uint8_t *proof, size_t proof_len);
+
+/* Writes the claim of the first entry_count entries and of all members to the start of out and
+ * answers its length. Else 2^32 + refusal x 65,536 + place, and nothing is written: 1; 12 to 14 and
+ * 20 to 23 as that claim would earn them; 70. A field that the entry's kind does not have must be 0,
+ * else 13. Nothing is read beyond the counts, and nothing written beyond the file. */
+uint64_t focus_write_claim(const focus_entry *entries, size_t entries_len, size_t entry_count,
+                           const uint16_t *members, size_t members_len,
+                           uint8_t *out, size_t out_len);
+
+/* Writes the proof of the first node_count nodes likewise, each node's codes behind those of the
+ * nodes before it. The claim's records are judged first, then 32 to 35 as the proof would earn them;
+ * a field that the node's rule does not have must be 0, else 33. */
+uint64_t focus_write_proof(const focus_entry *entries, size_t entries_len, size_t entry_count,
+                           const uint16_t *members, size_t members_len,
+                           const focus_node *nodes, size_t nodes_len, size_t node_count,
+                           const uint16_t *codes, size_t codes_len,
+                           uint8_t *out, size_t out_len);
 
 /* The gate reads and writes these structs at fixed places: a compiler that packs
  * or pads them otherwise must not get through. */

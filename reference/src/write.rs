@@ -164,6 +164,26 @@ impl NodeRecord {
     }
 }
 
+impl From<Entry> for EntryRecord {
+    fn from(Entry { kind, a, b }: Entry) -> EntryRecord {
+        let kind = kind as u8;
+        EntryRecord { kind, a, b }
+    }
+}
+
+impl From<Node> for NodeRecord {
+    fn from(node: Node) -> NodeRecord {
+        NodeRecord {
+            rule: node.rule as u8,
+            principal: node.principal,
+            first: node.first,
+            second: node.second,
+            back: node.back,
+            count: node.count,
+        }
+    }
+}
+
 /// Whether each field without a bit in the map is 0.
 fn fit<const N: usize>(map: u8, fields: [u16; N]) -> bool {
     let lacks = |bit: usize| map >> bit & 1 == 0;

@@ -234,16 +234,14 @@ fn assert_gives_back(records: &Records, claim: &[u8], proof: &[u8]) {
     assert!(begin_with(records, &records_of(&decoded)));
 }
 
-fn records_of(decoded: &Decoded) -> Records {
-    let Decoded { claim, proof } = decoded;
-    let entries = claim.entries.iter().map(|e| entry(e.kind, e.a, e.b));
-    let fields = |n: &reference::Node| [n.principal, n.first, n.second, n.back];
-    let nodes = proof.nodes.iter().map(|n| node(n.rule, fields(n), n.count));
+fn records_of(Decoded { claim, proof }: &Decoded) -> Records {
+    let entries = claim.entries.iter().copied();
+    let nodes = proof.nodes.iter().copied();
     Records {
-        entries: entries.collect(),
+        entries: entries.map(EntryRecord::from).collect(),
         entry_count: claim.entries.len(),
         members: claim.members.clone(),
-        nodes: nodes.collect(),
+        nodes: nodes.map(NodeRecord::from).collect(),
         node_count: proof.nodes.len(),
         codes: proof.codes.clone(),
     }

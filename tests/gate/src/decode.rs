@@ -24,7 +24,18 @@ pub fn decode(claim: &[u8], proof: &[u8]) -> Decoding {
 /// After the opening and a count: a map, the kind, and the fields whose bit
 /// stands; members and their count follow.
 pub fn entries(claim: &[u8]) -> Vec<Entry> {
+    take_entries(&mut Rest(&claim[4..]))
+}
+
+/// What follows the entries: a count and the members.
+pub fn members(claim: &[u8]) -> Vec<u16> {
     let mut rest = Rest(&claim[4..]);
+    take_entries(&mut rest);
+    let count = rest.two();
+    (0..count).map(|_| rest.two()).collect()
+}
+
+fn take_entries(rest: &mut Rest) -> Vec<Entry> {
     let count = rest.two();
     (0..count)
         .map(|_| {

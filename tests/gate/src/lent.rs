@@ -2,7 +2,7 @@
 //! gate writes is seen.
 
 use crate::decode::Decoding;
-use crate::{Entry, Node};
+use crate::{Entry, Node, Records};
 use std::fmt::Debug;
 
 /// The least lengths by refusal 1.
@@ -10,6 +10,10 @@ pub const ENTRIES: usize = 256;
 pub const NODES: usize = 1024;
 pub const CODES: usize = 24_576;
 pub const WORDS: usize = 256;
+
+/// No claim and no proof is longer.
+pub const CLAIM_BYTES: usize = 1592;
+pub const PROOF_BYTES: usize = 58_374;
 
 /// How many values of the same block lie before and behind a lent slice. The
 /// number is odd, so that records begin at places of the least alignment.
@@ -69,6 +73,12 @@ impl Canary for u64 {
     }
 }
 
+impl Canary for u8 {
+    fn canary(place: usize) -> u8 {
+        mixed(place, 10) as u8
+    }
+}
+
 /// A slice of a larger block. The rest of the block is not lent.
 pub struct Slice<T> {
     block: Vec<T>,
@@ -93,15 +103,26 @@ impl<T: Canary> Slice<T> {
         &mut self.block[GUARDS..end]
     }
 
+    /// A slice of that length, which begins with the values.
+    pub fn lend_with(&mut self, values: &[T], length: usize) -> &mut [T] {
+        self.renew();
+        let slice = self.lend();
+        slice[..values.len()].copy_from_slice(values);
+        &mut slice[..length]
+    }
+
     /// The slice begins with `written`; each other value of the block, lent or
     /// not, is as it was.
     pub fn assert_holds(&self, written: &[T], what: &str) {
         let end = GUARDS + written.len();
         assert!(end + GUARDS <= self.block.len(), "{what}: no room");
-        let expected = [&self.canaries[..GUARDS], written, &self.canaries[end..]].concat();
-        if self.block == expected {
+        let expected = [&self.canaries[..GUARDS], written, &self.canaries[end..]];
+        let (before, rest) = self.block.split_at(GUARDS);
+        let (begin, beyond) = rest.split_at(written.len());
+        if [before, begin, beyond] == expected {
             return;
         }
+        let expected = expected.concat();
         for (place, (got, expected)) in self.block.iter().zip(&expected).enumerate() {
             let place = place as isize - GUARDS as isize;
             assert_eq!(got, expected, "{what}, place {place}");
@@ -196,5 +217,96 @@ impl LentWords {
 
     pub fn assert_untouched(&self, what: &str) {
         self.assert_holds(&[], &[], what);
+    }
+}
+
+/// What the writer is lent: records, which it must leave as they are, and a slice
+/// for the file.
+pub struct LentRecords {
+    entries: Slice<Entry>,
+    members: Slice<u16>,
+    nodes: Slice<Node>,
+    codes: Slice<u16>,
+    out: Slice<u8>,
+}
+
+pub struct RecordSlices<'a> {
+    pub entries: &'a [Entry],
+    pub entry_count: usize,
+    pub members: &'a [u16],
+    pub nodes: &'a [Node],
+    pub node_count: usize,
+    pub codes: &'a [u16],
+    pub out: &'a mut [u8],
+}
+
+/// How much of each slice is lent; of the members it is always all.
+#[derive(Clone, Copy, Debug, PartialEq, Eq)]
+pub struct Lengths {
+    pub entries: usize,
+    pub nodes: usize,
+    pub codes: usize,
+    pub out: usize,
+}
+
+impl Lengths {
+    /// The records as they are given, where they are too few the least length, and
+    /// room for every file.
+    pub fn of(records: &Records) -> Lengths {
+        Lengths {
+            entries: records.entries.len().max(ENTRIES),
+            nodes: records.nodes.len().max(NODES),
+            codes: records.codes.len().max(CODES),
+            out: PROOF_BYTES,
+        }
+    }
+}
+
+impl Default for LentRecords {
+    /// Blocks with room for longer slices than any test lends.
+    fn default() -> LentRecords {
+        LentRecords {
+            entries: Slice::new(ENTRIES + 1000),
+            members: Slice::new(70_000),
+            nodes: Slice::new(NODES + 1000),
+            codes: Slice::new(CODES + 1000),
+            out: Slice::new(PROOF_BYTES + 1000),
+        }
+    }
+}
+
+impl LentRecords {
+    /// The records from the start of each slice on, canaries beyond them and in
+    /// the output slice.
+    pub fn lend(&mut self, records: &Records, lengths: Lengths) -> RecordSlices<'_> {
+        let Lengths {
+            entries,
+            nodes,
+            codes,
+            out,
+        } = lengths;
+        let members = records.members.len();
+        RecordSlices {
+            entries: self.entries.lend_with(&records.entries, entries),
+            entry_count: records.entry_count,
+            members: self.members.lend_with(&records.members, members),
+            nodes: self.nodes.lend_with(&records.nodes, nodes),
+            node_count: records.node_count,
+            codes: self.codes.lend_with(&records.codes, codes),
+            out: self.out.lend_with(&[], out),
+        }
+    }
+
+    /// The output slice begins with the file; all else is as it was lent.
+    pub fn assert_holds(&self, records: &Records, file: &[u8], what: &str) {
+        self.entries
+            .assert_holds(&records.entries, &format!("{what}: entries"));
+        self.members
+            .assert_holds(&records.members, &format!("{what}: members"));
+        self.nodes
+            .assert_holds(&records.nodes, &format!("{what}: nodes"));
+        self.codes
+            .assert_holds(&records.codes, &format!("{what}: codes"));
+        self.out.assert_holds(file, &format!("{what}: output"));
     }
 }

@@ -7,7 +7,7 @@ pub mod lent;
 pub mod random;
 pub mod vectors;
 
-use lent::{Lent, LentWords, Slices};
+use lent::{Lent, LentWords, RecordSlices, Slices};
 
 /// The gate state that each call is lent.
 #[repr(C)]
@@ -42,6 +42,53 @@ pub struct Node {
     pub second: u16,
     pub back: u16,
     pub count: u8,
+}
+
+/// What is given to the writer. Beyond the counts the slices hold anything.
+#[derive(Clone, Debug, PartialEq, Eq)]
+pub struct Records {
+    pub entries: Vec<Entry>,
+    pub entry_count: usize,
+    pub members: Vec<u16>,
+    pub nodes: Vec<Node>,
+    pub node_count: usize,
+    pub codes: Vec<u16>,
+}
+
+impl From<&reference::Records> for Records {
+    fn from(records: &reference::Records) -> Records {
+        Records {
+            entries: records.entries.iter().map(Entry::from).collect(),
+            entry_count: records.entry_count,
+            members: records.members.clone(),
+            nodes: records.nodes.iter().map(Node::from).collect(),
+            node_count: records.node_count,
+            codes: records.codes.clone(),
+        }
+    }
+}
+
+impl From<&reference::EntryRecord> for Entry {
+    fn from(entry: &reference::EntryRecord) -> Entry {
+        Entry {
+            kind: entry.kind,
+            a: entry.a,
+            b: entry.b,
+        }
+    }
+}
+
+impl From<&reference::NodeRecord> for Node {
+    fn from(node: &reference::NodeRecord) -> Node {
+        Node {
+            rule: node.rule,
+            principal: node.principal,
+            first: node.first,
+            second: node.second,
+            back: node.back,
+            count: node.count,
+        }
+    }
 }
 
 mod calls {
@@ -86,6 +133,31 @@ mod calls {
             words: *mut u64,
             words_len: usize,
         ) -> u32;
+
+        pub fn focus_write_claim(
+            entries: *const Entry,
+            entries_len: usize,
+            entry_count: usize,
+            members: *const u16,
+            members_len: usize,
+            out: *mut u8,
+            out_len: usize,
+        ) -> u64;
+
+        pub fn focus_write_proof(
+            entries: *const Entry,
+            entries_len: usize,
+            entry_count: usize,
+            members: *const u16,
+            members_len: usize,
+            nodes: *const Node,
+            nodes_len: usize,
+            node_count: usize,
+            codes: *const u16,
+            codes_len: usize,
+            out: *mut u8,
+            out_len: usize,
+        ) -> u64;
     }
 }
 
@@ -162,6 +234,44 @@ pub fn evaluate(claim: &[u8], model: &[u8], lent: &mut LentWords) -> u32 {
             entries.len(),
             words.as_mut_ptr(),
             words.len(),
+        )
+    }
+}
+
+/// The length of the claim, or 2^32 + refusal × 65,536 + place.
+pub fn write_claim(slices: &mut RecordSlices) -> u64 {
+    // SAFETY: the gate stays within the lengths of the slices, of which the output
+    // overlaps no other, and keeps none; any number is a value of every field.
+    unsafe {
+        calls::focus_write_claim(
+            slices.entries.as_ptr(),
+            slices.entries.len(),
+            slices.entry_count,
+            slices.members.as_ptr(),
+            slices.members.len(),
+            slices.out.as_mut_ptr(),
+            slices.out.len(),
+        )
+    }
+}
+
+/// The length of the proof, or 2^32 + refusal × 65,536 + place.
+pub fn write_proof(slices: &mut RecordSlices) -> u64 {
+    // SAFETY: as for a claim.
+    unsafe {
+        calls::focus_write_proof(
+            slices.entries.as_ptr(),
+            slices.entries.len(),
+            slices.entry_count,
+            slices.members.as_ptr(),
+            slices.members.len(),
+            slices.nodes.as_ptr(),
+            slices.nodes.len(),
+            slices.node_count,
+            slices.codes.as_ptr(),
+            slices.codes.len(),
+            slices.out.as_mut_ptr(),
+            slices.out.len(),
         )
     }
 }

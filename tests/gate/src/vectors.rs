@@ -1,21 +1,27 @@
 //! The records of the vectors.
 
-use reference::corpus::{self, CheckRecord, EvalRecord};
+use reference::corpus::{self, CheckRecord, EvalRecord, WriteRecord};
 use std::path::Path;
 
 pub fn checks() -> Vec<CheckRecord> {
-    let records = corpus::read_checks(&read("check.bin")).expect("whole records");
+    let records = corpus::read_checks(&read("base/check.bin")).expect("whole records");
     assert_eq!(records.len(), 3551);
     records
 }
 
 pub fn evals() -> Vec<EvalRecord> {
-    let records = corpus::read_evals(&read("eval.bin")).expect("whole records");
+    let records = corpus::read_evals(&read("base/eval.bin")).expect("whole records");
     assert_eq!(records.len(), 519);
     records
 }
 
+pub fn writes() -> Vec<WriteRecord> {
+    let records = corpus::read_writes(&read("t01/write.bin")).expect("whole records");
+    assert_eq!(records.len(), 640);
+    records
+}
+
 fn read(file: &str) -> Vec<u8> {
-    let folder = Path::new(env!("CARGO_MANIFEST_DIR")).join("../vectors/base");
+    let folder = Path::new(env!("CARGO_MANIFEST_DIR")).join("../vectors");
     std::fs::read(folder.join(file)).expect("the vectors")
 }

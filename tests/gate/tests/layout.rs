@@ -67,6 +67,8 @@ fn the_header_names_the_lengths_the_phases_and_every_refusal() {
         ("FOCUS_NODES", lent::NODES),
         ("FOCUS_CODES", lent::CODES),
         ("FOCUS_WORDS", lent::WORDS),
+        ("FOCUS_CLAIM_BYTES", lent::CLAIM_BYTES),
+        ("FOCUS_PROOF_BYTES", lent::PROOF_BYTES),
         ("FOCUS_PHASE_CLOSED", usize::from(Gate::CLOSED)),
         ("FOCUS_PHASE_OPEN", usize::from(Gate::OPEN)),
         ("FOCUS_PHASE_HOLDING", usize::from(Gate::HOLDING)),
@@ -75,6 +77,6 @@ fn the_header_names_the_lengths_the_phases_and_every_refusal() {
     }
     let mut refusals: Vec<usize> = numbers.into_values().collect();
     refusals.sort_unstable();
-    let ranges = [1..=1, 10..=14, 20..=23, 30..=39, 50..=53, 60..=64];
+    let ranges = [1..=1, 10..=14, 20..=23, 30..=39, 50..=53, 60..=64, 70..=70];
     assert_eq!(refusals, ranges.into_iter().flatten().collect::<Vec<_>>());
 }

@@ -1,0 +1,656 @@
+//! The writer, over the vectors and over generated records: the answer, the file
+//! and every place of the lent slices.
+
+use gate_tests::decode::{self, Decoding};
+use gate_tests::lent::{Canary, Lengths, Lent, LentRecords, LentWords, CODES, ENTRIES, NODES};
+use gate_tests::{check, evaluate, present, setting, vectors, write_claim, write_proof};
+use gate_tests::{Entry, Gate, Node, Records};
+use reference::corpus::WriteRecord;
+use reference::generate::{self, Tally};
+use reference::{describe, Decoded, EntryRecord, Kind, NodeRecord, Refusal, Rule, Written};
+use Call::{WritingClaim, WritingProof};
+
+#[derive(Clone, Copy, Debug, PartialEq, Eq)]
+enum Call {
+    WritingClaim,
+    WritingProof,
+}
+
+/// Records, and what each call must make of them.
+struct Case {
+    records: Records,
+    claim: Written,
+    proof: Written,
+}
+
+impl Case {
+    fn new(record: WriteRecord) -> Case {
+        Case {
+            records: Records::from(&record.records),
+            claim: record.claim,
+            proof: record.proof,
+        }
+    }
+
+    fn calls(&self) -> [(Call, &Written); 2] {
+        [(WritingClaim, &self.claim), (WritingProof, &self.proof)]
+    }
+}
+
+fn cases() -> Vec<Case> {
+    vectors::writes().into_iter().map(Case::new).collect()
+}
+
+fn refused(number: u16, place: u16) -> Written {
+    Err(Refusal { number, place })
+}
+
+fn answer(written: &Written) -> u64 {
+    reference::written(written.as_ref().map(Vec::len).map_err(|refusal| *refusal))
+}
+
+fn shown(answer: u64) -> String {
+    match answer >> 32 {
+        0 => format!("{answer} bytes"),
+        1 => describe(answer as u32),
+        _ => format!("{answer:#x}"),
+    }
+}
+
+/// The answer, the file at the start of the output slice or no byte of it, and
+/// nothing else touched.
+fn assert_written(
+    call: Call,
+    (records, lengths): (&Records, Lengths),
+    expected: &Written,
+    lent: &mut LentRecords,
+    what: &str,
+) {
+    let slices = &mut lent.lend(records, lengths);
+    let got = match call {
+        WritingClaim => write_claim(slices),
+        WritingProof => write_proof(slices),
+    };
+    let what = format!("{what}, {call:?} in {lengths:?}");
+    assert_eq!(shown(got), shown(answer(expected)), "{what}");
+    let file = expected.as_deref().unwrap_or_default();
+    lent.assert_holds(records, file, &what);
+}
+
+fn assert_both(case: &Case, lengths: Lengths, lent: &mut LentRecords, what: &str) {
+    for (call, expected) in case.calls() {
+        assert_written(call, (&case.records, lengths), expected, lent, what);
+    }
+}
+
+#[test]
+fn every_write_record_agrees() {
+    let mut lent = LentRecords::default();
+    let (mut claims, mut proofs) = (0, 0);
+    for (index, case) in cases().iter().enumerate() {
+        let what = format!("write record {index}");
+        assert_both(case, Lengths::of(&case.records), &mut lent, &what);
+        claims += u64::from(case.claim.is_ok());
+        proofs += u64::from(case.proof.is_ok());
+    }
+    assert!(claims > 400 && proofs > 200, "{claims} and {proofs}");
+    println!("gate: 640 write records agree, {claims} claims and {proofs} proofs written");
+}
+
+#[test]
+fn every_write_record_in_longer_slices() {
+    let mut lent = LentRecords::default();
+    for (index, case) in cases().iter().enumerate() {
+        let what = format!("write record {index}");
+        let given = Lengths::of(&case.records);
+        for more in [[1, 1, 1, 1], [300, 0, 0, 0], [0, 777, 0, 0], [0, 0, 900, 0]] {
+            let lengths = Lengths {
+                entries: given.entries + more[0],
+                nodes: given.nodes + more[1],
+                codes: given.codes + more[2],
+                out: given.out + more[3],
+            };
+            assert_both(case, lengths, &mut lent, &what);
+        }
+    }
+}
+
+/// "1 ... a lent slice under 256 entries, 1,024 nodes, 24,576 codes", before all
+/// else; the claim's writer is lent no nodes and codes.
+#[test]
+fn a_short_slice_earns_1_and_nothing_is_written() {
+    let mut lent = LentRecords::default();
+    for (index, case) in cases().iter().enumerate() {
+        let what = format!("write record {index}");
+        let full = Lengths::of(&case.records);
+        let short = |entries, nodes, codes| Lengths {
+            entries,
+            nodes,
+            codes,
+            ..full
+        };
+        let mut assert_1 = |call, lengths| {
+            let given = (&case.records, lengths);
+            assert_written(call, given, &refused(1, 0), &mut lent, &what);
+        };
+        for lengths in [short(255, NODES, CODES), short(0, 0, 0)] {
+            assert_1(WritingClaim, lengths);
+            assert_1(WritingProof, lengths);
+            assert_1(WritingProof, Lengths { out: 0, ..lengths });
+        }
+        for lengths in [
+            short(ENTRIES, 1023, CODES),
+            short(ENTRIES, NODES, 24_575),
+            short(ENTRIES, 0, CODES),
+            short(ENTRIES, NODES, 0),
+        ] {
+            assert_1(WritingProof, lengths);
+        }
+        let claim_alone = (&case.records, short(ENTRIES, 0, 0));
+        assert_written(WritingClaim, claim_alone, &case.claim, &mut lent, &what);
+    }
+}
+
+/// An output slice as long as the file is enough; "70, the output slice is shorter
+/// than the file, judged after the records, with place 0".
+#[test]
+fn a_short_output_earns_70_after_all_else() {
+    let mut lent = LentRecords::default();
+    let mut short = 0;
+    for (index, case) in cases().iter().enumerate() {
+        let what = format!("write record {index}");
+        let full = Lengths::of(&case.records);
+        for (call, expected) in case.calls() {
+            let mut assert_in = |out: usize, expected: &Written| {
+                let given = (&case.records, Lengths { out, ..full });
+                assert_written(call, given, expected, &mut lent, &what);
+            };
+            let Ok(file) = expected else {
+                assert_in(0, expected);
+                continue;
+            };
+            assert_in(file.len(), expected);
+            assert_in(file.len() + 1, expected);
+            for out in [file.len() - 1, file.len() / 2, 1, 0] {
+                assert_in(out, &refused(70, 0));
+                short += 1;
+            }
+        }
+    }
+    assert!(short > 2000, "only {short} output slices were too short");
+}
+
+/// The codes that the nodes up to the count have, as far as there are so many.
+fn codes_counted(records: &Records) -> usize {
+    let nodes = records.nodes.iter().take(records.node_count);
+    let codes: usize = nodes.map(|node| usize::from(node.count)).sum();
+    codes.min(records.codes.len())
+}
+
+/// The records with other values beyond the counts: such as no record has, or such
+/// as would do.
+fn with_other_values(records: &Records, would_do: bool) -> Records {
+    let mut other = records.clone();
+    let known = (records.entries[0], records.nodes[0]);
+    let codes = codes_counted(records);
+    for (place, entry) in other.entries.iter_mut().enumerate() {
+        if place >= records.entry_count {
+            *entry = if would_do {
+                known.0
+            } else {
+                Entry::canary(place)
+            };
+        }
+    }
+    for (place, node) in other.nodes.iter_mut().enumerate() {
+        if place >= records.node_count {
+            *node = if would_do {
+                known.1
+            } else {
+                Node::canary(place)
+            };
+        }
+    }
+    for (place, code) in other.codes.iter_mut().enumerate().skip(codes) {
+        *code = if would_do { 1 } else { u16::canary(place) };
+    }
+    other
+}
+
+#[test]
+fn what_stands_beyond_the_counts_does_not_count() {
+    let mut lent = LentRecords::default();
+    let mut changed = 0;
+    for (index, case) in cases().into_iter().enumerate() {
+        for would_do in [false, true] {
+            let what = format!("write record {index}, would do: {would_do}");
+            let records = with_other_values(&case.records, would_do);
+            changed += u64::from(records != case.records);
+            let (claim, proof) = (case.claim.clone(), case.proof.clone());
+            let other = Case {
+                records,
+                claim,
+                proof,
+            };
+            assert_both(&other, Lengths::of(&other.records), &mut lent, &what);
+        }
+    }
+    assert!(changed > 1000, "only {changed} were other records");
+}
+
+/// The records of two files, as they are read off the bytes here.
+fn records_of(claim: &[u8], proof: &[u8]) -> Records {
+    let Decoding {
+        entries,
+        nodes,
+        codes,
+    } = decode::decode(claim, proof);
+    Records {
+        entry_count: entries.len(),
+        entries,
+        members: decode::members(claim),
+        node_count: nodes.len(),
+        nodes,
+        codes,
+    }
+}
+
+/// What is lent up to the counts.
+fn counted(records: &Records) -> Decoding {
+    Decoding {
+        entries: records.entries[..records.entry_count].to_vec(),
+        nodes: records.nodes[..records.node_count].to_vec(),
+        codes: records.codes[..codes_counted(records)].to_vec(),
+    }
+}
+
+/// "Reading a written file must give the records back": a claim's by evaluating it
+/// in a model of one state, a claim's and proof's by presenting them.
+struct Readers {
+    words: LentWords,
+    slices: Lent,
+}
+
+impl Readers {
+    fn new() -> Readers {
+        Readers {
+            words: LentWords::least(),
+            slices: Lent::least(),
+        }
+    }
+
+    /// Whether both files were written.
+    fn assert_give_back(&mut self, case: &Case, what: &str) -> bool {
+        let records = &case.records;
+        let Ok(claim) = &case.claim else {
+            return false;
+        };
+        self.words.renew();
+        let got = evaluate(claim, b"MDL1\x01\0", &mut self.words);
+        assert_eq!(describe(got), "accept", "{what}");
+        let entries = &records.entries[..records.entry_count];
+        self.words.entries.assert_holds(entries, what);
+        let Ok(proof) = &case.proof else {
+            return false;
+        };
+        self.slices.renew();
+        let mut gate = Gate {
+            phase: Gate::OPEN,
+            tag: 0,
+        };
+        let got = present(&mut gate, 7, claim, proof, &mut self.slices);
+        assert!(matches!(got >> 16, 0 | 36..=39), "{what}: {got:#x}");
+        assert_eq!(check(claim, proof), got, "{what}");
+        self.slices.assert_holds(&counted(records), what);
+        assert_reference_gives_back(records, claim, proof, what);
+        true
+    }
+}
+
+fn assert_reference_gives_back(records: &Records, claim: &[u8], proof: &[u8], what: &str) {
+    let read = reference::judge(claim, proof).decoded;
+    let read = given(&read.expect("what is written is well formed"));
+    assert_eq!(counted(&Records::from(&read)), counted(records), "{what}");
+    assert_eq!(read.members, records.members, "{what}");
+}
+
+/// The records that the reference has read.
+fn given(Decoded { claim, proof }: &Decoded) -> reference::Records {
+    let entries = claim.entries.iter().copied();
+    let nodes = proof.nodes.iter().copied();
+    reference::Records {
+        entries: entries.map(EntryRecord::from).collect(),
+        entry_count: claim.entries.len(),
+        members: claim.members.clone(),
+        nodes: nodes.map(NodeRecord::from).collect(),
+        node_count: proof.nodes.len(),
+        codes: proof.codes.clone(),
+    }
+}
+
+#[test]
+fn written_vectors_give_the_records_back() {
+    let mut readers = Readers::new();
+    let mut both = 0;
+    for (index, case) in cases().iter().enumerate() {
+        let what = format!("write record {index}");
+        both += u64::from(readers.assert_give_back(case, &what));
+    }
+    assert!(both > 200, "only {both} pairs were written");
+}
+
+/// Records good and damaged in every field; `GATE_RECORDS` sets how many,
+/// `GATE_SEED` the seed.
+#[test]
+fn generated_records_are_written_alike() {
+    let count = setting("GATE_RECORDS", 30_000);
+    let mut lent = LentRecords::default();
+    let mut readers = Readers::new();
+    let mut both = 0;
+    let mut answers = Vec::new();
+    let records = generate::writes(setting("GATE_SEED", 1));
+    for (index, record) in records.take(count as usize).enumerate() {
+        let what = format!("generated records {index}");
+        let case = Case::new(record);
+        assert_both(&case, Lengths::of(&case.records), &mut lent, &what);
+        both += u64::from(readers.assert_give_back(&case, &what));
+        answers.push(case.proof.map_or_else(Refusal::packed, |_| 0));
+    }
+    let tally = Tally::of(answers.into_iter());
+    for number in (12..=14).chain(20..=23).chain(32..=35) {
+        let seen = tally.count(number) > 0 || count < 10_000;
+        assert!(seen, "no refusal {number} in\n{tally}");
+    }
+    assert!(both * 4 > count, "only {both} of {count} were written");
+    println!("gate: {count} generated records agree, {both} pairs written and read again");
+}
+
+/// What the writer must make of two files' records: "with the number and place the
+/// reader would give for the file", and "writing the records of an accepted file
+/// must give its bytes back". None where a file is not whole.
+fn case_of_files(claim: &[u8], proof: &[u8], answer: u32) -> Option<Case> {
+    let refusal = || Err(Refusal::unpack(answer).expect("a refusal"));
+    let any_proof = b"PRF1\x01\0\0\0";
+    let (proof, written) = match answer >> 16 {
+        0 | 36..=39 => (proof, (Ok(claim.to_vec()), Ok(proof.to_vec()))),
+        35 => (proof, (Ok(claim.to_vec()), refusal())),
+        20..=23 => (&any_proof[..], (refusal(), refusal())),
+        _ => return None,
+    };
+    Some(Case {
+        records: records_of(claim, proof),
+        claim: written.0,
+        proof: written.1,
+    })
+}
+
+#[test]
+fn records_of_files_give_the_bytes_back() {
+    let mut lent = LentRecords::default();
+    let (mut accepted, mut files) = (0, 0);
+    let generated = generate::checks(setting("GATE_SEED", 1) + 2).take(10_000);
+    for (index, record) in vectors::checks().into_iter().chain(generated).enumerate() {
+        assert_eq!(check(&record.claim, &record.proof), record.answer);
+        let case = case_of_files(&record.claim, &record.proof, record.answer);
+        let Some(case) = case else { continue };
+        let what = format!("file {index}");
+        assert_both(&case, Lengths::of(&case.records), &mut lent, &what);
+        accepted += u64::from(record.answer == 0);
+        files += 1;
+    }
+    assert!(
+        accepted > 2000 && files > 6000,
+        "{accepted} accepted of {files}"
+    );
+    println!("gate: records of {files} files written again, {accepted} of them accepted");
+}
+
+/// The sample that document 01 begins with.
+fn nu_of_box() -> reference::Records {
+    let claim = include_bytes!("../../../examples/nu-of-box/claim.bin");
+    let proof = include_bytes!("../../../examples/nu-of-box/proof.bin");
+    let read = reference::judge(claim, proof).decoded;
+    filled_up(given(&read.expect("a good pair")))
+}
+
+/// Slices of the least lengths, with records beyond the given ones that would
+/// spoil any file.
+fn filled_up(mut records: reference::Records) -> reference::Records {
+    let entry = entry_record(0xff, [0xfffe, 0xfffd]);
+    let node = node_record(0xff, [0xfffc; 4], 0xfe);
+    let length = |given: usize, least: usize| given.max(least);
+    let entries = length(records.entries.len(), ENTRIES);
+    let nodes = length(records.nodes.len(), NODES);
+    let codes = length(records.codes.len(), CODES);
+    records.entries.resize(entries, entry);
+    records.nodes.resize(nodes, node);
+    records.codes.resize(codes, 0xfffb);
+    records
+}
+
+fn entry_record(kind: u8, [a, b]: [u16; 2]) -> EntryRecord {
+    EntryRecord { kind, a, b }
+}
+
+fn node_record(rule: u8, fields: [u16; 4], count: u8) -> NodeRecord {
+    let [principal, first, second, back] = fields;
+    NodeRecord {
+        rule,
+        principal,
+        first,
+        second,
+        back,
+        count,
+    }
+}
+
+/// The gate does what the reference does; answers what that is.
+fn alike(records: &reference::Records, lent: &mut LentRecords, what: &str) -> [String; 2] {
+    let case = Case {
+        records: Records::from(records),
+        claim: records.write_claim(),
+        proof: records.write_proof(),
+    };
+    assert_both(&case, Lengths::of(&case.records), lent, what);
+    [&case.claim, &case.proof].map(|written| shown(answer(written)))
+}
+
+/// Every kind byte with each field 0 and not, and every rule byte likewise.
+#[test]
+fn every_kind_and_rule_with_every_field_agrees() {
+    let mut lent = LentRecords::default();
+    let (mut claims, mut proofs) = (0, 0);
+    let bit = |bits: u16, at: u16| bits >> at & 1;
+    for kind in 0..=255 {
+        for bits in 0..4 {
+            let mut records = nu_of_box();
+            records.entries[1] = entry_record(kind, [0, 1].map(|at| bit(bits, at)));
+            let what = format!("kind {kind}, fields {bits}");
+            let [claim, _] = alike(&records, &mut lent, &what);
+            claims += u64::from(claim != "refuse 13 at 10");
+        }
+    }
+    for rule in 0..=255 {
+        for bits in 0..32 {
+            let mut records = nu_of_box();
+            let fields = [0, 1, 2, 3].map(|at| bit(bits, at));
+            records.nodes[0] = node_record(rule, fields, bit(bits, 4) as u8);
+            let what = format!("rule {rule}, fields {bits}");
+            let [_, proof] = alike(&records, &mut lent, &what);
+            proofs += u64::from(proof != "refuse 33 at 6");
+        }
+    }
+    // Kinds 0 and 1 have one good pair each, 2, 3 and 6 to 10 two, 4 and 5 four.
+    assert_eq!(claims, 2 + 2 * 7 + 4 * 2);
+    // By their fields rules 0 and 1 have one pair each, 3 eight, 10 and 11 two, the
+    // seven others four; each with codes and without.
+    assert_eq!(proofs, 2 * (2 + 8 + 2 + 2 + 4 * 7));
+}
+
+/// Every code count, at the first node and at the last, and every field of every
+/// record with each number near a limit.
+#[test]
+fn every_count_and_large_fields_agree() {
+    let mut lent = LentRecords::default();
+    for node in 0..4 {
+        for count in 0..=255 {
+            let mut records = nu_of_box();
+            records.nodes[node].count = count;
+            let what = format!("{count} codes in node {node}");
+            let [_, proof] = alike(&records, &mut lent, &what);
+            if count > 24 {
+                let offsets = [10, 19, 28, 35];
+                assert_eq!(proof, format!("refuse 32 at {}", offsets[node]), "{what}");
+            }
+        }
+    }
+    for number in [1, 2, 3, 4, 31, 32, 255, 256, 511, 512, 1023, 1024, 65_535] {
+        for at in 0..3 {
+            for field in 0..2 {
+                let mut records = nu_of_box();
+                let entry = &mut records.entries[at];
+                *[&mut entry.a, &mut entry.b][field] = number;
+                alike(&records, &mut lent, &format!("{number} in entry {at}"));
+            }
+        }
+        for at in 0..4 {
+            for field in 0..5 {
+                let mut records = nu_of_box();
+                let node = &mut records.nodes[at];
+                let code = &mut records.codes[at];
+                let NodeRecord {
+                    principal,
+                    first,
+                    second,
+                    back,
+                    ..
+                } = node;
+                *[principal, first, second, back, code][field] = number;
+                alike(&records, &mut lent, &format!("{number} in node {at}"));
+            }
+        }
+    }
+}
+
+/// "Counts are ... any number is judged, none is cut".
+#[test]
+fn counts_of_any_size() {
+    let mut lent = LentRecords::default();
+    let wide = |count: usize| [16, 31, 32, 63].map(|bit| count | 1 << bit);
+    for count in [&[0, 257, usize::MAX][..], &wide(3)].concat() {
+        let mut records = nu_of_box();
+        records.entry_count = count;
+        let answers = alike(&records, &mut lent, &format!("{count} entries"));
+        assert_eq!(answers, ["refuse 12 at 4", "refuse 12 at 4"]);
+    }
+    for count in [&[0, 1025, usize::MAX][..], &wide(4)].concat() {
+        let mut records = nu_of_box();
+        records.node_count = count;
+        let answers = alike(&records, &mut lent, &format!("{count} nodes"));
+        assert_eq!(answers, ["22 bytes", "refuse 32 at 4"]);
+    }
+    for count in [0, 25, 256, 257, 65_535, 65_536, 65_537, 65_560] {
+        let mut records = nu_of_box();
+        records.members = vec![2; count];
+        let answers = alike(&records, &mut lent, &format!("{count} members"));
+        assert_eq!(answers, ["refuse 12 at 18", "refuse 12 at 18"]);
+    }
+}
+
+/// A record beyond the ones of the sample is taken in by a count one higher.
+#[test]
+fn a_count_one_lower_or_higher() {
+    let mut lent = LentRecords::default();
+    let mut answers = |entries, nodes| {
+        let mut records = nu_of_box();
+        records.entry_count = entries;
+        records.node_count = nodes;
+        alike(&records, &mut lent, &format!("{entries}, {nodes}"))
+    };
+    assert_eq!(answers(3, 4), ["22 bytes", "38 bytes"]);
+    assert_eq!(answers(2, 4), ["refuse 14 at 16", "refuse 14 at 16"]);
+    assert_eq!(answers(4, 4), ["refuse 13 at 18", "refuse 13 at 18"]);
+    assert_eq!(answers(3, 3), ["22 bytes", "refuse 35 at 2"]);
+    assert_eq!(answers(3, 5), ["22 bytes", "refuse 33 at 38"]);
+    assert_eq!(answers(4, 5), ["refuse 13 at 18", "refuse 13 at 18"]);
+}
+
+/// Letter 31, then disjunctions of it: no entry below entry 0 could be an operand,
+/// so that no claim is longer than one of these with 24 members.
+fn disjunctions(count: usize) -> Vec<EntryRecord> {
+    let mut entries = vec![entry_record(Kind::Letter as u8, [31, 0])];
+    entries.resize(count, entry_record(Kind::Or as u8, [0, 0]));
+    entries
+}
+
+/// One path of W, with a back leaf at its end; the tree leaves no proof of so many
+/// nodes and codes longer.
+fn path(count: usize, codes: usize) -> (Vec<NodeRecord>, Vec<u16>) {
+    let w = |child| node_record(Rule::W as u8, [9, child, 0, 0], codes as u8);
+    let mut nodes: Vec<NodeRecord> = (1..count as u16).map(w).collect();
+    nodes.push(node_record(
+        Rule::Back as u8,
+        [0, 0, 0, 65_535],
+        codes as u8,
+    ));
+    let last: Vec<u16> = (512 - codes as u16..512).collect();
+    (nodes, last.repeat(count))
+}
+
+/// So many entries, members, nodes and codes of each node.
+fn sized(entries: usize, members: usize, nodes: usize, codes: usize) -> reference::Records {
+    let (nodes, codes) = path(nodes, codes);
+    let last = 256 - members as u16;
+    filled_up(reference::Records {
+        entries: disjunctions(entries),
+        entry_count: entries,
+        members: (last..256).collect(),
+        node_count: nodes.len(),
+        nodes,
+        codes,
+    })
+}
+
+/// Each count at its limit, and one beyond.
+#[test]
+fn limits() {
+    let mut lent = LentRecords::default();
+    let mut answers = |entries, members, nodes, codes| {
+        let what = format!("{entries}, {members}, {nodes}, {codes}");
+        let records = sized(entries, members, nodes, codes);
+        alike(&records, &mut lent, &what)
+    };
+    assert_eq!(answers(256, 24, 1024, 24), ["1590 bytes", "56324 bytes"]);
+    assert_eq!(answers(256, 1, 1, 0), ["1544 bytes", "10 bytes"]);
+    assert_eq!(answers(257, 24, 1, 1), ["refuse 12 at 4"; 2]);
+    assert_eq!(answers(256, 25, 1, 1), ["refuse 12 at 1540"; 2]);
+    assert_eq!(answers(256, 24, 1025, 1), ["1590 bytes", "refuse 32 at 4"]);
+    assert_eq!(answers(256, 24, 1, 25), ["1590 bytes", "refuse 32 at 10"]);
+    assert_eq!(answers(255, 24, 1, 1), ["refuse 14 at 1582"; 2]);
+    let mut records = sized(256, 24, 1024, 24);
+    records.codes[24_575] = 65_535;
+    let last = alike(&records, &mut lent, "the last code");
+    assert_eq!(last[1], "refuse 34 at 56322");
+}
+
+/// The longest files again, in output slices of just their lengths and one byte
+/// shorter.
+#[test]
+fn the_longest_files_just_fit() {
+    let records = sized(256, 24, 1024, 24);
+    let case = Case {
+        records: Records::from(&records),
+        claim: records.write_claim(),
+        proof: records.write_proof(),
+    };
+    let mut lent = LentRecords::default();
+    let full = Lengths::of(&case.records);
+    for (call, expected) in case.calls() {
+        let length = expected.as_ref().expect("a file").len();
+        for (out, expected) in [(length, expected), (length - 1, &refused(70, 0))] {
+            let given = (&case.records, Lengths { out, ..full });
+            assert_written(call, given, expected, &mut lent, "the longest files");
+        }
+    }
+    assert!(Readers::new().assert_give_back(&case, "the longest files"));
+}
