@@ -1,7 +1,8 @@
 #!/usr/bin/env bash
 # The examples that call the gate, built as their comments say: the loader gives a
 # permit for a good pair only, and the number and place of what a bad one earns; the
-# evaluation prints each entry's states; the caller in Rust says what the loader says.
+# evaluation prints each entry's states; the writer makes the good pair's files of its
+# tables; the caller in Rust says what the loader says.
 set -euo pipefail
 cd "$(dirname "$0")/.."
 
@@ -21,6 +22,7 @@ flags=(-std=c11 -Wall -Wextra -Werror -pedantic -Iinclude)
 gcc "${flags[@]}" -fsyntax-only -x c include/focus_gate.h
 gcc "${flags[@]}" -O1 -g examples/loader/loader.c "$archive" -o "$scratch/loader"
 gcc "${flags[@]}" -O1 -g examples/evaluate/evaluate.c "$archive" -o "$scratch/evaluate"
+gcc "${flags[@]}" -O1 -g examples/writer/writer.c "$archive" -o "$scratch/writer"
 rustc --edition 2021 -O examples/caller/caller.rs -C link-arg="$archive" -o "$scratch/caller"
 
 passed=0
@@ -113,6 +115,35 @@ run 'nu of box on a circle' 0 $'entry 0, kind 10: 0\nentry 1, kind 7: 0\nentry 2
 run 'mu of box on a dead end' 0 $'entry 0, kind 10: 0 1\nentry 1, kind 7: 0 1\nentry 2, kind 8: 0 1' "$samples/mu-of-box/claim.bin" "$samples/evaluate/dead-end.bin"
 run 'a proof in place of a model' 1 'refuse 60 at 0' "$samples/nu-of-box/claim.bin" "$samples/nu-of-box/proof.bin"
 run 'a missing model' 2 '' "$samples/nu-of-box/claim.bin" "$scratch/none.bin"
+
+# same NAME FILE SAMPLE: a file that was written is the sample's, byte by byte.
+same() {
+    if cmp -s "$2" "$3"; then
+        passed=$((passed + 1))
+        return
+    fi
+    failed=$((failed + 1))
+    echo "$1: $(wc -c <"$2" 2>/dev/null || echo no) bytes, not those of $3"
+}
+
+program=writer
+made=("$scratch/made-claim.bin" "$scratch/made-proof.bin")
+lines=$'claim: 22 bytes\nproof: 38 bytes\ncheck: accept'
+run 'nu of box from its tables' 0 "$lines" "${made[@]}"
+same 'the written claim' "${made[0]}" "$samples/nu-of-box/claim.bin"
+same 'the written proof' "${made[1]}" "$samples/nu-of-box/proof.bin"
+{ cat "$samples/nu-of-box/proof.bin"; head -c 1000 /dev/zero; } >"${made[1]}"
+run 'over a longer file' 0 "$lines" "${made[@]}"
+same 'the proof written over a longer file' "${made[1]}" "$samples/nu-of-box/proof.bin"
+program=loader
+granted 'the written pair' 7 "${made[@]}"
+program=writer
+run 'a claim in a folder that is not there' 2 '' "$scratch/none/claim.bin" "${made[1]}"
+run 'a folder in place of a proof' 2 '' "${made[0]}" "$scratch"
+run 'a claim on a full disk' 2 '' /dev/full "${made[1]}"
+run 'a proof on a full disk' 2 '' "${made[0]}" /dev/full
+run 'no place for the proof' 2 '' "${made[0]}"
+run 'no arguments for the writer' 2 ''
 
 program=caller
 run 'a good pair from Rust' 0 'accept' "${files[@]}"

@@ -1,13 +1,18 @@
-/* Runs the gate's calls over two corpora of records, little-endian:
+/* Runs the gate's calls over three corpora of records, little-endian:
  *   checks  [u32 claim length][claim][u32 proof length][proof][u32 answer]
  *   evals   [u32 claim length][claim][u32 model length][model][u32 answer]
  *           [u32 n][n x u64 word]
+ *   writes  [u32 form][u32 entry count][u32 n][n x entry][u32 n][n x u16 goal count]
+ *           [u32 n][n x u16 member][u32 node count][u32 n][n x node]
+ *           [u32 n][n x u16 root][u32 n][n x u16 code]
+ *           [u64 claim answer][u32 n][claim][u64 proof answer][u32 n][proof]
  * Each file and each lent slice stands in a block of exactly its length, the
  * slices of the least lengths that are allowed, so that a read or write past
  * either end leaves the block and is seen by the tool that watches. What is lent
  * is not filled first: a tool that knows which bytes were set then also sees
  * whether the gate looks at what stood there, and whether it leaves a part of a
- * decoding unwritten. */
+ * decoding unwritten. So it is with the records for the writer beyond their counts:
+ * whoever looks at them looks at what nobody has set. */
 #include <stddef.h>
 #include <stdint.h>
 #include <stdio.h>
@@ -115,14 +120,15 @@ static int drop_file(struct file file)
     return kept;
 }
 
-static void show_answer(const char *call, unsigned long record, uint32_t expected, uint32_t got)
+/* The length of a file that was written has no refusal in its upper half. */
+static void show_answer(const char *call, unsigned long record, uint64_t expected, uint64_t got)
 {
-    printf("%s, record %lu: expected %u at %u, got %u at %u\n", call, record,
+    printf("%s, record %lu: expected %u at %u, got %u at %u (%llx)\n", call, record,
            (unsigned)FOCUS_NUMBER(expected), (unsigned)FOCUS_PLACE(expected),
-           (unsigned)FOCUS_NUMBER(got), (unsigned)FOCUS_PLACE(got));
+           (unsigned)FOCUS_NUMBER(got), (unsigned)FOCUS_PLACE(got), (unsigned long long)got);
 }
 
-static void count(struct tally *tally, const char *call, uint32_t expected, uint32_t got, int kept)
+static void count(struct tally *tally, const char *call, uint64_t expected, uint64_t got, int kept)
 {
     unsigned long record = tally->passed + tally->failed;
     if (got == expected && kept) {
@@ -264,15 +270,233 @@ static struct tally run_evals(const char *path)
     return evaluated;
 }
 
+/* What is given to the writer. The blocks are of the least lengths, the members'
+ * block of just theirs; beyond the counts nothing is set. */
+struct records {
+    size_t entry_count, members_len, node_count;
+    focus_entry *entries;
+    uint16_t *members;
+    focus_node *nodes;
+    uint16_t *codes;
+};
+
+/* What a call must answer and write. */
+struct written {
+    uint64_t answer;
+    const uint8_t *file;
+    size_t length;
+};
+
+static size_t least(size_t one, size_t other)
+{
+    return one < other ? one : other;
+}
+
+/* A list that says nothing to the writer of this version. */
+static void skip_list(struct corpus *corpus)
+{
+    take_bytes(corpus, 2 * (size_t)take_number(corpus, 4));
+}
+
+static focus_entry take_entry(struct corpus *corpus)
+{
+    focus_entry entry;
+    entry.kind = (uint8_t)take_number(corpus, 1);
+    entry.a = (uint16_t)take_number(corpus, 2);
+    entry.b = (uint16_t)take_number(corpus, 2);
+    return entry;
+}
+
+static focus_node take_node(struct corpus *corpus)
+{
+    focus_node node;
+    node.rule = (uint8_t)take_number(corpus, 1);
+    node.principal = (uint16_t)take_number(corpus, 2);
+    node.first = (uint16_t)take_number(corpus, 2);
+    node.second = (uint16_t)take_number(corpus, 2);
+    node.back = (uint16_t)take_number(corpus, 2);
+    node.count = (uint8_t)take_number(corpus, 1);
+    return node;
+}
+
+/* The first of the listed entries, as many as the count says, are set. */
+static void take_entries(struct corpus *corpus, struct records *records)
+{
+    records->entry_count = (size_t)take_number(corpus, 4);
+    records->entries = block(FOCUS_ENTRIES, sizeof *records->entries);
+    size_t listed = (size_t)take_number(corpus, 4);
+    for (size_t i = 0; i < listed; i++) {
+        focus_entry entry = take_entry(corpus);
+        if (i < records->entry_count && i < FOCUS_ENTRIES) {
+            records->entries[i] = entry;
+        }
+    }
+}
+
+static void take_members(struct corpus *corpus, struct records *records)
+{
+    records->members_len = (size_t)take_number(corpus, 4);
+    records->members = block(records->members_len, sizeof *records->members);
+    for (size_t i = 0; i < records->members_len; i++) {
+        records->members[i] = (uint16_t)take_number(corpus, 2);
+    }
+}
+
+/* The nodes likewise; how many codes they have is answered. */
+static size_t take_nodes(struct corpus *corpus, struct records *records)
+{
+    records->node_count = (size_t)take_number(corpus, 4);
+    records->nodes = block(FOCUS_NODES, sizeof *records->nodes);
+    size_t listed = (size_t)take_number(corpus, 4);
+    size_t codes = 0;
+    for (size_t i = 0; i < listed; i++) {
+        focus_node node = take_node(corpus);
+        if (i < records->node_count && i < FOCUS_NODES) {
+            records->nodes[i] = node;
+            codes += node.count;
+        }
+    }
+    return codes;
+}
+
+static void take_codes(struct corpus *corpus, struct records *records, size_t counted_codes)
+{
+    records->codes = block(FOCUS_CODES, sizeof *records->codes);
+    size_t listed = (size_t)take_number(corpus, 4);
+    for (size_t i = 0; i < listed; i++) {
+        uint16_t code = (uint16_t)take_number(corpus, 2);
+        if (i < least(counted_codes, FOCUS_CODES)) {
+            records->codes[i] = code;
+        }
+    }
+}
+
+static struct records take_records(struct corpus *corpus)
+{
+    struct records records;
+    take_number(corpus, 4);
+    take_entries(corpus, &records);
+    skip_list(corpus);
+    take_members(corpus, &records);
+    size_t codes = take_nodes(corpus, &records);
+    skip_list(corpus);
+    take_codes(corpus, &records, codes);
+    return records;
+}
+
+static void drop_records(struct records records)
+{
+    free(records.entries);
+    free(records.members);
+    free(records.nodes);
+    free(records.codes);
+}
+
+static struct written take_written(struct corpus *corpus)
+{
+    struct written written;
+    written.answer = take_number(corpus, 8);
+    written.length = (size_t)take_number(corpus, 4);
+    written.file = take_bytes(corpus, written.length);
+    return written;
+}
+
+enum call { WRITING_CLAIM, WRITING_PROOF };
+
+/* The lengths are those of entries, nodes and codes. */
+static uint64_t lend_and_write(enum call call, const struct records *records,
+                               const size_t *lengths, uint8_t *out, size_t out_len)
+{
+    if (call == WRITING_CLAIM) {
+        return focus_write_claim(records->entries, lengths[0], records->entry_count,
+                                 records->members, records->members_len, out, out_len);
+    }
+    return focus_write_proof(records->entries, lengths[0], records->entry_count, records->members,
+                             records->members_len, records->nodes, lengths[1], records->node_count,
+                             records->codes, lengths[2], out, out_len);
+}
+
+static uint64_t written_refusal(uint32_t number)
+{
+    return ((uint64_t)1 << 32) + ((uint64_t)number << 16);
+}
+
+/* An output block of just the file's length, and one that is a byte shorter: 70. For
+ * a refusal, no output block at all. */
+static void write_one(enum call call, const struct records *records, struct written expected,
+                      struct tally *wrote, struct tally *refused)
+{
+    static const size_t lengths[] = {FOCUS_ENTRIES, FOCUS_NODES, FOCUS_CODES};
+    const char *name = call == WRITING_CLAIM ? "write claim" : "write proof";
+    uint8_t *out = block(expected.length, 1);
+    uint64_t got = lend_and_write(call, records, lengths, out, expected.length);
+    int right = got != expected.answer || expected.length == 0 ||
+                memcmp(out, expected.file, expected.length) == 0;
+    count(wrote, name, expected.answer, got, right);
+    free(out);
+    if (expected.length == 0) {
+        return;
+    }
+    out = block(expected.length - 1, 1);
+    got = lend_and_write(call, records, lengths, out, expected.length - 1);
+    count(refused, name, written_refusal(FOCUS_OUTPUT_SHORT), got, 1);
+    free(out);
+}
+
+static struct tally run_writes(const char *path)
+{
+    struct corpus corpus = read_corpus(path);
+    struct tally wrote = {0, 0};
+    struct tally refused = {0, 0};
+    while (corpus.at < corpus.length) {
+        struct records records = take_records(&corpus);
+        struct written claim = take_written(&corpus);
+        struct written proof = take_written(&corpus);
+        write_one(WRITING_CLAIM, &records, claim, &wrote, &refused);
+        write_one(WRITING_PROOF, &records, proof, &wrote, &refused);
+        drop_records(records);
+    }
+    free(corpus.bytes);
+    printf("write: %lu passed, %lu failed\n", wrote.passed, wrote.failed);
+    printf("write, output a byte short: %lu passed, %lu failed\n", refused.passed, refused.failed);
+    return (struct tally){wrote.passed + refused.passed, wrote.failed + refused.failed};
+}
+
+/* Lengths of entries, nodes and codes of which one at least is too short. */
+static const size_t short_records[][3] = {
+    {FOCUS_ENTRIES - 1, FOCUS_NODES, FOCUS_CODES},
+    {FOCUS_ENTRIES, FOCUS_NODES - 1, FOCUS_CODES},
+    {FOCUS_ENTRIES, FOCUS_NODES, FOCUS_CODES - 1},
+    {0, 0, 0},
+};
+enum { SHORT_RECORDS = sizeof short_records / sizeof short_records[0] };
+
+/* The writer over records of which none is set. */
+static void write_short(struct tally *refused)
+{
+    for (size_t i = 0; i < SHORT_RECORDS; i++) {
+        const size_t *lengths = short_records[i];
+        struct records records = {1, 1, 1, NULL, NULL, NULL, NULL};
+        records.entries = block(lengths[0], sizeof *records.entries);
+        records.members = block(records.members_len, sizeof *records.members);
+        records.nodes = block(lengths[1], sizeof *records.nodes);
+        records.codes = block(lengths[2], sizeof *records.codes);
+        uint8_t *out = block(FOCUS_PROOF_BYTES, 1);
+        uint64_t expected = written_refusal(FOCUS_SHORT_SLICE);
+        uint64_t got = lend_and_write(WRITING_PROOF, &records, lengths, out, FOCUS_PROOF_BYTES);
+        count(refused, "write proof, short", expected, got, 1);
+        if (lengths[0] < FOCUS_ENTRIES) {
+            got = lend_and_write(WRITING_CLAIM, &records, lengths, out, FOCUS_PROOF_BYTES);
+            count(refused, "write claim, short", expected, got, 1);
+        }
+        free(out);
+        drop_records(records);
+    }
+}
+
 /* Slices that are too short, none at all included: nothing may be touched. */
 static struct tally run_short(const char *checks, const char *evals)
 {
-    static const size_t records[][3] = {
-        {FOCUS_ENTRIES - 1, FOCUS_NODES, FOCUS_CODES},
-        {FOCUS_ENTRIES, FOCUS_NODES - 1, FOCUS_CODES},
-        {FOCUS_ENTRIES, FOCUS_NODES, FOCUS_CODES - 1},
-        {0, 0, 0},
-    };
     static const size_t meanings[][2] = {
         {FOCUS_ENTRIES - 1, FOCUS_WORDS},
         {FOCUS_ENTRIES, FOCUS_WORDS - 1},
@@ -283,8 +507,8 @@ static struct tally run_short(const char *checks, const char *evals)
     struct file claim = take_file(&corpus);
     struct file proof = take_file(&corpus);
     uint32_t expected = (uint32_t)FOCUS_SHORT_SLICE << 16;
-    for (size_t i = 0; i < sizeof records / sizeof records[0]; i++) {
-        const size_t *lengths = records[i];
+    for (size_t i = 0; i < SHORT_RECORDS; i++) {
+        const size_t *lengths = short_records[i];
         focus_gate gate = {FOCUS_PHASE_OPEN, 9};
         uint32_t got = lend_and_present(&gate, 7, claim, proof, lengths[0], lengths[1], lengths[2]);
         count(&refused, "present, short", expected, got, holds(&gate, FOCUS_PHASE_OPEN, 9));
@@ -309,19 +533,21 @@ static struct tally run_short(const char *checks, const char *evals)
     drop_file(claim);
     drop_file(model);
     free(corpus.bytes);
+    write_short(&refused);
     printf("short slices: %lu passed, %lu failed\n", refused.passed, refused.failed);
     return refused;
 }
 
 int main(int arguments_count, char **arguments)
 {
-    if (arguments_count != 3) {
-        fprintf(stderr, "usage: driver CHECKS EVALS\n");
+    if (arguments_count != 4) {
+        fprintf(stderr, "usage: driver CHECKS EVALS WRITES\n");
         return 2;
     }
     struct tally all[] = {
         run_checks(arguments[1]),
         run_evals(arguments[2]),
+        run_writes(arguments[3]),
         run_short(arguments[1], arguments[2]),
     };
     /* Printing the sum is what makes it depend on every byte that was left. */
