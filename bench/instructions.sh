@@ -11,13 +11,24 @@ counted() {
         sed -n 's/.*Collected *: *//p'
 }
 
-printf '%-16s %10s %10s %10s\n' instructions check present reference
-for case in 'small proof' 'early refusal'; do
-    printf '%-16s' "$case"
-    for call in check present reference; do
+# row CASE CALL...: the instructions of each call on that case
+row() {
+    local case=$1 call few many
+    shift
+    printf '%-20s' "$case"
+    for call in "$@"; do
         few=$(counted "$call" "$case" 1000)
         many=$(counted "$call" "$case" 3000)
         printf ' %10d' $(((many - few) / 2000))
     done
     echo
+}
+
+printf '%-20s %10s %10s %10s\n' instructions check present reference
+for case in 'small proof' 'early refusal'; do
+    row "$case" check present reference
+done
+printf '%-20s %10s %10s\n' instructions write reference
+for case in 'write a small claim' 'write a small proof'; do
+    row "$case" write 'reference write'
 done

@@ -9,14 +9,16 @@ mod growth;
 mod size;
 mod stack;
 mod timing;
+mod writings;
 
 use cases::Case;
 use evaluations::Evaluation;
-use gate_tests::lent::{Lent, LentWords, Slices};
-use gate_tests::Gate;
+use gate_tests::lent::{Lengths, Lent, LentRecords, LentWords, RecordSlices, Slices, PROOF_BYTES};
+use gate_tests::{Gate, Records};
 use reference::Refusal;
 use std::hint::black_box;
 use timing::Row;
+use writings::{Call, Writing};
 
 fn main() {
     let arguments: Vec<String> = std::env::args().skip(1).collect();
@@ -39,6 +41,10 @@ fn print_all() {
     head("evaluate");
     for case in evaluations::all() {
         println!("{:<34} {}", case.name, evaluated(&case));
+    }
+    head("write");
+    for case in writings::all() {
+        println!("{:<34} {}", case.name, written(&case));
     }
     for family in cases::growing() {
         head(&format!("growth, {}", family.name));
@@ -105,6 +111,36 @@ fn evaluated(case: &Evaluation) -> Row {
     )
 }
 
+fn write(call: Call, slices: &mut RecordSlices) -> u64 {
+    match call {
+        Call::Claim => gate_tests::write_claim(slices),
+        Call::Proof => gate_tests::write_proof(slices),
+    }
+}
+
+fn write_by_reference(case: &Writing, out: &mut [u8]) -> u64 {
+    let (claim, proof) = (case.records.claim(), case.records.proof());
+    reference::written(match case.call {
+        Call::Claim => reference::write_claim(claim, out),
+        Call::Proof => reference::write_proof(claim, proof, out),
+    })
+}
+
+/// The bytes are compared once, before any time is taken.
+fn written(case: &Writing) -> Row {
+    let records = Records::from(&case.records);
+    let mut lent = LentRecords::default();
+    let mut slices = lent.lend(&records, Lengths::of(&records));
+    let mut out = vec![0; PROOF_BYTES];
+    let length = write(case.call, &mut slices) as usize;
+    assert_eq!(write_by_reference(case, &mut out), length as u64);
+    assert_eq!(slices.out[..length], out[..length], "{}", case.name);
+    timing::side_by_side(
+        || write(case.call, &mut slices),
+        || write_by_reference(case, &mut out),
+    )
+}
+
 fn stacks() {
     for case in cases::checks() {
         let bytes = stack::deepest(|| {
@@ -127,6 +163,15 @@ fn stacks() {
         });
         print_stack("evaluate", &case.name, bytes);
     }
+    let mut lent = LentRecords::default();
+    for case in writings::all() {
+        let records = Records::from(&case.records);
+        let mut slices = lent.lend(&records, Lengths::of(&records));
+        let bytes = stack::deepest(|| {
+            write(case.call, &mut slices);
+        });
+        print_stack("write", case.name, bytes);
+    }
 }
 
 fn print_stack(call: &str, name: &str, bytes: usize) {
@@ -134,6 +179,13 @@ fn print_stack(call: &str, name: &str, bytes: usize) {
 }
 
 fn repeat(call: &str, name: &str, times: usize) {
+    match call {
+        "write" | "reference write" => repeat_write(call, name, times),
+        _ => repeat_check(call, name, times),
+    }
+}
+
+fn repeat_check(call: &str, name: &str, times: usize) {
     let cases = cases::checks();
     let case = cases.iter().find(|case| case.name == name);
     let case = case.expect("a case of check");
@@ -145,6 +197,22 @@ fn repeat(call: &str, name: &str, times: usize) {
             "present" => present(case, &mut slices),
             "reference" => reference::check(&case.claim, &case.proof),
             _ => panic!("no such call"),
+        });
+    }
+}
+
+fn repeat_write(call: &str, name: &str, times: usize) {
+    let cases = writings::all();
+    let case = cases.iter().find(|case| case.name == name);
+    let case = case.expect("a case of write");
+    let records = Records::from(&case.records);
+    let mut lent = LentRecords::default();
+    let mut slices = lent.lend(&records, Lengths::of(&records));
+    let mut out = vec![0; PROOF_BYTES];
+    for _ in 0..times {
+        black_box(match call {
+            "write" => write(case.call, &mut slices),
+            _ => write_by_reference(case, &mut out),
         });
     }
 }

@@ -5,6 +5,7 @@ pub mod decode;
 pub mod hard;
 pub mod lent;
 pub mod random;
+pub mod tables;
 pub mod vectors;
 
 use lent::{Lent, LentWords, RecordSlices, Slices};

@@ -3,11 +3,12 @@
 
 use gate_tests::decode::{self, Decoding};
 use gate_tests::lent::{Canary, Lengths, Lent, LentRecords, LentWords, CODES, ENTRIES, NODES};
+use gate_tests::tables::{self, nu_of_box, sized};
 use gate_tests::{check, evaluate, present, setting, vectors, write_claim, write_proof};
 use gate_tests::{Entry, Gate, Node, Records};
 use reference::corpus::WriteRecord;
 use reference::generate::{self, Tally};
-use reference::{describe, Decoded, EntryRecord, Kind, NodeRecord, Refusal, Rule, Written};
+use reference::{describe, NodeRecord, Refusal, Written};
 use Call::{WritingClaim, WritingProof};
 
 #[derive(Clone, Copy, Debug, PartialEq, Eq)]
@@ -309,23 +310,9 @@ impl Readers {
 
 fn assert_reference_gives_back(records: &Records, claim: &[u8], proof: &[u8], what: &str) {
     let read = reference::judge(claim, proof).decoded;
-    let read = given(&read.expect("what is written is well formed"));
+    let read = tables::read(&read.expect("what is written is well formed"));
     assert_eq!(counted(&Records::from(&read)), counted(records), "{what}");
     assert_eq!(read.members, records.members, "{what}");
-}
-
-/// The records that the reference has read.
-fn given(Decoded { claim, proof }: &Decoded) -> reference::Records {
-    let entries = claim.entries.iter().copied();
-    let nodes = proof.nodes.iter().copied();
-    reference::Records {
-        entries: entries.map(EntryRecord::from).collect(),
-        entry_count: claim.entries.len(),
-        members: claim.members.clone(),
-        nodes: nodes.map(NodeRecord::from).collect(),
-        node_count: proof.nodes.len(),
-        codes: proof.codes.clone(),
-    }
 }
 
 #[test]
@@ -405,45 +392,6 @@ fn records_of_files_give_the_bytes_back() {
     println!("gate: records of {files} files written again, {accepted} of them accepted");
 }
 
-/// The sample that document 01 begins with.
-fn nu_of_box() -> reference::Records {
-    let claim = include_bytes!("../../../examples/nu-of-box/claim.bin");
-    let proof = include_bytes!("../../../examples/nu-of-box/proof.bin");
-    let read = reference::judge(claim, proof).decoded;
-    filled_up(given(&read.expect("a good pair")))
-}
-
-/// Slices of the least lengths, with records beyond the given ones that would
-/// spoil any file.
-fn filled_up(mut records: reference::Records) -> reference::Records {
-    let entry = entry_record(0xff, [0xfffe, 0xfffd]);
-    let node = node_record(0xff, [0xfffc; 4], 0xfe);
-    let length = |given: usize, least: usize| given.max(least);
-    let entries = length(records.entries.len(), ENTRIES);
-    let nodes = length(records.nodes.len(), NODES);
-    let codes = length(records.codes.len(), CODES);
-    records.entries.resize(entries, entry);
-    records.nodes.resize(nodes, node);
-    records.codes.resize(codes, 0xfffb);
-    records
-}
-
-fn entry_record(kind: u8, [a, b]: [u16; 2]) -> EntryRecord {
-    EntryRecord { kind, a, b }
-}
-
-fn node_record(rule: u8, fields: [u16; 4], count: u8) -> NodeRecord {
-    let [principal, first, second, back] = fields;
-    NodeRecord {
-        rule,
-        principal,
-        first,
-        second,
-        back,
-        count,
-    }
-}
-
 /// The gate does what the reference does; answers what that is.
 fn alike(records: &reference::Records, lent: &mut LentRecords, what: &str) -> [String; 2] {
     let case = Case {
@@ -464,7 +412,7 @@ fn every_kind_and_rule_with_every_field_agrees() {
     for kind in 0..=255 {
         for bits in 0..4 {
             let mut records = nu_of_box();
-            records.entries[1] = entry_record(kind, [0, 1].map(|at| bit(bits, at)));
+            records.entries[1] = tables::entry(kind, [0, 1].map(|at| bit(bits, at)));
             let what = format!("kind {kind}, fields {bits}");
             let [claim, _] = alike(&records, &mut lent, &what);
             claims += u64::from(claim != "refuse 13 at 10");
@@ -474,7 +422,7 @@ fn every_kind_and_rule_with_every_field_agrees() {
         for bits in 0..32 {
             let mut records = nu_of_box();
             let fields = [0, 1, 2, 3].map(|at| bit(bits, at));
-            records.nodes[0] = node_record(rule, fields, bit(bits, 4) as u8);
+            records.nodes[0] = tables::node(rule, fields, bit(bits, 4) as u8);
             let what = format!("rule {rule}, fields {bits}");
             let [_, proof] = alike(&records, &mut lent, &what);
             proofs += u64::from(proof != "refuse 33 at 6");
@@ -573,42 +521,6 @@ fn a_count_one_lower_or_higher() {
     assert_eq!(answers(3, 3), ["22 bytes", "refuse 35 at 2"]);
     assert_eq!(answers(3, 5), ["22 bytes", "refuse 33 at 38"]);
     assert_eq!(answers(4, 5), ["refuse 13 at 18", "refuse 13 at 18"]);
-}
-
-/// Letter 31, then disjunctions of it: no entry below entry 0 could be an operand,
-/// so that no claim is longer than one of these with 24 members.
-fn disjunctions(count: usize) -> Vec<EntryRecord> {
-    let mut entries = vec![entry_record(Kind::Letter as u8, [31, 0])];
-    entries.resize(count, entry_record(Kind::Or as u8, [0, 0]));
-    entries
-}
-
-/// One path of W, with a back leaf at its end; the tree leaves no proof of so many
-/// nodes and codes longer.
-fn path(count: usize, codes: usize) -> (Vec<NodeRecord>, Vec<u16>) {
-    let w = |child| node_record(Rule::W as u8, [9, child, 0, 0], codes as u8);
-    let mut nodes: Vec<NodeRecord> = (1..count as u16).map(w).collect();
-    nodes.push(node_record(
-        Rule::Back as u8,
-        [0, 0, 0, 65_535],
-        codes as u8,
-    ));
-    let last: Vec<u16> = (512 - codes as u16..512).collect();
-    (nodes, last.repeat(count))
-}
-
-/// So many entries, members, nodes and codes of each node.
-fn sized(entries: usize, members: usize, nodes: usize, codes: usize) -> reference::Records {
-    let (nodes, codes) = path(nodes, codes);
-    let last = 256 - members as u16;
-    filled_up(reference::Records {
-        entries: disjunctions(entries),
-        entry_count: entries,
-        members: (last..256).collect(),
-        node_count: nodes.len(),
-        nodes,
-        codes,
-    })
 }
 
 /// Each count at its limit, and one beyond.
