@@ -114,7 +114,7 @@ fn change(rng: &mut Rng, records: &mut Records) {
     }
 }
 
-/// "any number is judged, none is cut": what is beyond 16 or 32 bits counts.
+/// Some with the lowest bits of the count as it was.
 fn other_count(rng: &mut Rng, count: usize) -> usize {
     let shift = rng.between(8, usize::BITS as usize - 1);
     match rng.below(8) {

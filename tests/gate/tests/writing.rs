@@ -33,6 +33,15 @@ impl Case {
         }
     }
 
+    /// Records with the reference's opinion of them.
+    fn judged(records: &reference::Records) -> Case {
+        Case {
+            records: Records::from(records),
+            claim: records.write_claim(),
+            proof: records.write_proof(),
+        }
+    }
+
     fn calls(&self) -> [(Call, &Written); 2] {
         [(WritingClaim, &self.claim), (WritingProof, &self.proof)]
     }
@@ -153,30 +162,35 @@ fn a_short_slice_earns_1_and_nothing_is_written() {
 }
 
 /// An output slice as long as the file is enough; "70, the output slice is shorter
-/// than the file, judged after the records, with place 0".
+/// than the file, judged after the records, with place 0". Answers how many were
+/// too short.
+fn assert_outputs(case: &Case, lent: &mut LentRecords, what: &str) -> u64 {
+    let full = Lengths::of(&case.records);
+    let mut short = 0;
+    for (call, expected) in case.calls() {
+        let mut assert_in = |out: usize, expected: &Written| {
+            let given = (&case.records, Lengths { out, ..full });
+            assert_written(call, given, expected, lent, what);
+        };
+        let Ok(file) = expected else {
+            assert_in(0, expected);
+            continue;
+        };
+        assert_in(file.len(), expected);
+        for out in [file.len() - 1, file.len() / 2, 0] {
+            assert_in(out, &refused(70, 0));
+            short += 1;
+        }
+    }
+    short
+}
+
 #[test]
 fn a_short_output_earns_70_after_all_else() {
     let mut lent = LentRecords::default();
     let mut short = 0;
     for (index, case) in cases().iter().enumerate() {
-        let what = format!("write record {index}");
-        let full = Lengths::of(&case.records);
-        for (call, expected) in case.calls() {
-            let mut assert_in = |out: usize, expected: &Written| {
-                let given = (&case.records, Lengths { out, ..full });
-                assert_written(call, given, expected, &mut lent, &what);
-            };
-            let Ok(file) = expected else {
-                assert_in(0, expected);
-                continue;
-            };
-            assert_in(file.len(), expected);
-            assert_in(file.len() + 1, expected);
-            for out in [file.len() - 1, file.len() / 2, 1, 0] {
-                assert_in(out, &refused(70, 0));
-                short += 1;
-            }
-        }
+        short += assert_outputs(case, &mut lent, &format!("write record {index}"));
     }
     assert!(short > 2000, "only {short} output slices were too short");
 }
@@ -340,6 +354,7 @@ fn generated_records_are_written_alike() {
         let what = format!("generated records {index}");
         let case = Case::new(record);
         assert_both(&case, Lengths::of(&case.records), &mut lent, &what);
+        assert_outputs(&case, &mut lent, &what);
         both += u64::from(readers.assert_give_back(&case, &what));
         answers.push(case.proof.map_or_else(Refusal::packed, |_| 0));
     }
@@ -394,11 +409,7 @@ fn records_of_files_give_the_bytes_back() {
 
 /// The gate does what the reference does; answers what that is.
 fn alike(records: &reference::Records, lent: &mut LentRecords, what: &str) -> [String; 2] {
-    let case = Case {
-        records: Records::from(records),
-        claim: records.write_claim(),
-        proof: records.write_proof(),
-    };
+    let case = Case::judged(records);
     assert_both(&case, Lengths::of(&case.records), lent, what);
     [&case.claim, &case.proof].map(|written| shown(answer(written)))
 }
@@ -480,7 +491,7 @@ fn every_count_and_large_fields_agree() {
     }
 }
 
-/// "Counts are ... any number is judged, none is cut".
+/// A count is judged as the number it is, not by its lowest bits.
 #[test]
 fn counts_of_any_size() {
     let mut lent = LentRecords::default();
@@ -545,24 +556,11 @@ fn limits() {
     assert_eq!(last[1], "refuse 34 at 56322");
 }
 
-/// The longest files again, in output slices of just their lengths and one byte
-/// shorter.
+/// The longest files again, in output slices of just their lengths and shorter ones.
 #[test]
 fn the_longest_files_just_fit() {
-    let records = sized(256, 24, 1024, 24);
-    let case = Case {
-        records: Records::from(&records),
-        claim: records.write_claim(),
-        proof: records.write_proof(),
-    };
+    let case = Case::judged(&sized(256, 24, 1024, 24));
     let mut lent = LentRecords::default();
-    let full = Lengths::of(&case.records);
-    for (call, expected) in case.calls() {
-        let length = expected.as_ref().expect("a file").len();
-        for (out, expected) in [(length, expected), (length - 1, &refused(70, 0))] {
-            let given = (&case.records, Lengths { out, ..full });
-            assert_written(call, given, expected, &mut lent, "the longest files");
-        }
-    }
+    assert_eq!(assert_outputs(&case, &mut lent, "the longest files"), 6);
     assert!(Readers::new().assert_give_back(&case, "the longest files"));
 }
