@@ -171,7 +171,9 @@ fn change_members(rng: &mut Rng, members: &mut Vec<u16>) {
         1 => members.resize(rng.between(23, 26), 300),
         2 => *members = (0..rng.between(23, 26) as u16).collect(),
         // One that a count of 16 bits would take for the length it was.
-        3 if rng.chance(1, 4) => members.resize(members.len() + 65_536, 0),
+        3 if members.len() < 65_536 && rng.chance(1, 4) => {
+            members.resize(members.len() + 65_536, 0)
+        }
         4 => members.insert(at, rng.below(40) as u16),
         5 => members.reverse(),
         6 => members.truncate(at),
