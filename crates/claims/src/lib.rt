@@ -27,7 +27,7 @@ mod number; // number.rt: two-byte numbers at a place of a file
 pub const CLAIM_OPENING: [u8; 4] = *b"CLM1";
 
 // What the bytes of a claim earn.
-struct ClaimFault;
+pub struct ClaimFault;
 
 impl ClaimFault {
     pub const OPENING: u16 = 10;

@@ -19,7 +19,7 @@ use Rattle.formula.specs.Plain.{plainEntry, tableOf}
 use Rattle.encoding.specs.Encode.{encodeTwo, encodePart, encodeField, encodeAll}
 use Rattle.claims.specs.ClaimFile.{claimOpening, encodeEntry, encodeClaim}
 use Rattle.proofs.specs.ProofFile.{proofOpening, encodeCodes, full, encodeNode, encodeProof}
-use Rattle.writing.specs.Held.{plainRecord, recordsOf}
+use Rattle.writing.specs.Held.{plainRecord, recordsOf, NodesGiven}
 use Rattle.writing.specs.FieldEnds.{numbers-long}
 use Rattle.writing.specs.ProofEnds.{nodesOver}
 
@@ -131,13 +131,9 @@ proofOf rs ls ns cs n = record { nodes = nodesOver (recordsOf rs ls ns n) cs }
 abbrev pub FewCodes : List ℕ → ℕ → Type 0
 FewCodes ns n = (v : ℕ) → v < n → getD ns v 0 ≤ 24
 
--- columns of n nodes, and codes enough for them
+-- nodes that can be laid down: given, and none with more than 24 codes
 pub record NodeRoom (rs ls ns cs : List ℕ) (n : ℕ) : Type 0 where
-  pub most : n ≤ 1024
-  pub rules : n ≤ length rs
-  pub links : 4 * n ≤ length ls
-  pub counts : n ≤ length ns
-  pub codes : 24 * n ≤ length cs
+  pub given : NodesGiven rs ls ns cs n
   pub few : FewCodes ns n
 
 module _ (rs ls ns cs : List ℕ) where

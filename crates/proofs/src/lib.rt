@@ -21,7 +21,7 @@ use verdict::Verdict;
 pub const PROOF_OPENING: [u8; 4] = *b"PRF1";
 
 // What the bytes of a proof earn.
-struct ProofFault;
+pub struct ProofFault;
 
 impl ProofFault {
     pub const OPENING: u16 = 30;

@@ -20,21 +20,16 @@ use Rattle.nodes.specs.ProofStored.{NodesStored}
 use Rattle.calculus.specs.Judge.{judge}
 use Rattle.rules.specs.JudgeStages.{Laid}
 use Rattle.records.specs.Records.{shownNode, shownNodes, firstNodes, nodesOf, NodeRoom, CountsFit, startColumn, ruleColumn, linkColumn, total, NodesLoaded}
-use Rattle.records.specs.Shown.{map-written, nodes-shown, loaded-proof, total-codes}
+use Rattle.records.specs.Shown.{map-take, map-written, nodes-shown, loaded-proof, total-codes}
 use Rattle.records.specs.declared.Node.{Node}
 use Rattle.laid.specs.Readable.{Readable, proofAt, laid, laid-judged, stored-same, stored-starts}
 use Rattle.standing.specs.Standing.{ProofStored, JudgedStored}
 
 -- ---- lists of records
 module _ {A B : Type 0} (f : A → B) where
-  map-take : (n : ℕ) (l : List A) → map f (take n l) ≡ take n (map f l)
-  map-take zero l = refl
-  map-take (suc n) [] = refl
-  map-take (suc n) (x ∷ l) = ap (λ (r : List B). f x ∷ r) (map-take n l)
-
   -- where the first n of a slice were written, they show what was written
   pub first-shown : (l : List A) (new old : List B) (n : ℕ) → map f l ≡ written new old → n ≡ length new → map f (take n l) ≡ new
-  first-shown l new old n e many = map-take n l ∙ ap (take n) e ∙ take-at new (drop (length new) old) n (sym many)
+  first-shown l new old n e many = map-take f n l ∙ ap (take n) e ∙ take-at new (drop (length new) old) n (sym many)
 
 -- what is written is no shorter than what was there
 pub no-shorter : {A : Type 0} (new old : List A) → length old ≤ length (written new old)

@@ -2,7 +2,7 @@
 use mathlib.Core.Path.{_≡_}
 use mathlib.Core.List.{List}
 use Prim.Native.Nat.{ℕ, _+_, _*_, _≤_}
-use lib.ListN.{length, getD}
+use lib.ListN.{getD}
 use Rattle.formula.specs.Records.{NodeRecord}
 use Rattle.writing.specs.Ends.{End, next, stop}
 use Rattle.vetting.specs.declared.Step.{Step}
@@ -27,11 +27,3 @@ recordAt r ls v n = record {
   back = getD ls (4 * v + 3) 0;
   count = n;
 }
-
--- columns of m nodes, and codes enough for them
-pub record NodesGiven (rs ls ns cs : List ℕ) (m : ℕ) : Type 0 where
-  pub most : m ≤ 1024
-  pub rules : m ≤ length rs
-  pub links : 4 * m ≤ length ls
-  pub counts : m ≤ length ns
-  pub codes : 24 * m ≤ length cs

@@ -14,14 +14,16 @@ ghost use Rattle.writing.specs.Ends as ends;
 ghost use Rattle.writing.specs.FieldEnds.{mayHold, risingEnd};
 ghost use Rattle.writing.specs.ClaimEnds.{entryFits, entryWidth, entriesEnd, membersEnd, listedEnd, claimEnd};
 ghost use Rattle.writing.specs.ProofEnds.{linksHeld, sequentEnd, nodesEnd};
-ghost use Rattle.writing.specs.Held.{recordsOf};
-ghost use Rattle.vetting.specs.Steps.{shownStep, Finds, recordAt, NodesGiven};
+ghost use Rattle.writing.specs.Held.{recordsOf, NodesGiven};
+ghost use Rattle.vetting.specs.Steps.{shownStep, Finds, recordAt};
 ghost use Rattle.writing.specs.Encoded.{claimJudged, proofJudged};
 use bits::wide;
+use claims::ClaimFault;
 use claims::may_follow;
 use conditions::judge;
 use formula::Kind;
 use formula::Rule;
+use proofs::ProofFault;
 use proofs::is_code;
 use tree::fill_owners;
 use verdict::Verdict;
@@ -32,6 +34,7 @@ pub enum Step {
     Stop { number: u16, place: u16 },
 }
 
+// A refusal at a place of the file.
 fn stop(number: u16, place: usize) -> Step
     requires { ⌜ place < 65536 ⌝ }
     ensures { λ r. ⌜ shownStep r ≡ ends.stop number place ⌝ }
@@ -75,6 +78,7 @@ fn entry_width(kind: u8) -> usize
     2
 }
 
+// From the place after the count on: an unfit entry is refused where its map would stand.
 fn judge_entries(kinds: &[u8; 256], a: &[u16; 256], b: &[u16; 256], count: usize) -> Step
     requires { ⌜ count ≤ 256 ⌝ }
     ensures { λ r. ⌜ Finds (entriesEnd (tableOf (now (kinds .entry)) (now (a .entry)) (now (b .entry)) count) 6) 1542 r ⌝ }
@@ -84,7 +88,7 @@ fn judge_entries(kinds: &[u8; 256], a: &[u16; 256], b: &[u16; 256], count: usize
     while i < count {
         let kind = kinds[i];
         if !entry_fits(kind, a[i], b[i]) {
-            return stop(13, at);
+            return stop(ClaimFault::KIND, at);
         }
         at += entry_width(kind);
         i += 1;
@@ -92,6 +96,7 @@ fn judge_entries(kinds: &[u8; 256], a: &[u16; 256], b: &[u16; 256], count: usize
     Step::Next(at)
 }
 
+// Members rise strictly, lie in range and are no names.
 fn judge_members(kinds: &[u8; 256], count: usize, members: &[u16], at: usize) -> Step
     requires { ⌜ (count ≤ 256) × (length (now members) ≤ 24) × (at ≤ 1544) ⌝ }
     ensures { λ r. ⌜ Finds (membersEnd (kindTable (now (kinds .entry)) count) (now (members .entry)) at) 1592 r ⌝ }
@@ -101,7 +106,7 @@ fn judge_members(kinds: &[u8; 256], count: usize, members: &[u16], at: usize) ->
     while i < members.len() {
         let member = wide(members[i]);
         if !may_follow(kinds, count, floor, member) {
-            return stop(14, at + 2 * i);
+            return stop(ClaimFault::MEMBER, at + 2 * i);
         }
         floor = member + 1;
         i += 1;
@@ -109,19 +114,21 @@ fn judge_members(kinds: &[u8; 256], count: usize, members: &[u16], at: usize) ->
     Step::Next(at + 2 * members.len())
 }
 
+// The member count (1 to 24), then the members.
 fn judge_listed(kinds: &[u8; 256], count: usize, members: &[u16], at: usize) -> Step
     requires { ⌜ (count ≤ 256) × (at ≤ 1542) ⌝ }
     ensures { λ r. ⌜ Finds (listedEnd (kindTable (now (kinds .entry)) count) (now (members .entry)) at) 1592 r ⌝ }
 {
     if members.len() < 1 {
-        return stop(12, at);
+        return stop(ClaimFault::COUNT, at);
     }
     if 24 < members.len() {
-        return stop(12, at);
+        return stop(ClaimFault::COUNT, at);
     }
     judge_members(kinds, count, members, at + 2)
 }
 
+// What the bytes of a claim would earn: its entry count (1 to 256), the entries, the members.
 fn judge_claim_bytes(
     kinds: &[u8; 256],
     a: &[u16; 256],
@@ -132,10 +139,10 @@ fn judge_claim_bytes(
     ensures { λ r. ⌜ Finds (claimEnd count (tableOf (now (kinds .entry)) (now (a .entry)) (now (b .entry)) count) (now (members .entry))) 1592 r ⌝ }
 {
     if count < 1 {
-        return stop(12, 4);
+        return stop(ClaimFault::COUNT, 4);
     }
     if 256 < count {
-        return stop(12, 4);
+        return stop(ClaimFault::COUNT, 4);
     }
     match judge_entries(kinds, a, b, count) {
         Step::Stop { number, place } => Step::Stop { number, place },
@@ -143,6 +150,7 @@ fn judge_claim_bytes(
     }
 }
 
+// A claim's records: 12 to 14, then 20 to 23 over the table.
 pub fn judge_claim(
     kinds: &[u8; 256],
     a: &[u16; 256],
@@ -163,6 +171,7 @@ pub fn judge_claim(
     }
 }
 
+// 0 in the fields that the rule lacks.
 fn links_fit(rule: u8, links: &[u16], v: usize) -> bool
     requires { ⌜ 4 * v + 4 ≤ length (now links) ⌝ }
     ensures { λ r. ⌜ r ≡ linksHeld (recordAt rule (now (links .entry)) v 0) ⌝ }
@@ -179,6 +188,7 @@ fn links_fit(rule: u8, links: &[u16], v: usize) -> bool
     may_hold(Rule::has_back(rule), links[4 * v + 3])
 }
 
+// Codes rise strictly; the entry of each lies in range and is no name.
 fn judge_codes(
     kinds: &[u8; 256],
     entries: usize,
@@ -196,10 +206,10 @@ fn judge_codes(
         let code = codes[start + i];
         let number = wide(code);
         if number < least {
-            return stop(34, at + 2 * i);
+            return stop(ProofFault::CODE, at + 2 * i);
         }
         if !is_code(kinds, entries, code) {
-            return stop(34, at + 2 * i);
+            return stop(ProofFault::CODE, at + 2 * i);
         }
         least = number + 1;
         i += 1;
@@ -207,6 +217,7 @@ fn judge_codes(
     Step::Next(at + 2 * count)
 }
 
+// The code count (at most 24) and its codes; without codes nothing stands there.
 fn judge_sequent(
     kinds: &[u8; 256],
     entries: usize,
@@ -222,11 +233,13 @@ fn judge_sequent(
         return Step::Next(at);
     }
     if 24 < count {
-        return stop(32, at);
+        return stop(ProofFault::COUNT, at);
     }
     judge_codes(kinds, entries, codes, start, count, at + 1)
 }
 
+// From the place after the count on: an unfit node is refused where its map would stand. A node's codes follow those of the nodes before
+// it; a count is added up only once it is known to be at most 24.
 fn judge_nodes(
     kinds: &[u8; 256],
     entries: usize,
@@ -246,10 +259,10 @@ fn judge_nodes(
     while v < nodes {
         let rule = rules[v];
         if Rule::BACK < rule {
-            return stop(33, at);
+            return stop(ProofFault::RULE, at);
         }
         if !links_fit(rule, links, v) {
-            return stop(33, at);
+            return stop(ProofFault::RULE, at);
         }
         let count = counts[v] as usize;
         let next = at + 2 + Rule::link_width(rule) as usize;
@@ -263,6 +276,7 @@ fn judge_nodes(
     Step::Next(at)
 }
 
+// 35, in a table of owners of its own.
 fn judge_tree(rules: &[u8], links: &[u16], nodes: usize) -> Verdict
     requires { ⌜ (1 ≤ nodes) × (nodes ≤ 1024) × (nodes ≤ length (now rules)) × (4 * nodes ≤ length (now links)) ⌝ }
     ensures { λ r. ⌜ ((ss cs : List ℕ) → shown r ≡ tree-judged (proofOf (now (rules .entry)) (now (links .entry)) ss cs nodes)) ⌝ }
@@ -271,6 +285,7 @@ fn judge_tree(rules: &[u8], links: &[u16], nodes: usize) -> Verdict
     fill_owners(rules, links, nodes, &mut owners)
 }
 
+// A proof's records over a claim whose records have passed: 32 to 34, then 35.
 pub fn judge_proof(
     kinds: &[u8; 256],
     entries: usize,
@@ -285,10 +300,10 @@ pub fn judge_proof(
         (now (counts .entry)) nodes) (now (codes .entry))) 58374 r ⌝ }
 {
     if nodes < 1 {
-        return stop(32, 4);
+        return stop(ProofFault::COUNT, 4);
     }
     if 1024 < nodes {
-        return stop(32, 4);
+        return stop(ProofFault::COUNT, 4);
     }
     match judge_nodes(kinds, entries, rules, links, counts, codes, nodes) {
         Step::Stop { number, place } => Step::Stop { number, place },

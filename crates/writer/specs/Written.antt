@@ -22,9 +22,8 @@ use Rattle.writing.specs.Ends.{End, next, stop}
 use Rattle.writing.specs.ProofEnds.{nodesOver}
 use Rattle.writing.specs.Encoded.{claimJudged, proofJudged}
 use Rattle.writing.specs.Promises.{WriteClaim, write-claim, WriteProof, write-proof}
-use Rattle.writing.specs.Held.{plainRecord, recordsOf, ColumnsFor, ClaimWritten, ProofWritten}
+use Rattle.writing.specs.Held.{plainRecord, recordsOf, ColumnsFor, ClaimWritten, ProofWritten, NodesGiven}
 use Rattle.laying.specs.Laying.{NodeRoom}
-use Rattle.vetting.specs.Steps.{NodesGiven}
 use Rattle.writing.specs.Answers.{answered, claim-short, claim-answers, proof-short, claim-stops-proof, proof-answers}
 
 -- the number answered and the output slice afterwards, for a file or a refusal
@@ -97,11 +96,4 @@ few-each rs ls ns e (suc k) (more f fs) zero h = let z : e + 0 ≡ e = omega ari
 few-each rs ls ns e (suc k) (more f fs) (suc i) h = let z : e + suc i ≡ suc e + i = omega arith in rw z (few-each rs ls ns (suc e) k fs i (omega arith))
 
 pub node-room : (rs ls ns cs : List ℕ) (m : ℕ) → NodesGiven rs ls ns cs m → Each (λ v. v .count ≤ 24) (recordsOf rs ls ns m) → NodeRoom rs ls ns cs m
-node-room rs ls ns cs m g f = record {
-  most = g .most;
-  rules = g .rules;
-  links = g .links;
-  counts = g .counts;
-  codes = g .codes;
-  few = λ v h. let z : v ≡ 0 + v = omega arith in rw z (few-each rs ls ns 0 m f v h);
-}
+node-room rs ls ns cs m g f = record { given = g; few = λ v h. let z : v ≡ 0 + v = omega arith in rw z (few-each rs ls ns 0 m f v h) }

@@ -81,7 +81,8 @@ module _ {A B : Type 0} (p : ℕ → Parser B) (set-read : ℕ → B → ℕ) (b
       onto (next o) = refl
       onto (stop n q) = refl
 
-      go : ((o : ℕ) → times p set-read (length l) (set c x) (encodeAll bytes l ++ rest) o ≡ gotBy (map value l) rest (walk step set (set c x) l o)) → (e : End) → bind (gotBy (value x) (encodeAll bytes l ++ rest) e) (λ y r o. bind (times p set-read (length l) (set-read c y) r o) (λ m t z. got (y ∷ m) t z))
+      go : ((o : ℕ) → times p set-read (length l) (set c x) (encodeAll bytes l ++ rest) o ≡ gotBy (map value l) rest (walk step set (set c x) l o))
+          → (e : End) → bind (gotBy (value x) (encodeAll bytes l ++ rest) e) (λ y r o. bind (times p set-read (length l) (set-read c y) r o) (λ m t z. got (y ∷ m) t z))
           ≡ gotBy (value x ∷ map value l) rest (goOn e (λ o. walk step set (set c x) l o))
       go more (stop n q) = refl
       go more (next o) = rw (same c x, more o) (onto (walk step set (set c x) l o))
@@ -92,6 +93,7 @@ module _ {A B : Type 0} (p : ℕ → Parser B) (set-read : ℕ → B → ℕ) (b
   walk-past [] c at o h = let e : at ≡ o = cc h in omega arith
   walk-past (x ∷ l) c at o h = go (λ u k. walk-past l (set c x) u o k) (step c x at) refl h
     where
-      go : ((u : ℕ) → walk step set (set c x) l u ≡ next o → o ≡ u + length (encodeAll bytes l)) → (e : End) → step c x at ≡ e → goOn e (λ o. walk step set (set c x) l o) ≡ next o → o ≡ at + length (bytes x ++ encodeAll bytes l)
+      go : ((u : ℕ) → walk step set (set c x) l u ≡ next o → o ≡ u + length (encodeAll bytes l))
+          → (e : End) → step c x at ≡ e → goOn e (λ o. walk step set (set c x) l o) ≡ next o → o ≡ at + length (bytes x ++ encodeAll bytes l)
       go more (stop n q) s k = absurd (stop-not-next k)
       go more (next u) s k = omega (arith, meets c x .past at u s, more u k, length-append (bytes x) (encodeAll bytes l))

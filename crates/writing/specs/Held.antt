@@ -35,6 +35,14 @@ pub record ColumnsFor (m : ℕ) (rs ls ns : List ℕ) : Type 0 where
   pub links : 4 * m ≤ length ls
   pub counts : m ≤ length ns
 
+-- and codes enough for them
+pub record NodesGiven (rs ls ns cs : List ℕ) (m : ℕ) : Type 0 where
+  pub most : m ≤ 1024
+  pub rules : m ≤ length rs
+  pub links : 4 * m ≤ length ls
+  pub counts : m ≤ length ns
+  pub codes : 24 * m ≤ length cs
+
 -- how many of the given records are loaded from a lent slice
 pub record Loadable (lent most given r : ℕ) : Type 0 where
   pub fits : r ≤ lent

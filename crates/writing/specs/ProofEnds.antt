@@ -335,7 +335,8 @@ module _ (t : Table) where
       onto (stop n q) = refl
 
       go : ((o : ℕ) → nodeEnd t v (take (v .count) cs) at ≡ next o → v .count ≤ 24)
-          → ((o : ℕ) → v .count ≤ 24 → times (λ _. node t) (λ _ _. 0) (length vs) 0 (nodesBytes vs (drop (v .count) cs) ++ rest) o ≡ gotBy (nodesOver vs (drop (v .count) cs)) rest (nodesEnd t vs (drop (v .count) cs) o))
+          → ((o : ℕ) → v .count ≤ 24 → times (λ _. node t) (λ _ _. 0) (length vs) 0 (nodesBytes vs (drop (v .count) cs) ++ rest) o
+          ≡ gotBy (nodesOver vs (drop (v .count) cs)) rest (nodesEnd t vs (drop (v .count) cs) o))
           → (e : End) → nodeEnd t v (take (v .count) cs) at ≡ e → then-nodes vs (gotBy (nodeOf v (take (v .count) cs)) (nodesBytes vs (drop (v .count) cs) ++ rest) e)
           ≡ gotBy (nodeOf v (take (v .count) cs) ∷ nodesOver vs (drop (v .count) cs)) rest (goOn e (λ o. nodesEnd t vs (drop (v .count) cs) o))
       go few more (stop n q) h = refl

@@ -58,7 +58,7 @@ module _ (c : tie.After-wide Inv-loop μ-loop) where
   few = omega (arith, c .wide .ensures, s .pre .1 .few v (c .before .before .loop-test .taken))
 
   enough : start + count ≤ length (s .args .codes .now)
-  enough = omega (arith, few, c .before .before .before .loop .inv .1, s .pre .1 .codes, c .before .before .loop-test .taken)
+  enough = omega (arith, few, c .before .before .before .loop .inv .1, s .pre .1 .given .codes, c .before .before .loop-test .taken)
 
 loop-holds : tie.Need-loop-holds Inv-loop μ-loop
 loop-holds c =
@@ -69,26 +69,26 @@ mul-wide : tie.Need-mul-wide Inv-loop μ-loop
 mul-wide c = search needs
 
 shared-slice-read-wide : tie.Need-shared-slice-read-wide Inv-loop μ-loop
-shared-slice-read-wide c = omega (arith, c .before .before .before .before .before .before .before .before .pre .1 .counts)
+shared-slice-read-wide c = omega (arith, c .before .before .before .before .before .before .before .before .pre .1 .given .counts)
 
 wide-requires : tie.Need-wide-requires Inv-loop μ-loop
 wide-requires c κs = search needs
 
 shared-slice-read-put-node : tie.Need-shared-slice-read-put-node Inv-loop μ-loop
-shared-slice-read-put-node c = omega (arith, c .before .before .before .before .before .before .before .before .before .before .before .pre .1 .rules)
+shared-slice-read-put-node c = omega (arith, c .before .before .before .before .before .before .before .before .before .before .before .pre .1 .given .rules)
 
 put-node-requires : tie.Need-put-node-requires Inv-loop μ-loop
 put-node-requires c κs =
     let turn = c .before .before in
-    (room-left (encodeNode (this turn)) (after turn) (this-left turn) (s turn .pre .0), omega (arith, s turn .pre .1 .links), enough turn, few turn)
+    (room-left (encodeNode (this turn)) (after turn) (this-left turn) (s turn .pre .0), omega (arith, s turn .pre .1 .given .links), enough turn, few turn)
 
 add-start : tie.Need-add-start Inv-loop μ-loop
 add-start c =
     let turn = c .before .before .before .before .before in
-    omega (arith, enough turn, s turn .pre .1 .most, few turn, turn .before .before .before .loop .inv .1)
+    omega (arith, enough turn, s turn .pre .1 .given .most, few turn, turn .before .before .before .loop .inv .1)
 
 add-v : tie.Need-add-v Inv-loop μ-loop
-add-v c = omega (arith, c .before .before .before .before .before .before .before .before .before .before .before .before .before .before .pre .1 .most)
+add-v c = omega (arith, c .before .before .before .before .before .before .before .before .before .before .before .before .before .before .pre .1 .given .most)
 
 loop-less : tie.Need-loop-less Inv-loop μ-loop
 loop-less c = search needs

@@ -56,7 +56,8 @@ module _ (s : tie.Start) where
       claim-refused-first (s .args .lent) (s .args .count) (s .args .kinds .now) (s .args .a .now) (s .args .b .now) (s .args .members .now) (s .args .nodes-lent) (s .args .nodes)
       (s .args .rules .now) (s .args .links .now) (s .args .counts .now) codes out h k l
 
-  written : (r : ℕ) (after : List ℕ) {o : ℕ} → Long → found ≡ next o → Wrote (provedBy (kindTable (s .args .kinds .now) (s .args .count)) (s .args .nodes) records codes (length out)) out r after → Promised r after
+  written : (r : ℕ) (after : List ℕ) {o : ℕ} → Long → found ≡ next o
+      → Wrote (provedBy (kindTable (s .args .kinds .now) (s .args .count)) (s .args .nodes) records codes (length out)) out r after → Promised r after
   written r after (h, k, l) =
       proof-written (s .args .lent) (s .args .count) (s .args .kinds .now) (s .args .a .now) (s .args .b .now) (s .args .members .now) (s .args .nodes-lent) (s .args .nodes)
       (s .args .rules .now) (s .args .links .now) (s .args .counts .now) codes out h k l
@@ -116,7 +117,11 @@ write-beside-requires c κs =
 returns-4 : tie.Need-returns-4
 returns-4 c =
     let s = c .before .before .before .before .before .before .before .before .before .before .before .before .before .before in
-    refused-first s _ (omega (arith, c .before .before .before .before .before .before .before .if1 .left), omega (arith, c .before .before .before .before .before .before .if2 .left), omega (arith, c .before .before .before .before .before .if3 .left))
+    refused-first s _ (
+      omega (arith, c .before .before .before .before .before .before .before .if1 .left),
+      omega (arith, c .before .before .before .before .before .before .if2 .left),
+      omega (arith, c .before .before .before .before .before .if3 .left),
+    )
     (found-stop (c .before .before .before .before .judge-claim .ensures) (c .before .before .number .given .1)) (record { answer = c .refuse4 .ensures; laid = refl })
 
 same-length : tie.Need-same-length
@@ -125,7 +130,11 @@ same-length c = search needs
 returns-5 : tie.Need-returns-5
 returns-5 c =
     let s = c .before .before .before .before .before .before .before .before .before .before .before .before .before .before .before .before in
-    written s _ _ (omega (arith, c .before .before .before .before .before .before .before .before .before .if1 .left), omega (arith, c .before .before .before .before .before .before .before .before .if2 .left), omega (arith, c .before .before .before .before .before .before .before .if3 .left))
+    written s _ _ (
+      omega (arith, c .before .before .before .before .before .before .before .before .before .if1 .left),
+      omega (arith, c .before .before .before .before .before .before .before .before .if2 .left),
+      omega (arith, c .before .before .before .before .before .before .before .if3 .left),
+    )
     (found-next (c .before .before .before .before .before .before .judge-claim .ensures) (c .before .before .before .before .enum-told .given .1)) (c .before .before .write-beside .ensures)
 
 pub write-proof-spec : {M : Type 1} → statement M
