@@ -6,11 +6,11 @@ use mathlib.Core.Logic.{_↔_, _⊎_}
 use mathlib.Core.Bool.{true, false, _||_}
 use mathlib.Core.List.{List}
 use Prim.Native.Nat.{ℕ, suc, _<_, _≤_}
-use lib.ListN.{length, getD}
+use lib.ListN.{length, getD, take, drop}
 use Rattle.verdict.specs.Verdict.{accepted, refused}
 use Rattle.verdict.specs.Sets.{elements}
 use Rattle.encoding.specs.Encode.{Bytes}
-use Rattle.encoding.specs.File.{good, refused as refused-reading}
+use Rattle.encoding.specs.File.{Reading, good, refused as refused-reading}
 use Rattle.formula.specs.Kind
 use Rattle.formula.specs.Table.{Table, entry, kind}
 use Rattle.formula.specs.Claim.{Claim, Derivation}
@@ -35,7 +35,7 @@ use Rattle.proofs.specs.ProofExact.{proof-decodes, proof-encodes}
 use Rattle.reader.specs.Files.{Files, readFormed, files}
 use Rattle.calculus.specs.Sequents.{sequent}
 use Rattle.tree.specs.Owners.{tree-judged}
-use Rattle.writing.specs.Writing.{ClaimRecords, ProofRecords, claimFile, proofFile, shortClaim, shortProof, writingClaim, writingProof}
+use Rattle.writing.specs.Writing.{ClaimRecords, ProofRecords, claimFile, proofFile, shortClaim, shortProof, writingClaim, writingProof, laidInto}
 use Rattle.writing.specs.ClaimTrips.{claimOf, ClaimGiven, claim-roomy}
 use Rattle.writing.specs.ProofTrips.{derivationOf, ProofGiven, LongProof, proof-roomy}
 use Rattle.model.specs.Described.{modelOf}
@@ -204,11 +204,27 @@ proof-round-trip = proof-decodes
 pub proof-bytes-back : (c : Claim) {bytes : List ℕ} {d : Derivation} → Bytes bytes → readProof c bytes ≡ good d → encodeProof d ≡ bytes
 proof-bytes-back = proof-encodes
 
--- T-01: writing a claim's records, and a proof's over them, into a slice with room for so many bytes
+-- T-01: what is written is a file or a refusal. No refusal writes a byte; a file stands in front, and bytes beyond its end are untouched
+module _ (w : Reading (List ℕ)) (out : List ℕ) where
+  pub refusal-writes-nothing : {n q : ℕ} → w ≡ refused-reading n q → laidInto w out ≡ out
+  refusal-writes-nothing = written.refused-untouched w out
+
+  pub file-stands-in-front : {file : List ℕ} → w ≡ good file → (take (length file) (laidInto w out) ≡ file) × (drop (length file) (laidInto w out) ≡ drop (length file) out)
+  file-stands-in-front = written.file-in-front w out
+
+-- writing a claim's records, and a proof's over them, into a slice with room for so many bytes
 module _ (c : ClaimRecords) (room : ℕ) where
-  -- the refusal is the one that the reader would give for the file that the records make
+  -- refusal 1 comes first
+  pub claim-short-first : shortClaim c ≡ true → writingClaim c room ≡ refused-reading 1 0
+  claim-short-first = written.claim-first c room
+
+  -- then the one that the reader would give for the file that the records make, however short the output slice is
   pub claim-refused-as-read : shortClaim c ≡ false → {n q : ℕ} → readFormed (claimFile c) ≡ refused-reading n q → writingClaim c room ≡ refused-reading n q
   claim-refused-as-read = written.claim-refuses c room
+
+  -- 70 is judged after the records
+  pub claim-room-last : shortClaim c ≡ false → (k : Claim) → readFormed (claimFile c) ≡ good k → room < length (claimFile c) → writingClaim c room ≡ refused-reading 70 0
+  claim-room-last = written.claim-last c room
 
   -- reading a written file gives the records back, and it is never longer than this
   pub claim-reads-back : {file : List ℕ} → writingClaim c room ≡ good file → (readFormed file ≡ good (claimOf c)) × (length file ≤ 1592)
@@ -224,9 +240,20 @@ module _ (c : ClaimRecords) (room : ℕ) where
   claim-written-again bc bp k given long = written.accepted-claim-again bc bp k c given long room
 
   module _ (d : ProofRecords) where
+    pub proof-short-first : (shortClaim c || shortProof d) ≡ true → writingProof c d room ≡ refused-reading 1 0
+    proof-short-first = written.proof-first c room d
+
     pub proof-refused-as-read : (shortClaim c || shortProof d) ≡ false → {n q : ℕ} → files (claimFile c) (proofFile d) ≡ refused-reading n q
         → writingProof c d room ≡ refused-reading n q
     proof-refused-as-read = written.proof-refuses c room d
+
+    -- then 35, and 70 last
+    module _ (long : (shortClaim c || shortProof d) ≡ false) (f : Files Derivation) (read : files (claimFile c) (proofFile d) ≡ good f) where
+      pub proof-tree-refused : {n q : ℕ} → tree-judged (f .beside .nodes) ≡ refused n q → writingProof c d room ≡ refused-reading n q
+      proof-tree-refused = written.proof-by-tree c room d long f read
+
+      pub proof-room-last : tree-judged (f .beside .nodes) ≡ accepted → room < length (proofFile d) → writingProof c d room ≡ refused-reading 70 0
+      proof-room-last = written.proof-last c room d long f read
 
     pub proof-reads-back : {file : List ℕ} → writingProof c d room ≡ good file
         → (readProof (claimOf c) file ≡ good (derivationOf d)) × ProofGiven d (derivationOf d .nodes) × (length file ≤ 58374)

@@ -1,26 +1,18 @@
 -- counts in and out of their ranges, and what follows a count in range
 use mathlib.Core.Path.{_≡_, refl}
 use mathlib.Core.List.{List}
-use mathlib.Core.Bool.{true, false}
 use Prim.Native.Nat.{ℕ, _+_, _<_, _≤_}
 use native.Mathlib.Omega.{arith}
 use borrow.Author.Tests.{eq-eqb, ne-eqb}
 use lib.ListN.{length}
-use Rattle.verdict.specs.Tells.{fails-holds}
 use Rattle.formula.specs.Table.{Table}
 use Rattle.formula.specs.Records.{NodeRecord}
-use Rattle.encoding.specs.Parse.{in-range}
 use Rattle.proofs.specs.ReadProof.{isCode}
 use Rattle.writing.specs.Ends.{next, stop, goOn}
-use Rattle.writing.specs.FieldEnds.{in-range-tells, risingEnd}
+use Rattle.writing.specs.FieldEnds.{out-of-range, inside, risingEnd}
 use Rattle.writing.specs.ClaimEnds.{entriesEnd, membersEnd, listedEnd, claimEnd}
-use Rattle.writing.specs.ProofEnds.{sequentEnd, nodesEnd, proofEnd}
-
-out-of-range : (top n : ℕ) → ((1 ≤ n) × (n ≤ top) → ⊥) → in-range top n ≡ false
-out-of-range top n h = fails-holds (in-range-tells top n) h
-
-inside : (top n : ℕ) → (1 ≤ n) × (n ≤ top) → in-range top n ≡ true
-inside top n h = in-range-tells top n .holds h
+use Rattle.writing.specs.NodeEnds.{sequentEnd}
+use Rattle.writing.specs.ProofEnds.{nodesEnd, proofEnd}
 
 -- the member count, then the members
 module _ (es : Table) (ms : List ℕ) (at : ℕ) where

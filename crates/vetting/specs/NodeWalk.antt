@@ -12,7 +12,8 @@ use Rattle.formula.specs.Rule
 use Rattle.formula.specs.Table.{Table}
 use Rattle.formula.specs.Fields.{linkWidth}
 use Rattle.writing.specs.Ends.{End, next, stop}
-use Rattle.writing.specs.ProofEnds.{linksHeld, sequentEnd, nodeEnd, node-past, nodesEnd}
+use Rattle.writing.specs.NodeEnds.{linksHeld, sequentEnd, nodeEnd, node-past}
+use Rattle.writing.specs.ProofEnds.{nodesEnd}
 use Rattle.writing.specs.Held.{plainRecord, recordsOf}
 use Rattle.vetting.specs.Steps.{recordAt}
 use Rattle.vetting.specs.WalkLaws.{values-cons, values-none, part-long}

@@ -12,12 +12,11 @@ use lib.Seq.{length-take-le}
 use Rattle.verdict.specs.Verdict as verdicts
 use Rattle.verdict.specs.Verdict.{Verdict, accepted}
 use Rattle.verdict.specs.Lists.{valuesFrom-length}
-use Rattle.verdict.specs.Tells.{fails-holds}
 use Rattle.formula.specs.Table.{Table}
 use Rattle.formula.specs.Claim.{Derivation}
 use Rattle.formula.specs.Records.{NodeRecord}
 use Rattle.formula.specs.Plain.{tableOf, tableOf-length, tableOf-kind}
-use Rattle.encoding.specs.Parse.{pick, in-range}
+use Rattle.encoding.specs.Parse.{pick}
 use Rattle.encoding.specs.File.{Reading, refused, good}
 use Rattle.claims.specs.ClaimFile.{encodeClaim}
 use Rattle.proofs.specs.ProofFile.{encodeProof}
@@ -29,16 +28,12 @@ use Rattle.proofs.specs.ProofKinds.{by-kinds}
 use Rattle.writing.specs.RecordBytes.{claimBytes, proofBytes}
 use Rattle.writing.specs.Writing.{ClaimRecords, ProofRecords, claimFile, proofFile, shortClaim, shortProof, ifRoom, writingClaim, writingProof}
 use Rattle.writing.specs.Ends.{End, next, stop, goOn, readBy, stop-not-next}
-use Rattle.writing.specs.FieldEnds.{countEnd, in-range-tells}
+use Rattle.writing.specs.FieldEnds.{out-of-range}
 use Rattle.writing.specs.ProofEnds.{nodesOver, proofEnd, proof-ends, proof-passed}
 use Rattle.writing.specs.ClaimTrips.{claimOf}
 use Rattle.writing.specs.ProofTrips.{derivationOf}
 use Rattle.writing.specs.Encoded.{judged, claimJudged, proofJudged, claim-reading, ClaimPasses, claim-passes, proof-passes}
 use Rattle.writing.specs.Held.{plainRecord, recordsOf, EntriesHeld, NodesHeld}
-
--- a count out of range is refused whatever the records are
-out-of-range : (top k n at : ℕ) → top < n → countEnd top k n at ≡ stop k at
-out-of-range top k n at h = rw (fails-holds (in-range-tells top n) (λ w. omega (arith, w .1))) refl
 
 -- by what the judges found: a refusal stands, else the file, where the slice has room for it
 abbrev pub answered : End → ℕ → List ℕ → Reading (List ℕ)
@@ -66,7 +61,7 @@ module _ (es : Table) (n : ℕ) (ks xs ys ms : List ℕ) (held : EntriesHeld es 
       where
         go : Dec (n ≤ 256) → claimJudged n (take n es) ms ≡ claimJudged n t ms
         go (yes few) = ap (λ (l : Table). claimJudged n l ms) (held long few)
-        go (no many) = rw (out-of-range 256 12 n 4 (omega arith)) refl
+        go (no many) = rw (out-of-range 256 n (λ w. omega (arith, w .1))) refl
 
     enough-claim : shortClaim given ≡ false
     enough-claim = le-ltb (length es) 256 long
@@ -134,7 +129,7 @@ module _ (es : Table) (n : ℕ) (ks xs ys ms : List ℕ) (held : EntriesHeld es 
         where
           go : Dec (m ≤ 1024) → proofEnd (kindTable ks n) m (take m vs) cs ≡ proofEnd (kindTable ks n) m records cs
           go (yes few) = ap (λ (l : List NodeRecord). proofEnd (kindTable ks n) m l cs) (same-nodes few)
-          go (no many) = rw (out-of-range 1024 32 m 4 (omega arith)) refl
+          go (no many) = rw (out-of-range 1024 m (λ w. omega (arith, w .1))) refl
 
       over-kinds : readProof (claimOf claimed) (proofFile beside) ≡ readProof (kindClaim ks n) (proofFile beside)
       over-kinds =

@@ -24,7 +24,8 @@ use Rattle.writing.specs.Writing.{ClaimRecords, claimFile, shortClaim}
 use Rattle.writing.specs.Ends.{End, next, stop, goOn, walk, readBy, stop-not-next, passed, went}
 use Rattle.writing.specs.FieldEnds.{countEnd}
 use Rattle.writing.specs.ClaimEnds.{entryFits, entryWidth, entry-encoded, entryEnd, entriesEnd, tableEnd, listedEnd, claimEnd, claim-passed, claim-ends}
-use Rattle.writing.specs.ProofEnds.{nodeOf, nodesOver, nodeFits, sequentEnd, nodeEnd, node-encoded, nodesEnd, node-past, enough, proofEnd, proof-passed}
+use Rattle.writing.specs.NodeEnds.{nodeOf, nodeFits, sequentEnd, nodeEnd, node-encoded, node-past}
+use Rattle.writing.specs.ProofEnds.{nodesOver, nodesEnd, enough, proofEnd, proof-passed}
 use Rattle.writing.specs.ClaimTrips.{claimOf, long-enough, clipped-same}
 use Rattle.writing.specs.ProofTrips.{over-records}
 

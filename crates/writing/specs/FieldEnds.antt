@@ -69,23 +69,29 @@ countEnd top k n at = pick (in-range top n) (next (at + 2)) (stop k at)
 pub in-range-tells : (top n : ℕ) → Tells (in-range top n) ((1 ≤ n) × (n ≤ top))
 in-range-tells top n = and-tells (leb-tells 1 n) (leb-tells n top)
 
+pub out-of-range : (top n : ℕ) → ((1 ≤ n) × (n ≤ top) → ⊥) → in-range top n ≡ false
+out-of-range top n h = fails-holds (in-range-tells top n) h
+
+pub inside : (top n : ℕ) → (1 ≤ n) × (n ≤ top) → in-range top n ≡ true
+inside top n h = in-range-tells top n .holds h
+
 -- a number that two bytes cannot hold is out of range, and so is what stands for it
 module _ (early top k : ℕ) (low : top ≤ 65534) (n : ℕ) (s : List ℕ) (at : ℕ) where
   clipped-out : leb n 65535 ≡ false → (m : ℕ) → top < m → pick (in-range top m) (got m s (at + 2)) (fault k at) ≡ gotBy n s (countEnd top k n at)
   clipped-out h m far =
-      let i : in-range top m ≡ false = fails-holds (in-range-tells top m) (λ w. omega (arith, w .1)) in
-      let j : in-range top n ≡ false = fails-holds (in-range-tells top n) (λ w. omega (arith, w .1, leb-false n 65535 h)) in
+      let i : in-range top m ≡ false = out-of-range top m (λ w. omega (arith, w .1)) in
+      let j : in-range top n ≡ false = out-of-range top n (λ w. omega (arith, w .1, leb-false n 65535 h)) in
       rw (i, j) refl
 
   pub count-meets : count top k (two early) (encodeTwo (clipped n) ++ s) at ≡ gotBy n s (countEnd top k n at)
   count-meets = ap (λ (g : Got ℕ). bind g (λ x r o. pick (in-range top x) (got x r o) (fault k at))) (two-meets early (clipped n) s at) ∙ go (leb n 65535) refl
     where
-      inside : (b : Bool) → pick b (got n s (at + 2)) (fault k at) ≡ gotBy n s (pick b (next (at + 2)) (stop k at))
-      inside true = refl
-      inside false = refl
+      picked : (b : Bool) → pick b (got n s (at + 2)) (fault k at) ≡ gotBy n s (pick b (next (at + 2)) (stop k at))
+      picked true = refl
+      picked false = refl
 
       go : (b : Bool) → leb n 65535 ≡ b → pick (in-range top (choose b n 65535)) (got (choose b n 65535) s (at + 2)) (fault k at) ≡ gotBy n s (countEnd top k n at)
-      go true h = inside (in-range top n)
+      go true h = picked (in-range top n)
       go false h = clipped-out h 65535 (omega arith)
 
 -- a list read by its own numbers

@@ -1,7 +1,7 @@
 -- records as they are held in columns of plain numbers, where the slice they were lent in is long enough and no more than the most count
 use mathlib.Core.Path.{_≡_}
 use mathlib.Core.List.{List}
-use Prim.Native.Nat.{ℕ, _+_, _*_, _≤_}
+use Prim.Native.Nat.{ℕ, _+_, _*_, _<_, _≤_}
 use lib.ListN.{length, getD, take}
 use Rattle.verdict.specs.Lists.{valuesFrom}
 use Rattle.formula.specs.Table.{Table}
@@ -43,11 +43,13 @@ pub record NodesGiven (rs ls ns cs : List ℕ) (m : ℕ) : Type 0 where
   pub counts : m ≤ length ns
   pub codes : 24 * m ≤ length cs
 
--- how many of the given records are loaded from a lent slice
+-- how many of the given records are loaded from a lent slice: all, or none where it is too short or too many are given
 pub record Loadable (lent most given r : ℕ) : Type 0 where
   pub fits : r ≤ lent
   pub few : r ≤ most
   pub all : most ≤ lent → given ≤ most → r ≡ given
+  pub short : lent < most → r ≡ 0
+  pub many : most < given → r ≡ 0
 
 -- whatever entries were lent, if the columns hold the given ones
 abbrev pub ClaimWritten : ℕ → ℕ → List ℕ → List ℕ → List ℕ → List ℕ → List ℕ → ℕ → List ℕ → Type 0

@@ -3,6 +3,7 @@ pub mod Writing
 pub mod Ends
 pub mod FieldEnds
 pub mod ClaimEnds
+pub mod NodeEnds
 pub mod ProofEnds
 pub mod ClaimTrips
 pub mod ProofTrips

@@ -29,7 +29,8 @@ use Rattle.writing.specs.RecordBytes.{nodeBytes, nodesBytes, proofBytes}
 use Rattle.writing.specs.Writing.{ClaimRecords, ProofRecords, claimFile, proofFile, shortClaim, shortProof, ifRoom, writingProof}
 use Rattle.writing.specs.Ends.{End, next, stop, readBy, went}
 use Rattle.writing.specs.FieldEnds.{mayHold, itself, countEnd}
-use Rattle.writing.specs.ProofEnds.{nodesOver, nodeFits, nodeEnd, node-encoded, nodesEnd, node-past, enough, proofEnd, proof-ends, proof-passed}
+use Rattle.writing.specs.NodeEnds.{nodeFits, nodeEnd, node-encoded, node-past}
+use Rattle.writing.specs.ProofEnds.{nodesOver, nodesEnd, enough, proofEnd, proof-ends, proof-passed}
 use Rattle.writing.specs.ClaimTrips.{claimOf, and-good, first-good, ClaimWritable, claim-writable, ClaimGiven, fit-held, clipped-same, claim-bytes-again, room-good, good-room, long-good}
 
 -- the proof that records stand for
