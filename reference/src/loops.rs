@@ -47,14 +47,15 @@ impl<'a> Loops<'a> {
     }
 
     /// "On the path from that ancestor to the leaf, both ends included, each
-    /// sequent has a focused member, no rule is 8 or 9, and at least one is 4."
+    /// sequent has a focused member, no rule is 8 [...], and at least one is 4."
+    /// T-02: "rule 9 is now allowed on a loop path; rule 8 is not."
     fn path_holds(&self, leaf: usize, focus: &[bool]) -> bool {
         let companion = usize::from(self.proof.nodes[leaf].back);
         let mut boxed = false;
         let mut at = leaf;
         loop {
             let rule = self.proof.nodes[at].rule;
-            if !focus[at] || matches!(rule, Rule::F | Rule::U) {
+            if !focus[at] || rule == Rule::F {
                 return false;
             }
             boxed |= rule == Rule::Box;

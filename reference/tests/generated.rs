@@ -51,41 +51,35 @@ fn proofs_made_by_the_rules_are_accepted() {
 
 /// Whether some loop has another loop's companion inside its path.
 fn has_nested_loops(proof: &Proof) -> bool {
-    let mut parents = vec![0; proof.nodes.len()];
-    let mut companions = vec![false; proof.nodes.len()];
-    for (number, node) in proof.nodes.iter().enumerate() {
-        let children = [node.first, node.second];
-        for child in children.into_iter().take(node.rule.children()) {
-            parents[usize::from(child)] = number;
-        }
-        companions[usize::from(node.back)] |= node.rule == Rule::Back;
-    }
-    let leaves = (0..proof.nodes.len()).filter(|&n| proof.nodes[n].rule == Rule::Back);
-    leaves.into_iter().any(|leaf| {
-        let top = usize::from(proof.nodes[leaf].back);
-        let mut path = std::iter::successors(Some(parents[leaf]), |&n| Some(parents[n]));
-        path.by_ref()
-            .take_while(|&n| n != top)
-            .any(|n| companions[n])
+    let paths = generate::loop_paths(proof);
+    let tops: Vec<usize> = paths
+        .iter()
+        .filter_map(|path| path.last().copied())
+        .collect();
+    paths.iter().any(|path| {
+        path[..path.len() - 1]
+            .iter()
+            .any(|node| tops.contains(node))
     })
 }
 
 #[test]
-fn accepted_proofs_have_many_and_nested_loops() {
-    let (mut many, mut nested, mut rules) = (0, 0, [0; 12]);
+fn accepted_proofs_have_many_and_nested_loops_and_some_leave_focus() {
+    let (mut many, mut nested, mut leaving, mut rules) = (0, 0, 0, [0; 12]);
     for (claim, proof) in generate::accepted(5).take(2000) {
         let decoded = judge(&claim, &proof).decoded.expect("accepted");
         let nodes = &decoded.proof.nodes;
         let loops = nodes.iter().filter(|node| node.rule == Rule::Back).count();
         many += usize::from(loops >= 2);
         nested += usize::from(has_nested_loops(&decoded.proof));
+        leaving += usize::from(generate::leaves_focus(&decoded.proof));
         for rule in Rule::ALL {
             rules[rule as usize] += usize::from(nodes.iter().any(|node| node.rule == rule));
         }
     }
     assert!(
-        many > 200 && nested > 100,
-        "{many} with many, {nested} with nested loops"
+        many > 200 && nested > 100 && leaving > 100,
+        "{many} with many, {nested} with nested loops, {leaving} with rule 9 on one"
     );
     assert!(rules.iter().all(|&count| count > 100), "{rules:?}");
 }
@@ -128,4 +122,20 @@ fn whatever_is_accepted_holds_in_random_models() {
             assert_eq!(covered.count_ones(), u32::from(model[4]));
         }
     }
+}
+
+#[test]
+fn loops_that_leave_focus_are_good_and_bad() {
+    let records = || generate::loops_leaving_focus(3).take(5_000);
+    for record in records() {
+        let decoded = judge(&record.claim, &record.proof).decoded.expect("nodes");
+        assert!(generate::leaves_focus(&decoded.proof));
+    }
+    let tally = Tally::of(records().map(|record| record.answer));
+    println!("{tally}");
+    assert_occur(&tally, [36, 37, 38, 39]);
+    assert!(
+        tally.count(0) * 100 >= tally.total() * 30,
+        "few accepted in\n{tally}"
+    );
 }

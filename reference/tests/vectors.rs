@@ -9,15 +9,24 @@ fn vectors(file: &str) -> Vec<u8> {
 }
 
 #[test]
-fn every_record_agrees() {
-    let checks = corpus::read_checks(&vectors("base/check.bin")).expect("whole records");
-    let evals = corpus::read_evals(&vectors("base/eval.bin")).expect("whole records");
-    assert_eq!((checks.len(), evals.len()), (3551, 519));
-    for (index, record) in checks.iter().enumerate() {
-        let got = check(&record.claim, &record.proof);
-        let (got, expected) = (describe(got), describe(record.answer));
-        assert_eq!(got, expected, "check record {index}");
+fn every_check_agrees() {
+    let files = [("base/check.bin", 3551), ("t02/check.bin", 1527)];
+    for (file, count) in files {
+        let checks = corpus::read_checks(&vectors(file)).expect("whole records");
+        assert_eq!(checks.len(), count, "{file}");
+        for (index, record) in checks.iter().enumerate() {
+            let got = check(&record.claim, &record.proof);
+            let (got, expected) = (describe(got), describe(record.answer));
+            assert_eq!(got, expected, "{file}, record {index}");
+        }
+        println!("vectors: {count} check records agree");
     }
+}
+
+#[test]
+fn every_evaluation_agrees() {
+    let evals = corpus::read_evals(&vectors("base/eval.bin")).expect("whole records");
+    assert_eq!(evals.len(), 519);
     for (index, record) in evals.iter().enumerate() {
         let got = evaluate(&record.claim, &record.model);
         let expected = match Refusal::unpack(record.answer) {
@@ -26,7 +35,7 @@ fn every_record_agrees() {
         };
         assert_eq!(got, expected, "eval record {index}");
     }
-    println!("vectors: {} records agree", checks.len() + evals.len());
+    println!("vectors: {} evaluations agree", evals.len());
 }
 
 #[test]

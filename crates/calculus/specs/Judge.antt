@@ -179,15 +179,19 @@ module _ (c : Claim) (q : View) where
   unfolding step-kept leaf-kept
   keeps v = step-kept (c .entries) q v || leaf-kept v
 
-module _ (q : View) where
-  unfoldable pub on-loop : ℕ → Bool
-  unfolding any
-  on-loop v = any (λ c. eqb (focusOf c) 1) (codes q v) && (not (eqb (rule q v) Rule.F) && not (eqb (rule q v) Rule.U))
+abbrev pub in-focus : ℕ → Bool
+in-focus c = eqb (focusOf c) 1
 
+-- whether a node of this rule and these codes may lie on a loop path: the test of `OnLoop`, which the code keeps for each node
+unfoldable pub on-loop : ℕ → List ℕ → Bool
+unfolding any
+on-loop r l = any in-focus l && not (eqb r Rule.F)
+
+module _ (q : View) where
   -- the walk from a leaf up to its companion
   unfoldable pub good-path : List ℕ → Bool
   unfolding on-loop all any
-  good-path l = all on-loop l && any (λ v. eqb (rule q v) Rule.BOX) l
+  good-path l = all (λ v. on-loop (rule q v) (codes q v)) l && any (λ v. eqb (rule q v) Rule.BOX) l
 
   unfoldable pub loop : ℕ → Bool
   unfolding good-path climb

@@ -1,19 +1,18 @@
 -- the codes in focus, as the code finds them
-use mathlib.Core.Path.{_≡_, refl, sym, ap, _∙_}
+use mathlib.Core.Path.{_≡_, refl, _∙_}
+use mathlib.Core.Logic.{_≢_}
 use mathlib.Core.Bool.{Bool, true, false, _&&_, _||_}
-use mathlib.Core.List.{List, []}
+use mathlib.Core.List.{List}
 use Prim.Native.Nat.{ℕ, suc, _+_, _-_, _<_, _≤_}
 use native.Mathlib.Decide.{decLt}
 use native.Mathlib.Numerals.{add-one}
 use native.Mathlib.Omega.{arith}
 use lib.ListN.{length, getD, take, drop, drop-of-length-le, List·getD-eq-default}
 use lib.Seq.{drop-cons, take-nil}
-use Rattle.verdict.specs.Tests.{any, same}
-use Rattle.formula.specs.Nodes.{Node}
-use Rattle.formula.specs.PlainNodes.{plainNode, proofOf-node}
-use Rattle.calculus.specs.View.{View}
-use Rattle.calculus.specs.Judge.{on-loop}
-use Rattle.loops.specs.Paths.{in-focus, MayLoop}
+use borrow.Author.Tests.{eq-eqb, ne-eqb}
+use Rattle.verdict.specs.Tests.{any}
+use Rattle.formula.specs.Rule
+use Rattle.calculus.specs.Judge.{in-focus, on-loop}
 
 module _ (cs : List ℕ) (end : ℕ) where
   -- the codes from i up to the end
@@ -42,20 +41,20 @@ module _ (cs : List ℕ) (end : ℕ) where
   unfolding any
   focus-end i h = let z : end - i ≡ 0 = omega arith in rw z refl
 
--- a node seen by itself, without links
-abbrev pub alone : List ℕ → List ℕ → List ℕ → ℕ → View
-alone rs ss cs v = record { size = 0; node = λ _. plainNode rs [] ss cs v; owner = λ _ _. 0; same = same }
+-- the rule is looked at before the codes: it bars the node, or leaves it to them
+module _ (r : ℕ) (l : List ℕ) where
+  pub rule-bars : r ≡ Rule.F → false ≡ on-loop r l
+  unfolding on-loop
+  rule-bars e = rw (eq-eqb r Rule.F e) (go (any in-focus l))
+    where
+      go : (a : Bool) → false ≡ (a && false)
+      go true = refl
+      go false = refl
 
--- whether a node may lie on a loop path is a matter of that node
-pub on-loop-is : (rs ss cs : List ℕ) (v : ℕ) (x : Bool) → x ≡ on-loop (alone rs ss cs v) v → MayLoop rs ss cs v x
-unfolding on-loop
-on-loop-is rs ss cs v x e ls n h = e ∙ sym (ap (λ (y : Node). on-loop (record { size = 0; node = λ _. y; owner = λ _ _. 0; same = same }) v) (proofOf-node rs ls ss cs n v h))
-
--- a test that is made first decides alone, or not at all
-pub first-fails : (a b : Bool) → b ≡ false → false ≡ (a && b)
-first-fails true b h = sym h
-first-fails false b h = refl
-
-pub first-passes : (a b : Bool) → b ≡ true → a ≡ (a && b)
-first-passes true b h = sym h
-first-passes false b h = refl
+  pub rule-passes : r ≢ Rule.F → any in-focus l ≡ on-loop r l
+  unfolding on-loop
+  rule-passes k = rw (ne-eqb r Rule.F k) (go (any in-focus l))
+    where
+      go : (a : Bool) → a ≡ (a && true)
+      go true = refl
+      go false = refl

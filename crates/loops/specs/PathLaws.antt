@@ -13,13 +13,12 @@ use borrow.Author.Tests.{eq-eqb, ne-eqb, lt-ltb, le-ltb, le-leb, lt-leb}
 use Rattle.verdict.specs.Tests.{all, any, member}
 use Rattle.formula.specs.Rule
 use Rattle.formula.specs.Nodes.{Proof, Node, node}
-use Rattle.formula.specs.PlainNodes.{proofOf, proofOf-length, proofOf-node}
-use Rattle.calculus.specs.View.{plain}
+use Rattle.formula.specs.PlainNodes.{codesAt, proofOf, proofOf-length, proofOf-node}
 use Rattle.calculus.specs.Judge.{ancestor, on-loop, good-path}
 use Rattle.tree.specs.Owners.{Owned, Parented}
 use Rattle.tree.specs.Spans.{up}
 use Rattle.tree.specs.Climbs.{path, Parents, path-step, path-end}
-use Rattle.loops.specs.Paths.{box, barred, MayLoop, Nearest, nearest-at, PathsTold, PathsFilled}
+use Rattle.loops.specs.Paths.{box, barred, Nearest, nearest-at, PathsTold, PathsFilled}
 
 module _ (p : Proof) (owners : List ℕ) (R : Parents p owners) (marked : ℕ → Bool) (table : List ℕ) (v : ℕ) (real : v < length p) (N : Nearest p marked v table) where
   -- without a mark of its own a node's nearest one lies above it
@@ -88,7 +87,7 @@ unfolding good-path ancestor
 paths-told p bars boxes B X = record {
   path-is = λ c v real h.
       let m = latter (ltb c v) (member (path p c v) c) h in
-      sym (rw (all-or-any (on-loop (plain p)) (path p c v), B .tells c v real m, X .tells c v real m, not-ltb c (getD bars v 0)) refl);
+      sym (rw (all-or-any (λ w. on-loop (node p w .rule) (node p w .codes)) (path p c v), B .tells c v real m, X .tells c v real m, not-ltb c (getD bars v 0)) refl);
 }
   where
     latter : (a b : Bool) → (a && b) ≡ true → b ≡ true
@@ -109,13 +108,13 @@ module _ (rs ss cs : List ℕ) (n : ℕ) (owners : List ℕ) where
   )
 
   module _ (P : Parented owners n) {v : ℕ} (real : v < n) (bars boxes : List ℕ) (room : v < length bars) (room₂ : v < length boxes) (N : PathsBelow v bars boxes) where
-    pub paths-more : (good : Bool) → MayLoop rs ss cs v good
+    pub paths-more : (good : Bool) → good ≡ on-loop (getD rs v 0) (codesAt ss cs v)
         → PathsBelow (v + 1) (set bars v (nearest-at owners bars v (not good))) (set boxes v (nearest-at owners boxes v (eqb (getD rs v 0) Rule.BOX)))
     paths-more good e ls O =
         let p = proofOf rs ls ss cs n in
         let size : length p ≡ n = proofOf-length rs ls ss cs n in
         let R : Parents p owners = record { owned = rw size O; parented = rw size P } in (
-          rw (e ls n real) (near-more p owners R (barred p) bars v (omega arith) (N ls O .0) room),
+          rw (e ∙ sym (ap (λ (x : Node). on-loop (x .rule) (x .codes)) (proofOf-node rs ls ss cs n v real))) (near-more p owners R (barred p) bars v (omega arith) (N ls O .0) room),
           rw (← rule-is) (near-more p owners R (box p) boxes v (omega arith) (N ls O .1) room₂),
         )
       where

@@ -8,7 +8,6 @@ use lib.ListN.{length, getD}
 use Rattle.verdict.specs.Tests.{choose, any, member}
 use Rattle.verdict.specs.Verdict.{Verdict, accepted, scan}
 use Rattle.formula.specs.Rule
-use Rattle.formula.specs.Codes.{focusOf}
 use Rattle.formula.specs.Nodes.{Proof, node}
 use Rattle.formula.specs.PlainNodes.{proofOf}
 use Rattle.calculus.specs.View.{plain}
@@ -18,15 +17,12 @@ use Rattle.tree.specs.Spans.{up, Upward}
 use Rattle.tree.specs.Climbs.{path}
 use Rattle.tree.specs.Ancestors.{AncestorsTold}
 
-abbrev pub in-focus : ℕ → Bool
-in-focus c = eqb (focusOf c) 1
-
 -- a box, and a node that may not lie on a loop path
 abbrev pub box : Proof → ℕ → Bool
 box p v = eqb (node p v .rule) Rule.BOX
 
 abbrev pub barred : Proof → ℕ → Bool
-barred p v = not (on-loop (plain p) v)
+barred p v = not (on-loop (node p v .rule) (node p v .codes))
 
 -- on a path from c down to w a node is marked just when the table's number at w lies above c
 pub record Nearest (p : Proof) (marked : ℕ → Bool) (v : ℕ) (table : List ℕ) : Type 0 where
@@ -76,10 +72,7 @@ pub record LeavesTold (p : Proof) (bars boxes : List ℕ) : Type 0 where
 abbrev pub loops-judged : Proof → Verdict
 loops-judged p = scan (loop (plain p)) (λ _. 39) (length p) 0 accepted
 
--- what the code says of a node, whatever the links are; of a leaf, and of all of them, whatever the sequents are
-abbrev pub MayLoop : List ℕ → List ℕ → List ℕ → ℕ → Bool → Type 0
-MayLoop rs ss cs v answer = (ls : List ℕ) (n : ℕ) → v < n → answer ≡ on-loop (plain (proofOf rs ls ss cs n)) v
-
+-- what the code says of a leaf, and of all of them, whatever the sequents are
 abbrev pub LeafJudged : List ℕ → List ℕ → List ℕ → List ℕ → ℕ → Bool → Type 0
 LeafJudged rs ls bars boxes v answer =
     (ss cs : List ℕ) (n : ℕ) → v < n → LeavesTold (proofOf rs ls ss cs n) bars boxes → answer ≡ loop (plain (proofOf rs ls ss cs n)) v

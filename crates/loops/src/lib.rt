@@ -4,9 +4,10 @@ ghost use Prim.Native.Nat.{_+_, _*_, _-_, _<_, _≤_};
 ghost use lib.ListN.{length, take, drop, getD};
 ghost use Rattle.verdict.specs.Shown.{shown};
 ghost use Rattle.verdict.specs.Tests.{any};
-ghost use Rattle.formula.specs.PlainNodes.{proofOf};
+ghost use Rattle.formula.specs.PlainNodes.{codesAt, proofOf};
+ghost use Rattle.calculus.specs.Judge.{in-focus, on-loop};
 ghost use Rattle.tree.specs.Owners.{Owned, Parented};
-ghost use Rattle.loops.specs.Paths.{in-focus, MayLoop, nearest-at, Tabled, PathsFilled, LeafJudged, LeavesJudged, Linked, Companion, loops-judged};
+ghost use Rattle.loops.specs.Paths.{nearest-at, Tabled, PathsFilled, LeafJudged, LeavesJudged, Linked, Companion, loops-judged};
 use bits::wide;
 use formula::Rule;
 use tree::spans::is_spanned;
@@ -27,14 +28,12 @@ fn has_focus(codes: &[u16], start: usize, end: usize) -> bool
     false
 }
 
-// Whether node v may lie on a loop path: its sequent has a focused member, and its rule is not 8 or 9.
+// Whether node v may lie on a loop path: its sequent has a focused member, and its rule is not 8.
 fn may_loop(rules: &[u8], starts: &[u16], codes: &[u16], v: usize) -> bool
     requires { ⌜ (v < length (now rules)) × (v + 1 < length (now starts)) × (getD (now starts) (v + 1) 0 ≤ length (now codes)) ⌝ }
-    ensures { λ r. ⌜ MayLoop (now (rules .entry)) (now (starts .entry)) (now (codes .entry)) v r ⌝ }
+    ensures { λ r. ⌜ r ≡ on-loop (getD (now (rules .entry)) v 0) (codesAt (now (starts .entry)) (now (codes .entry)) v) ⌝ }
 {
-    let rule = rules[v];
-    let allowed = (rule != Rule::F) & (rule != Rule::U);
-    if !allowed {
+    if rules[v] == Rule::F {
         return false;
     }
     has_focus(codes, wide(starts[v]), wide(starts[v + 1]))

@@ -1,4 +1,4 @@
--- files that fail one condition of document 01 and keep all others, laid down from their parts
+-- files that fail one condition of documents 01 and 02 and keep all others, laid down from their parts
 use mathlib.Core.List.{List, [], _∷_, _++_}
 use Prim.Native.Nat.{ℕ}
 use lib.ListN.{length}
@@ -79,6 +79,16 @@ letterUnfocused =
     proofOf
     (discharge 1 (9 ∷ []) ∷ step 6 9 2 (9 ∷ []) ∷ step 2 7 3 (7 ∷ []) ∷ step 9 5 4 (3 ∷ 5 ∷ []) ∷ step 7 4 5 (3 ∷ 4 ∷ []) ∷ step 4 3 6 (3 ∷ [])
     ∷ back 0 (9 ∷ []) ∷ [])
+
+-- the loop of nu, where U takes the box out of focus; the same with F before the leaf
+abbrev pub lastFocusLeft : List ℕ
+lastFocusLeft =
+    proofOf (discharge 1 (5 ∷ []) ∷ step 6 5 2 (5 ∷ []) ∷ step 9 3 3 (3 ∷ []) ∷ step 4 2 4 (2 ∷ []) ∷ back 0 (4 ∷ []) ∷ [])
+
+abbrev pub lastFocusBroughtBack : List ℕ
+lastFocusBroughtBack =
+    proofOf
+    (discharge 1 (5 ∷ []) ∷ step 6 5 2 (5 ∷ []) ∷ step 9 3 3 (3 ∷ []) ∷ step 4 2 4 (2 ∷ []) ∷ step 8 4 5 (4 ∷ []) ∷ back 0 (5 ∷ []) ∷ [])
 
 -- entry 5 is the nu of 'box of its name, or a mu over letter 0'
 abbrev pub nuOfBoxOrMu : List ℕ

@@ -11,7 +11,7 @@ use Rattle.demands.specs.Check.{verdict}
 use Rattle.demands.specs.Present.{presenting}
 use Rattle.demands.specs.Evaluate.{evaluating}
 use Rattle.samples.specs.Files.{nuBox, muBox, loopOfNu, loopOfMu, loopOfMuWithF, loopOfFocusedMu, boxBesideBox, twoBoxes, emptyLoop, orOfLetters, orThenAx1, muOfOwnName, diamondAbove, noSuccessor, ownSuccessor}
-use Rattle.samples.specs.NearMisses.{nuOfBoxOrLetter, letterDropped, letterUnfocused, nuOfBoxOrMu, letterFocused, nuOfBoxTwice}
+use Rattle.samples.specs.NearMisses.{nuOfBoxOrLetter, letterDropped, letterUnfocused, lastFocusLeft, lastFocusBroughtBack, nuOfBoxOrMu, letterFocused, nuOfBoxTwice}
 use Rattle.samples.specs.NearMisses.{goodLoopThenBad, loopOutOfFocus, loopFocusedOnce, loopWithoutD}
 use Rattle.samples.specs.NearMisses.{onlyTrue, byAx2, twoTrue, secondDropped, focusedTwice, unfocusedTwice, orphan, trueAndTrue, oneChildTwice}
 use Rattle.samples.specs.NearMisses.{nameThroughFixpoint, fixpointUnderBox, trueBesideLetter, codeTwice, nameAsMember, leafWithName, mapOfAx2, mapOfTrue}
@@ -90,10 +90,14 @@ samples =
     ∷ record { question = check twoBoxes boxBesideBox; answer = verdictIs (refused 37 0) }
     -- near misses: each fails one condition and keeps all others. Soundness does not need most of these conditions, so that a definition and
     -- its test without one of them would still be proved; each comment says what they would then answer
-    -- no rule on a loop is 9: a loop in focus with a box is good, and U on it is its only fault; without 'or 9': accepted
+    -- a loop in focus with a box is good, and U may stand on it while a focused member is left; without 'rule 9 is now allowed': 39 at 6
     ∷ record { question = check nuOfBoxOrLetter letterDropped; answer = verdictIs accepted }
-    ∷ record { question = check nuOfBoxOrLetter letterUnfocused; answer = verdictIs (refused 39 6) }
-    -- nor 8: F as the only fault; without '8 or': accepted
+    ∷ record { question = check nuOfBoxOrLetter letterUnfocused; answer = verdictIs accepted }
+    -- U takes the last focus on the loop: only F brings one into being, so without F the leaf is not its companion's sequent (38), and
+    -- with F the path is bad (39), by the F and by the sequents without focus below the U; with neither condition: accepted
+    ∷ record { question = check nuBox lastFocusLeft; answer = verdictIs (refused 38 4) }
+    ∷ record { question = check nuBox lastFocusBroughtBack; answer = verdictIs (refused 39 5) }
+    -- no rule on a loop is 8: F as the only fault; without it: accepted
     ∷ record { question = check nuOfBoxOrMu letterFocused; answer = verdictIs (refused 39 7) }
     -- every loop is walked: the first is good, the second has no box; with the first alone walked: accepted
     ∷ record { question = check nuOfBoxTwice goodLoopThenBad; answer = verdictIs (refused 39 6) }

@@ -8,6 +8,7 @@ mod models;
 mod near_miss;
 mod number;
 mod pairs;
+mod paths;
 mod provable;
 mod records;
 mod rng;
@@ -17,6 +18,7 @@ mod tally;
 
 pub mod extremes;
 
+pub use paths::{leaves_focus, loop_paths};
 pub use rng::Rng;
 pub use tally::Tally;
 
@@ -27,15 +29,21 @@ use crate::refusal::answer;
 
 /// An endless run of claims and proofs with the reference's answers.
 pub fn checks(seed: u64) -> impl Iterator<Item = CheckRecord> {
-    inputs(seed, |rng| {
-        let (claim, proof) = pairs::check_pair(rng);
-        let answer = check(&claim, &proof);
-        CheckRecord {
-            claim,
-            proof,
-            answer,
-        }
-    })
+    inputs(seed, |rng| check_record(pairs::check_pair(rng)))
+}
+
+/// The same with a loop in each proof that has rule 9 on its path.
+pub fn loops_leaving_focus(seed: u64) -> impl Iterator<Item = CheckRecord> {
+    inputs(seed, |rng| check_record(pairs::loop_leaving_focus(rng)))
+}
+
+fn check_record((claim, proof): (Vec<u8>, Vec<u8>)) -> CheckRecord {
+    let answer = check(&claim, &proof);
+    CheckRecord {
+        claim,
+        proof,
+        answer,
+    }
 }
 
 /// An endless run of claims and models with the reference's answers.

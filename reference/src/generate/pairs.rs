@@ -6,12 +6,13 @@ use super::formulas::{Builder, Scope, Shape};
 use super::models;
 use super::near_miss::near_miss;
 use super::number::number;
+use super::paths::leaves_focus;
 use super::provable::{provable, Provable};
 use super::rng::Rng;
 use super::search::search;
 use super::step::{Flaw, FLAWS};
 use crate::bits::Bits;
-use crate::check::check;
+use crate::check::{check, judge};
 use crate::claim::{Entry, Kind};
 use crate::draft::{self, DraftNode, File};
 use crate::proof::Rule;
@@ -161,6 +162,24 @@ pub fn check_pair(rng: &mut Rng) -> (Vec<u8>, Vec<u8>) {
         37 => (accepted(rng).claim().bytes, accepted(rng).proof().bytes),
         38 => other_members(rng).files(),
         _ => rare_pair(rng),
+    }
+}
+
+/// A claim and a proof with a loop that leaves focus: rule 9 stands on the way
+/// from a back leaf up to the ancestor that it is linked to. What else is wrong
+/// is as it comes.
+pub fn loop_leaving_focus(rng: &mut Rng) -> (Vec<u8>, Vec<u8>) {
+    loop {
+        let proved = match rng.below(3) {
+            0 => accepted(rng),
+            1 => flawed(rng),
+            _ => changed(rng),
+        };
+        let (claim, proof) = proved.files();
+        let decoded = judge(&claim, &proof).decoded;
+        if decoded.is_some_and(|decoded| leaves_focus(&decoded.proof)) {
+            return (claim, proof);
+        }
     }
 }
 

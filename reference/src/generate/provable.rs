@@ -58,13 +58,14 @@ fn valid(rng: &mut Rng, shape: Shape) -> Provable {
 }
 
 /// Greatest fixpoints of boxes in one another, each naming those around it:
-/// `nu X. box (X and nu Y. box (X and Y and ...))`. Their proofs have loops in
-/// loops.
+/// `nu X. box (X and nu Y. box (X and Y and ...))`, at times with a spare letter
+/// beside each box. Their proofs have loops in loops, which leave the letters.
 fn greatest(rng: &mut Rng, shape: Shape) -> Provable {
     let levels = rng.between(1, shape.depth.min(4));
     let mut entries = Vec::new();
     let names = levels as u16;
-    let per_level = 3;
+    let spare = rng.chance(2, 3);
+    let per_level = if spare { 5 } else { 3 };
     let fixpoint_of = |level: u16| names + (names - level) * per_level - 1;
     for level in 0..names {
         entries.push(Entry::new(Kind::Name, fixpoint_of(level), 0));
@@ -81,11 +82,16 @@ fn greatest(rng: &mut Rng, shape: Shape) -> Provable {
         let both = |[a, b]: [u16; 2]| Entry::new(Kind::And, a, b);
         entries.push(both(pair));
         entries.push(boxed(at));
-        entries.push(Entry::new(Kind::Nu, at + 1, 0));
+        if spare {
+            entries.extend(beside_a_letter(rng, shape, at + 1));
+        }
+        entries.push(Entry::new(Kind::Nu, entries.len() as u16 - 1, 0));
     }
     let mut valid = Bits::default();
-    for number in 0..entries.len() {
-        valid.insert(number);
+    for (number, entry) in entries.iter().enumerate() {
+        if entry.kind != Kind::Letter {
+            valid.insert(number);
+        }
     }
     Provable {
         members: vec![(entries.len() - 1) as u16],
@@ -93,6 +99,17 @@ fn greatest(rng: &mut Rng, shape: Shape) -> Provable {
         entries,
         valid,
     }
+}
+
+/// A letter, and the last entry or it.
+fn beside_a_letter(rng: &mut Rng, shape: Shape, last: u16) -> [Entry; 2] {
+    let mut pair = [last, last + 1];
+    rng.shuffle(&mut pair);
+    let letter = rng.below(shape.letters.into()) as u16;
+    [
+        Entry::new(Kind::Letter, letter, 0),
+        Entry::new(Kind::Or, pair[0], pair[1]),
+    ]
 }
 
 /// Any closed formula and its negation, interleaved at random.

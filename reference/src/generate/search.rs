@@ -166,7 +166,7 @@ impl Search<'_> {
         let mut starts = Vec::new();
         for &at in self.path.iter().rev() {
             let step = &self.steps[at];
-            if changes_focus(step.rule, flaw) {
+            if step.rule == Rule::F && flaw != Flaw::LoopThroughF {
                 break;
             }
             if focus_needed && !step::has_focus(&step.sequent) {
@@ -230,9 +230,16 @@ impl Search<'_> {
         }
         let kernel = self.kernel(sequent)?;
         let other = self.any_but(sequent, &kernel)?;
-        let leaves_focus = in_focus(other) && self.flaw_now() == Flaw::LoopThroughU;
-        let rule = if leaves_focus { Rule::U } else { Rule::W };
-        Some(Choice::Apply(rule, other))
+        Some(Choice::Apply(self.spare(other), other))
+    }
+
+    /// The rule for a spare member: W, or U first, inside a loop or out of it.
+    fn spare(&mut self, code: u16) -> Rule {
+        if in_focus(code) && self.rng.chance(1, 2) {
+            Rule::U
+        } else {
+            Rule::W
+        }
     }
 
     /// Members that suffice: one known to be valid, or one and its negation.
@@ -315,7 +322,10 @@ impl Search<'_> {
         let mut kept: Vec<u16> = sequent.clone();
         kept.retain(|&code| code == principal || self.goes_with_box(code, principal));
         match self.any_but(&sequent, &kept) {
-            Some(other) => self.apply(Rule::W, other, sequent, Goal::Box(principal)),
+            Some(other) => {
+                let rule = self.spare(other);
+                self.apply(rule, other, sequent, Goal::Box(principal))
+            }
             None => self.apply(Rule::Box, principal, sequent, Goal::Any),
         }
     }
@@ -329,15 +339,6 @@ impl Search<'_> {
                 Flaw::BoxDropsOthers => true,
                 _ => false,
             }
-    }
-}
-
-/// Whether a loop may not pass this rule, as far as the flaw sees it.
-fn changes_focus(rule: Rule, flaw: Flaw) -> bool {
-    match rule {
-        Rule::F => flaw != Flaw::LoopThroughFocusChange,
-        Rule::U => !matches!(flaw, Flaw::LoopThroughFocusChange | Flaw::LoopThroughU),
-        _ => false,
     }
 }
 

@@ -12,10 +12,8 @@ pub enum Flaw {
     LoopWithoutFocus,
     /// Loops whose path has no box step.
     LoopWithoutBox,
-    /// Loops whose path changes focus by F or U.
-    LoopThroughFocusChange,
-    /// Loops that take spare members out of focus, by U only.
-    LoopThroughU,
+    /// Loops whose path brings focus into being by F.
+    LoopThroughF,
     /// Back leaves linked to a D on another branch.
     LoopAcross,
     /// Back leaves linked to an ancestor that is no D.
@@ -34,11 +32,10 @@ pub enum Flaw {
     GivesUp,
 }
 
-pub const FLAWS: [Flaw; 12] = [
+pub const FLAWS: [Flaw; 11] = [
     Flaw::LoopWithoutFocus,
     Flaw::LoopWithoutBox,
-    Flaw::LoopThroughFocusChange,
-    Flaw::LoopThroughU,
+    Flaw::LoopThroughF,
     Flaw::LoopAcross,
     Flaw::LoopWithoutCompanion,
     Flaw::MuKeepsFocus,

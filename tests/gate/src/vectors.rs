@@ -3,10 +3,15 @@
 use reference::corpus::{self, CheckRecord, EvalRecord, WriteRecord};
 use std::path::Path;
 
+/// Those of the base, then those of the requests.
 pub fn checks() -> Vec<CheckRecord> {
-    let records = corpus::read_checks(&read("base/check.bin")).expect("whole records");
-    assert_eq!(records.len(), 3551);
-    records
+    let files = [("base/check.bin", 3551), ("t02/check.bin", 1527)];
+    let records = files.map(|(file, count)| {
+        let records = corpus::read_checks(&read(file)).expect("whole records");
+        assert_eq!(records.len(), count, "{file}");
+        records
+    });
+    records.concat()
 }
 
 pub fn evals() -> Vec<EvalRecord> {

@@ -1,30 +1,42 @@
 //! Random and damaged files: the gate and the reference agree on each.
-//! `GATE_FILES` sets how many, `GATE_SEED` the seed.
+//! `GATE_FILES` sets how many, `GATE_LOOPS` how many whose loops leave focus,
+//! `GATE_SEED` the seed.
 
 use gate_tests::setting;
+use reference::corpus::CheckRecord;
 use reference::{describe, generate};
 
-#[test]
-fn random_and_damaged_files_agree() {
-    let files = setting("GATE_FILES", 50_000);
+/// The gate's answers are the reference's, and enough of the files are accepted.
+fn assert_agree(records: impl Iterator<Item = CheckRecord>, files: u64, what: &str) {
     let mut accepted = 0u64;
-    for (index, record) in generate::checks(setting("GATE_SEED", 1))
-        .take(files as usize)
-        .enumerate()
-    {
+    for (index, record) in records.take(files as usize).enumerate() {
         let got = gate_tests::check(&record.claim, &record.proof);
-        assert_eq!(
-            describe(got),
-            describe(record.answer),
-            "generated pair {index}"
-        );
-        accepted += u64::from(got == 0);
+        let (got, expected) = (describe(got), describe(record.answer));
+        assert_eq!(got, expected, "{what} {index}");
+        accepted += u64::from(record.answer == 0);
     }
     assert!(
         accepted * 10 > files,
         "too few accepted proofs: {accepted} of {files}"
     );
-    println!("gate: {files} generated pairs agree, {accepted} accepted");
+    println!("gate: {files} of {what} agree, {accepted} accepted");
+}
+
+#[test]
+fn random_and_damaged_files_agree() {
+    let records = generate::checks(setting("GATE_SEED", 1));
+    assert_agree(records, setting("GATE_FILES", 50_000), "generated pairs");
+}
+
+/// Rule 9 on a loop path, in good files and in bad ones.
+#[test]
+fn loops_that_leave_focus_agree() {
+    let records = generate::loops_leaving_focus(setting("GATE_SEED", 1));
+    assert_agree(
+        records,
+        setting("GATE_LOOPS", 10_000),
+        "loops that leave focus",
+    );
 }
 
 #[test]

@@ -5,7 +5,7 @@ use native.Mathlib.Omega.{arith}
 use borrow.Author.Needs.{needs}
 use borrow.Author.Tests.{eq-eqb, ne-eqb}
 use Rattle.verdict.specs.Tests.{any}
-use Rattle.loops.specs.Paths.{in-focus}
+use Rattle.calculus.specs.Judge.{in-focus}
 use Rattle.loops.specs.FocusLaws.{part, focus-found, focus-on, focus-end}
 use Rattle.loops.proofs.has_focus.Statement.{statement}
 use Rattle.loops.proofs.has_focus.Tie as tie

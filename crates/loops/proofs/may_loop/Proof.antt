@@ -1,23 +1,15 @@
 -- the rule decides before the codes are looked at, by the test that the definition has
 use mathlib.Core.Path.{_∙_}
 use borrow.Author.Needs.{needs}
-use borrow.Author.Tests.{not-true, not-false}
-use Rattle.verdict.specs.Tests.{any}
-use Rattle.formula.specs.PlainNodes.{codesAt}
-use Rattle.calculus.specs.Judge.{on-loop}
-use Rattle.loops.specs.Paths.{in-focus}
-use Rattle.loops.specs.FocusLaws.{on-loop-is, first-fails, first-passes}
+use Rattle.loops.specs.FocusLaws.{rule-bars, rule-passes}
 use Rattle.loops.proofs.may_loop.Statement.{statement}
 use Rattle.loops.proofs.may_loop.Tie as tie
 
-shared-slice-read-rule : tie.Need-shared-slice-read-rule
-shared-slice-read-rule c = search needs
+shared-slice-read-if1 : tie.Need-shared-slice-read-if1
+shared-slice-read-if1 c = search needs
 
 returns : tie.Need-returns
-unfolding on-loop
-returns c =
-    let start = c .before .before .before .before .before in
-    on-loop-is _ _ _ _ _ (first-fails (any in-focus (codesAt (start .args .starts .now) (start .args .codes .now) (start .args .v))) _ (not-true _ (c .if1 .taken)))
+returns c = rule-bars _ _ (c .if1 .taken)
 
 mul-wide : tie.Need-mul-wide
 mul-wide c = search needs
@@ -44,14 +36,15 @@ has-focus-requires : tie.Need-has-focus-requires
 has-focus-requires c κs = search needs
 
 returns-2 : tie.Need-returns-2
-unfolding on-loop
-returns-2 c = on-loop-is _ _ _ _ _ ((rw (c .before .wide2 .ensures, c .before .before .before .wide .ensures) at (c .has-focus .ensures)) ∙ first-passes _ _ (not-false _ (c .before .before .before .before .before .if1 .left)))
+returns-2 c =
+    (rw (c .before .wide2 .ensures, c .before .before .before .wide .ensures) at (c .has-focus .ensures))
+    ∙ rule-passes _ _ (c .before .before .before .before .before .if1 .left)
 
 pub may-loop-spec : {M : Type 1} → statement M
 may-loop-spec =
     tie.close
     (tie.spec
-    shared-slice-read-rule
+    shared-slice-read-if1
     returns
     mul-wide
     shared-slice-read-wide
