@@ -56,7 +56,7 @@ enum {
     FOCUS_ROOT = 36,          /* the root is not the claim in focus (0) */
     FOCUS_RULE = 37,          /* a rule not kept (node) */
     FOCUS_BACK_LINK = 38,     /* bad back link or other sequent (leaf) */
-    FOCUS_LOOP = 39,          /* bad loop path (leaf) */
+    FOCUS_LOOP = 39,          /* bad loop path: no focus, rule 8, or no rule 4 (leaf) */
 
     FOCUS_GATE_CLOSED = 50,   /* presenting, taking or closing on a closed gate (0) */
     FOCUS_PERMIT_HELD = 51,   /* presenting while a permit is held (0) */

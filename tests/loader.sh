@@ -82,6 +82,8 @@ pair mu-of-box-refocused
 denied 'mu of box, refocused' 'refuse 39 at 4' "${files[@]}"
 pair loop-without-box
 denied 'loop without a box' 'refuse 39 at 1' "${files[@]}"
+pair letter-unfocused
+granted 'focus left inside the loop' 7 "${files[@]}"
 
 # Damaged copies of the good pair, each in one thing.
 pair nu-of-box

@@ -1,5 +1,6 @@
 -- the rule decides before the codes are looked at, by the test that the definition has
 use mathlib.Core.Path.{_∙_}
+use native.Mathlib.Omega.{arith}
 use borrow.Author.Needs.{needs}
 use Rattle.loops.specs.FocusLaws.{rule-bars, rule-passes}
 use Rattle.loops.proofs.may_loop.Statement.{statement}
@@ -9,7 +10,7 @@ shared-slice-read-if1 : tie.Need-shared-slice-read-if1
 shared-slice-read-if1 c = search needs
 
 returns : tie.Need-returns
-returns c = rule-bars _ _ (c .if1 .taken)
+returns c = rule-bars _ _ (omega (arith, c .if1 .taken))
 
 mul-wide : tie.Need-mul-wide
 mul-wide c = search needs
@@ -38,7 +39,7 @@ has-focus-requires c κs = search needs
 returns-2 : tie.Need-returns-2
 returns-2 c =
     (rw (c .before .wide2 .ensures, c .before .before .before .wide .ensures) at (c .has-focus .ensures))
-    ∙ rule-passes _ _ (c .before .before .before .before .before .if1 .left)
+    ∙ rule-passes _ _ (λ is-F. omega (arith, c .before .before .before .before .before .if1 .left))
 
 pub may-loop-spec : {M : Type 1} → statement M
 may-loop-spec =
