@@ -18,7 +18,7 @@ use Rattle.calculus.specs.Judge.{ancestor, on-loop, good-path}
 use Rattle.tree.specs.Owners.{Owned, Parented}
 use Rattle.tree.specs.Spans.{up}
 use Rattle.tree.specs.Climbs.{path, Parents, path-step, path-end}
-use Rattle.loops.specs.Paths.{box, barred, Nearest, nearest-at, PathsTold, PathsFilled}
+use Rattle.loops.specs.Paths.{box, passable, barred, Nearest, nearest-at, PathsTold, PathsFilled}
 
 module _ (p : Proof) (owners : List ℕ) (R : Parents p owners) (marked : ℕ → Bool) (table : List ℕ) (v : ℕ) (real : v < length p) (N : Nearest p marked v table) where
   -- without a mark of its own a node's nearest one lies above it
@@ -87,7 +87,7 @@ unfolding good-path ancestor
 paths-told p bars boxes B X = record {
   path-is = λ c v real h.
       let m = latter (ltb c v) (member (path p c v) c) h in
-      sym (rw (all-or-any (λ w. on-loop (node p w .rule) (node p w .codes)) (path p c v), B .tells c v real m, X .tells c v real m, not-ltb c (getD bars v 0)) refl);
+      sym (rw (all-or-any (passable p) (path p c v), B .tells c v real m, X .tells c v real m, not-ltb c (getD bars v 0)) refl);
 }
   where
     latter : (a b : Bool) → (a && b) ≡ true → b ≡ true

@@ -17,12 +17,15 @@ use Rattle.tree.specs.Spans.{up, Upward}
 use Rattle.tree.specs.Climbs.{path}
 use Rattle.tree.specs.Ancestors.{AncestorsTold}
 
--- a box, and a node that may not lie on a loop path
+-- a box; a node that may lie on a loop path, and one that may not
 abbrev pub box : Proof → ℕ → Bool
 box p v = eqb (node p v .rule) Rule.BOX
 
+abbrev pub passable : Proof → ℕ → Bool
+passable p v = on-loop (node p v .rule) (node p v .codes)
+
 abbrev pub barred : Proof → ℕ → Bool
-barred p v = not (on-loop (node p v .rule) (node p v .codes))
+barred p v = not (passable p v)
 
 -- on a path from c down to w a node is marked just when the table's number at w lies above c
 pub record Nearest (p : Proof) (marked : ℕ → Bool) (v : ℕ) (table : List ℕ) : Type 0 where

@@ -80,6 +80,26 @@ letterUnfocused =
     (discharge 1 (9 ∷ []) ∷ step 6 9 2 (9 ∷ []) ∷ step 2 7 3 (7 ∷ []) ∷ step 9 5 4 (3 ∷ 5 ∷ []) ∷ step 7 4 5 (3 ∷ 4 ∷ []) ∷ step 4 3 6 (3 ∷ [])
     ∷ back 0 (9 ∷ []) ∷ [])
 
+-- entry 7 is the nu of 'box of its name and true, or a mu over letter 0'
+abbrev pub nuOfAndOrMu : List ℕ
+nuOfAndOrMu =
+    claimOf
+    (entryA 10 7 ∷ entryA 7 0 ∷ truth ∷ entryAB 5 1 2 ∷ entryA 2 0 ∷ entryA 8 4 ∷ entryAB 4 3 5 ∷ entryA 9 6 ∷ [])
+    (7 ∷ [])
+
+-- D, nu, or, U and mu of the mu, W of its letter, D again, and, box, back leaf; Ax2 for the other child of the and
+abbrev pub everyRuleButF : List ℕ
+everyRuleButF =
+    proofOf
+    (discharge 1 (15 ∷ []) ∷ step 6 15 2 (15 ∷ []) ∷ step 2 13 3 (13 ∷ []) ∷ step 9 11 4 (7 ∷ 11 ∷ []) ∷ step 5 10 5 (7 ∷ 10 ∷ [])
+    ∷ step 7 8 6 (7 ∷ 8 ∷ []) ∷ discharge 7 (7 ∷ []) ∷ and 7 8 10 (7 ∷ []) ∷ step 4 3 9 (3 ∷ []) ∷ back 0 (15 ∷ []) ∷ axiom2 (5 ∷ []) ∷ [])
+
+-- U and F, then the loop of nu below them
+abbrev pub focusLostAbove : List ℕ
+focusLostAbove =
+    proofOf
+    (step 9 5 1 (5 ∷ []) ∷ step 8 4 2 (4 ∷ []) ∷ discharge 3 (5 ∷ []) ∷ step 6 5 4 (5 ∷ []) ∷ step 4 3 5 (3 ∷ []) ∷ back 2 (5 ∷ []) ∷ [])
+
 -- the loop of nu, where U takes the box out of focus; the same with F before the leaf
 abbrev pub lastFocusLeft : List ℕ
 lastFocusLeft =

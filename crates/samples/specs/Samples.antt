@@ -12,7 +12,7 @@ use Rattle.demands.specs.Present.{presenting}
 use Rattle.demands.specs.Evaluate.{evaluating}
 use Rattle.samples.specs.Files.{nuBox, muBox, loopOfNu, loopOfMu, loopOfMuWithF, loopOfFocusedMu, boxBesideBox, twoBoxes, emptyLoop, orOfLetters, orThenAx1, muOfOwnName, diamondAbove, noSuccessor, ownSuccessor}
 use Rattle.samples.specs.NearMisses.{nuOfBoxOrLetter, letterDropped, letterUnfocused, lastFocusLeft, lastFocusBroughtBack, nuOfBoxOrMu, letterFocused, nuOfBoxTwice}
-use Rattle.samples.specs.NearMisses.{goodLoopThenBad, loopOutOfFocus, loopFocusedOnce, loopWithoutD}
+use Rattle.samples.specs.NearMisses.{nuOfAndOrMu, everyRuleButF, focusLostAbove, goodLoopThenBad, loopOutOfFocus, loopFocusedOnce, loopWithoutD}
 use Rattle.samples.specs.NearMisses.{onlyTrue, byAx2, twoTrue, secondDropped, focusedTwice, unfocusedTwice, orphan, trueAndTrue, oneChildTwice}
 use Rattle.samples.specs.NearMisses.{nameThroughFixpoint, fixpointUnderBox, trueBesideLetter, codeTwice, nameAsMember, leafWithName, mapOfAx2, mapOfTrue}
 use Rattle.samples.specs.NearMisses.{endsAtEntryCount, endsAtMemberCount, endsAtNodeCount, endsAtCodeCount, endsAtStateCount}
@@ -93,6 +93,10 @@ samples =
     -- a loop in focus with a box is good, and U may stand on it while a focused member is left; without 'rule 9 is now allowed': 39 at 6
     ∷ record { question = check nuOfBoxOrLetter letterDropped; answer = verdictIs accepted }
     ∷ record { question = check nuOfBoxOrLetter letterUnfocused; answer = verdictIs accepted }
+    -- no rule is barred but 8: every other one stands on the path; with any of them barred: 39 at 9
+    ∷ record { question = check nuOfAndOrMu everyRuleButF; answer = verdictIs accepted }
+    -- the path begins at the companion: F, and a sequent without focus, stand above it; with the path from the root: 39 at 5
+    ∷ record { question = check nuBox focusLostAbove; answer = verdictIs accepted }
     -- U takes the last focus on the loop: only F brings one into being, so without F the leaf is not its companion's sequent (38), and
     -- with F the path is bad (39), by the F and by the sequents without focus below the U; with neither condition: accepted
     ∷ record { question = check nuBox lastFocusLeft; answer = verdictIs (refused 38 4) }

@@ -87,18 +87,22 @@ fn greatest(rng: &mut Rng, shape: Shape) -> Provable {
         }
         entries.push(Entry::new(Kind::Nu, entries.len() as u16 - 1, 0));
     }
-    let mut valid = Bits::default();
-    for (number, entry) in entries.iter().enumerate() {
-        if entry.kind != Kind::Letter {
-            valid.insert(number);
-        }
-    }
     Provable {
         members: vec![(entries.len() - 1) as u16],
         dual: vec![None; entries.len()],
+        valid: all_but_letters(&entries),
         entries,
-        valid,
     }
+}
+
+fn all_but_letters(entries: &[Entry]) -> Bits {
+    let mut numbers = Bits::default();
+    for (number, entry) in entries.iter().enumerate() {
+        if entry.kind != Kind::Letter {
+            numbers.insert(number);
+        }
+    }
+    numbers
 }
 
 /// A letter, and the last entry or it.
