@@ -20,13 +20,13 @@ pub record Opposite (t : Table) (c d : ℕ) : Type 0 where
   pub negated-kind : kind t (entryOf d) ≡ Kind.NEGATED
   pub one-letter : entry t (entryOf c) .a ≡ entry t (entryOf d) .a
 
-pub record Two (t : Table) (S : Set) : Type 0 where
+pub record Two (t : Table) (S : Set ℕ) : Type 0 where
   pub plain : ℕ
   pub negated : ℕ
   pub opposed : Opposite t plain negated
   pub exactly : Same S (none plus plain plus negated)
 
-pub record One (t : Table) (S : Set) : Type 0 where
+pub record One (t : Table) (S : Set ℕ) : Type 0 where
   pub member : ℕ
   pub of-kind : kind t (entryOf member) ≡ Kind.TRUE
   pub exactly : Same S (none plus member)

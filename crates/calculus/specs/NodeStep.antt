@@ -54,7 +54,7 @@ module _ (c : Claim) {m : Model} (M : Falsity (c .entries) m) (d : Derivation) (
   first-child : (Rule.OR ≤ rule p v) × (rule p v ≤ Rule.D) → Child p v (node p v .first)
   first-child h = first real (h .0) (h .1) refl
 
-  stay-first : (Rule.OR ≤ rule p v) × (rule p v ≤ Rule.D) × (rule p v ≢ Rule.BOX) → {S : Set} → firstSequent p v ⊆ S → S ⊆ Fails M j s → Stepped M p v j
+  stay-first : (Rule.OR ≤ rule p v) × (rule p v ≤ Rule.D) × (rule p v ≢ Rule.BOX) → {S : Set ℕ} → firstSequent p v ⊆ S → S ⊆ Fails M j s → Stepped M p v j
   stay-first h f g = stay (node p v .first) (first-child (h .0, h .1)) (h .2) (⊆-trans f g)
 
   side-fails : side p v ⊆ Fails M j s

@@ -13,7 +13,7 @@ use Rattle.calculus.specs.Falsity.{Falsity, Family, Passes, OneLess}
 
 module _ {t : Table} {m : Model} (M : Falsity t m) where
   -- each member, by itself, is false at s
-  pub record Refutes (s : ℕ) (S : Set) : Type 0 where
+  pub record Refutes (s : ℕ) (S : Set ℕ) : Type 0 where
     pub inside : s < m .size
     pub all : S ⊆ (λ c. M .false-at (entryOf c) s)
 
@@ -27,10 +27,10 @@ module _ {t : Table} {m : Model} (M : Falsity t m) where
   OwedNext j zero = M .false-at
   OwedNext j (suc f) = OneLess (M .Refuted) j
 
-  abbrev pub Fails : ℕ → ℕ → Set
+  abbrev pub Fails : ℕ → ℕ → Set ℕ
   Fails j s c = Owed j (focusOf c) (entryOf c) s
 
-  pub record RefutesWithin (j s : ℕ) (S : Set) : Type 0 where
+  pub record RefutesWithin (j s : ℕ) (S : Set ℕ) : Type 0 where
     pub inside : s < m .size
     pub all : S ⊆ Fails j s
 

@@ -9,13 +9,13 @@ module _ (p : Proof) where
   abbrev pub rule : ℕ → ℕ
   rule v = node p v .rule
 
-  abbrev pub sequent : ℕ → Set
+  abbrev pub sequent : ℕ → Set ℕ
   sequent v = elements (node p v .codes)
 
-  abbrev pub firstSequent : ℕ → Set
+  abbrev pub firstSequent : ℕ → Set ℕ
   firstSequent v = sequent (node p v .first)
 
-  abbrev pub secondSequent : ℕ → Set
+  abbrev pub secondSequent : ℕ → Set ℕ
   secondSequent v = sequent (node p v .second)
 
   -- a code too
@@ -30,7 +30,7 @@ module _ (p : Proof) where
   focus v = focusOf (principal v)
 
   -- the side (document 01's term): the sequent without the principal
-  abbrev pub side : ℕ → Set
+  abbrev pub side : ℕ → Set ℕ
   side v = without (sequent v) (principal v)
 
   abbrev pub Belongs : ℕ → Type 0

@@ -18,7 +18,7 @@ use Rattle.calculus.specs.Falsity.{Falsity}
 use Rattle.calculus.specs.Refutes.{Refutes, RefutesWithin, all-within}
 use Rattle.calculus.specs.Reached.{companion, companion-refuted, every-node}
 
-all-or-some : {P : Set} → ((c : ℕ) → Dec (P c)) → (l : List ℕ) → (elements l ⊆ P) ⊎ ((c : ℕ) × elements l c × (¬ P c))
+all-or-some : {P : Set ℕ} → ((c : ℕ) → Dec (P c)) → (l : List ℕ) → (elements l ⊆ P) ⊎ ((c : ℕ) × elements l c × (¬ P c))
 all-or-some d [] = inl (λ c n. absurd (List·Memᴰ·not-nil n))
 all-or-some {P} d (x ∷ l) = go (d x) (all-or-some d l)
   where

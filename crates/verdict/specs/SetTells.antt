@@ -9,7 +9,7 @@ use Rattle.verdict.specs.Sets.{Set, Same, _⊆_, elements, without, imag
 use Rattle.verdict.specs.Tests.{all, any, member, same, keep, remove, each}
 use Rattle.verdict.specs.Tells.{Tells, tells-as, eqb-tells, and-tells, or-tells, not-tells}
 
-module _ {f : ℕ → Bool} {P : Set} (x : (c : ℕ) → Tells (f c) (P c)) where
+module _ {f : ℕ → Bool} {P : Set ℕ} (x : (c : ℕ) → Tells (f c) (P c)) where
   pub all-tells : (l : List ℕ) → Tells (all f l) (elements l ⊆ P)
   unfolding all
   all-tells [] = record { says = λ h c m. absurd (List·Memᴰ·not-nil m); holds = λ g. refl }
@@ -37,19 +37,19 @@ unfolding member
 member-tells l c = tells-as (λ (d, m, e). rw e m) (λ m. (c, m, refl)) (any-tells (λ d. eqb-tells c d) l)
 
 -- the list l holds the set S
-abbrev pub Lists : List ℕ → Set → Type 0
+abbrev pub Lists : List ℕ → Set ℕ → Type 0
 Lists l S = Same (elements l) S
 
-pub same-sym : {S R : Set} → Same S R → Same R S
+pub same-sym : {X : Type 0} {S R : Set X} → Same S R → Same R S
 same-sym s = record { into = s .from; from = s .into }
 
-pub same-trans : {S R Q : Set} → Same S R → Same R Q → Same S Q
+pub same-trans : {X : Type 0} {S R Q : Set X} → Same S R → Same R Q → Same S Q
 same-trans s r = record { into = λ c m. r .into c (s .into c m); from = λ c m. s .from c (r .from c m) }
 
 pub lists-self : (l : List ℕ) → Lists l (elements l)
 lists-self l = record { into = λ c m. m; from = λ c m. m }
 
-pub lists-plus : {l : List ℕ} {S : Set} (x : ℕ) → Lists l S → Lists (x ∷ l) (S plus x)
+pub lists-plus : {l : List ℕ} {S : Set ℕ} (x : ℕ) → Lists l S → Lists (x ∷ l) (S plus x)
 lists-plus {l} {S} x s = record { into = into; from = from }
   where
     into : (c : ℕ) → elements (x ∷ l) c → (S plus x) c
@@ -94,7 +94,7 @@ lists-each f (x ∷ l) = record { into = into (lists-each f l); from = λ c (d, 
     from s c d (List·Memᴰ·head q) e = List·Memᴰ·head (e ∙ ap f q)
     from s c d (List·Memᴰ·tail m) e = List·Memᴰ·tail (s .from c (d, m, e))
 
-pub same-tells : (l : List ℕ) {r : List ℕ} {R : Set} → Lists r R → Tells (same l r) (Same (elements l) R)
+pub same-tells : (l : List ℕ) {r : List ℕ} {R : Set ℕ} → Lists r R → Tells (same l r) (Same (elements l) R)
 unfolding same
 same-tells l {r} s = tells-as
     (λ (f, g). same-trans (record { into = f; from = g }) s)
