@@ -17,8 +17,8 @@ use Rattle.formula.specs.Nodes.{Proof, Node, node}
 use Rattle.formula.specs.PlainNodes.{proofOf, proofOf-length, proofOf-node}
 use Rattle.calculus.specs.View.{plain}
 use Rattle.calculus.specs.Judge.{codes, ancestor, back-kept, loop}
-use Rattle.tree.specs.Spans.{spanned}
-use Rattle.tree.specs.Ancestors.{AncestorsTold, not-below}
+use Rattle.spans.specs.Spans.{spanned}
+use Rattle.spans.specs.Ancestors.{AncestorsTold, not-below}
 use Rattle.loops.specs.Paths.{companion-fits, clear, PathsTold, Linked, LeavesTold, LeafJudged, LeavesJudged}
 
 module _ (rs ls ss cs : List ℕ) (n v : ℕ) (real : v < n) where

@@ -16,8 +16,8 @@ use Rattle.formula.specs.Nodes.{Proof, Node, node}
 use Rattle.formula.specs.PlainNodes.{codesAt, proofOf, proofOf-length, proofOf-node}
 use Rattle.calculus.specs.Judge.{ancestor, on-loop, good-path}
 use Rattle.tree.specs.Owners.{Owned, Parented}
-use Rattle.tree.specs.Spans.{up}
-use Rattle.tree.specs.Climbs.{path, Parents, path-step, path-end}
+use Rattle.spans.specs.Spans.{up}
+use Rattle.spans.specs.Climbs.{path, Parents, path-step, path-end}
 use Rattle.loops.specs.Paths.{box, passable, barred, Nearest, nearest-at, PathsTold, PathsFilled}
 
 module _ (p : Proof) (owners : List ℕ) (R : Parents p owners) (marked : ℕ → Bool) (table : List ℕ) (v : ℕ) (real : v < length p) (N : Nearest p marked v table) where

@@ -13,9 +13,9 @@ use Rattle.formula.specs.PlainNodes.{proofOf}
 use Rattle.calculus.specs.View.{plain}
 use Rattle.calculus.specs.Judge.{ancestor, on-loop, good-path, loop}
 use Rattle.tree.specs.Owners.{Owned}
-use Rattle.tree.specs.Spans.{up, Upward}
-use Rattle.tree.specs.Climbs.{path}
-use Rattle.tree.specs.Ancestors.{AncestorsTold}
+use Rattle.spans.specs.Spans.{up, Upward}
+use Rattle.spans.specs.Climbs.{path}
+use Rattle.spans.specs.Ancestors.{AncestorsTold}
 
 -- a box; a node that may lie on a loop path, and one that may not
 abbrev pub box : Proof → ℕ → Bool

@@ -10,7 +10,7 @@ ghost use Rattle.tree.specs.Owners.{Owned, Parented};
 ghost use Rattle.loops.specs.Paths.{nearest-at, Tabled, PathsFilled, LeafJudged, LeavesJudged, Linked, Companion, loops-judged};
 use bits::wide;
 use formula::Rule;
-use tree::spans::is_spanned;
+use spans::is_spanned;
 use verdict::Verdict;
 
 // Whether one of the codes from start up to end is in focus.

@@ -26,7 +26,7 @@ use Rattle.calculus.specs.JudgeExact.{judge-is, claim-stage, loops-stage}
 use Rattle.verdict.specs.ScanLaws.{Passed, scan-passes, scan-fails, after, scan-then}
 use Rattle.tree.specs.Owners.{Ownerless, OwnersFilled, tree-judged}
 use Rattle.tree.specs.TreeStages.{tree-then, accepted-tree}
-use Rattle.tree.specs.Ancestors.{AncestorsTold}
+use Rattle.spans.specs.Ancestors.{AncestorsTold}
 use Rattle.loops.specs.Paths.{Companion, companion-fits, Linked, loops-judged}
 use Rattle.loops.specs.LoopStages.{back-kept-is}
 use Rattle.sequents.specs.Placed.{Entries}

@@ -12,7 +12,7 @@ ghost use Rattle.sequents.specs.Placed.{Members};
 ghost use Rattle.kept.specs.Judged.{Judged};
 ghost use Rattle.rules.specs.JudgeStages.{TreeReady, Laid, Fresh, rules-judged, nodes-judged, tree-rules-judged};
 ghost use Rattle.tree.specs.Owners.{OwnedBy};
-ghost use Rattle.tree.specs.Spans.{Upward, Counted};
+ghost use Rattle.spans.specs.Spans.{Upward, Counted};
 use bits::wide;
 use formula::Rule;
 use kept::kept::kept;
@@ -20,8 +20,8 @@ use loops::companion;
 use loops::judge_loops;
 use sequents::sets::root_is_claim;
 use sequents::sets::same_sequent;
+use spans::fill_spans;
 use tree::fill_owners;
-use tree::spans::fill_spans;
 use verdict::Verdict;
 
 // Whether node v keeps its rule, back leaves included.

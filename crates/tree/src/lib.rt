@@ -10,8 +10,6 @@ use bits::wide;
 use formula::Rule;
 use verdict::Verdict;
 
-pub mod spans; // spans.rt: entry and exit numbers, which tell the ancestors
-
 // Whether w is a node above v that no parent has yet.
 fn child_fits(owners: &[u16], nodes: usize, v: usize, w: usize) -> bool
     requires { ⌜ nodes ≤ length (now owners) ⌝ }

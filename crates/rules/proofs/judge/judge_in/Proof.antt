@@ -2,7 +2,7 @@
 use mathlib.Core.Path.{refl, sym, ap, _∙_}
 use borrow.Author.Needs.{needs}
 use Rattle.verdict.specs.Shown.{shown}
-use Rattle.tree.specs.SpanLaws.{none-counted}
+use Rattle.spans.specs.SpanLaws.{none-counted}
 use Rattle.tree.specs.TreeStages.{filled-parented}
 use Rattle.rules.specs.JudgeStages.{tree-bad, tree-good, filled-tree, filled-judged}
 use Rattle.rules.proofs.judge.judge_in.Statement.{statement}

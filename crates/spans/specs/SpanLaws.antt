@@ -7,8 +7,8 @@ use native.Mathlib.Omega.{arith}
 use lib.ListN.{length, getD, set, length-set}
 use lib.Seq.{getD-set-same, getD-set-other}
 use borrow.Author.Count.{below-more}
 use Rattle.tree.specs.Owners.{Parented}
-use Rattle.tree.specs.Spans.{up, Spans, total, Counted, Numbered}
+use Rattle.spans.specs.Spans.{up, Spans, total, Counted, Numbered}
 
 total-suc : (l : List ℕ) (v : ℕ) → total l (suc v) ≡ total l v + getD l v 0
 unfolding total

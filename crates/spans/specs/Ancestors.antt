@@ -12,9 +12,9 @@ use Rattle.verdict.specs.Tells.{fails-holds, and-tells, ltb-tells}
 use Rattle.formula.specs.Nodes.{Proof}
 use Rattle.calculus.specs.View.{plain}
 use Rattle.calculus.specs.Judge.{ancestor}
 use Rattle.tree.specs.Owners.{Owned, Parented}
-use Rattle.tree.specs.Spans.{up, Spans, spanned}
-use Rattle.tree.specs.Climbs.{path, Parents, path-step, path-end}
+use Rattle.spans.specs.Spans.{up, Spans, spanned}
+use Rattle.spans.specs.Climbs.{path, Parents, path-step, path-end}
 
 module _ (p : Proof) (owners : List ℕ) (R : Parents p owners) (entries exits : List ℕ) (S : Spans owners (length p) entries exits) where
   -- no number is in both spans

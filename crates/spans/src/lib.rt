@@ -3,8 +3,8 @@
 ghost use mathlib.Core.Path.{_≡_};
 ghost use Prim.Native.Nat.{_<_};
 ghost use lib.ListN.{length};
-ghost use Rattle.tree.specs.Spans.{Upward, Counted, spanned};
-ghost use Rattle.tree.specs.Ancestors.{SpansFilled};
+ghost use Rattle.spans.specs.Spans.{Upward, Counted, spanned};
+ghost use Rattle.spans.specs.Ancestors.{SpansFilled};
 use bits::wide;
 
 // By falling number each node is counted in its parent: its entry lies after all that is counted there before it.

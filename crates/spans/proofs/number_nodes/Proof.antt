@@ -4,11 +4,11 @@ use Prim.Native.Nat.{_-_, _<_, _≤_}
 use native.Mathlib.Omega.{arith}
 use lib.ListN.{length, length-set, getD}
 use borrow.Author.Needs.{needs}
-use Rattle.tree.specs.Spans.{Numbered}
-use Rattle.tree.specs.Ancestors.{spans-tell}
-use Rattle.tree.specs.SpanLaws.{root-numbered, exit-fits, number-more, spans-done}
-use Rattle.tree.proofs.spans.number_nodes.Statement.{statement}
-use Rattle.tree.proofs.spans.number_nodes.Tie as tie
+use Rattle.spans.specs.Spans.{Numbered}
+use Rattle.spans.specs.Ancestors.{spans-tell}
+use Rattle.spans.specs.SpanLaws.{root-numbered, exit-fits, number-more, spans-done}
+use Rattle.spans.proofs.number_nodes.Statement.{statement}
+use Rattle.spans.proofs.number_nodes.Tie as tie
 
 abbrev Inv-loop : tie.InvT-loop
 Inv-loop owners nodes entries₀ exits₀ v₀ entries exits v = (0 < v) × (v ≤ nodes) × (length entries ≡ length entries₀) × (length exits ≡ length exits₀) × Numbered owners nodes v entries₀ exits₀ entries exits

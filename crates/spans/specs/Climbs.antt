@@ -9,8 +9,8 @@ use Rattle.formula.specs.Nodes.{Proof}
 use Rattle.calculus.specs.View.{plain}
 use Rattle.calculus.specs.Judge.{parent, climb}
 use Rattle.calculus.specs.Steps.{climb-end, climb-step}
 use Rattle.tree.specs.Owners.{Owned, Parented}
-use Rattle.tree.specs.Spans.{up}
+use Rattle.spans.specs.Spans.{up}
 
 -- the walk from w up to the first number not above c
 abbrev pub path : Proof → ℕ → ℕ → List ℕ

@@ -4,10 +4,10 @@ use Prim.Native.Nat.{_≤_, _<_, _-_}
 use native.Mathlib.Omega.{arith}
 use lib.ListN.{length, length-set, getD}
 use borrow.Author.Needs.{needs}
-use Rattle.tree.specs.Spans.{Counted}
-use Rattle.tree.specs.SpanLaws.{parent-below, size-fits, count-more}
-use Rattle.tree.proofs.spans.count_nodes.Statement.{statement}
-use Rattle.tree.proofs.spans.count_nodes.Tie as tie
+use Rattle.spans.specs.Spans.{Counted}
+use Rattle.spans.specs.SpanLaws.{parent-below, size-fits, count-more}
+use Rattle.spans.proofs.count_nodes.Statement.{statement}
+use Rattle.spans.proofs.count_nodes.Tie as tie
 
 abbrev Inv-loop : tie.InvT-loop
 Inv-loop owners nodes offsets₀ sizes₀ v₀ offsets sizes v = (1 ≤ v) × (v ≤ nodes) × (length offsets ≡ length offsets₀) × (length sizes ≡ length sizes₀) × Counted owners nodes v offsets sizes

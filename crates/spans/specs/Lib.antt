@@ -1,0 +1,4 @@
+pub mod Spans
+pub mod Climbs
+pub mod Ancestors
+pub mod SpanLaws
