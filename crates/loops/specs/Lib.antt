@@ -1,4 +1,3 @@
 pub mod Paths
-pub mod FocusLaws
 pub mod PathLaws
 pub mod LoopStages

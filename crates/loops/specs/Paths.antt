@@ -2,7 +2,7 @@
 use mathlib.Core.Path.{_≡_}
 use mathlib.Core.Bool.{Bool, true, not, _&&_}
 use mathlib.Core.List.{List}
-use Prim.Native.Nat.{ℕ, _+_, _*_, _<_, _≤_}
+use Prim.Native.Nat.{ℕ, _+_, _<_, _≤_}
 use lib.Dec.{eqb, ltb, leb}
 use lib.ListN.{length, getD}
 use Rattle.verdict.specs.Tests.{choose, any, member}
@@ -15,7 +15,6 @@ use Rattle.calculus.specs.Judge.{ancestor, on-loop, good-path, loop}
 use Rattle.tree.specs.Owners.{Owned}
 use Rattle.spans.specs.Spans.{up, Upward}
 use Rattle.spans.specs.Climbs.{path}
-use Rattle.spans.specs.Ancestors.{AncestorsTold}
 
 -- a box; a node that may lie on a loop path, and one that may not
 abbrev pub box : Proof → ℕ → Bool
@@ -53,15 +52,6 @@ pub record PathsTold (p : Proof) (bars boxes : List ℕ) : Type 0 where
 -- of every proof with these columns and parents
 abbrev pub PathsFilled : List ℕ → List ℕ → List ℕ → ℕ → List ℕ → List ℕ → List ℕ → Type 0
 PathsFilled rs ss cs n owners bars boxes = (ls : List ℕ) → Owned (proofOf rs ls ss cs n) n owners → PathsTold (proofOf rs ls ss cs n) bars boxes
-
--- what a back leaf's link must be, but for the sequents
-abbrev pub companion-fits : Proof → ℕ → Bool
-companion-fits p v = ancestor (plain p) (node p v .back) v && eqb (node p (node p v .back) .rule) Rule.D
-
--- what the code says of the link of v, of every proof whose ancestors the numbers tell
-pub record Companion (rs ls entries exits : List ℕ) (v : ℕ) (answer : Bool) : Type 0 where
-  pub above : answer ≡ true → getD ls (4 * v + 3) 0 < v
-  pub fits : (ss cs : List ℕ) (n : ℕ) → v < n → AncestorsTold (proofOf rs ls ss cs n) entries exits → answer ≡ companion-fits (proofOf rs ls ss cs n) v
 
 -- what refusal 38 has ensured before 39
 abbrev pub Linked : Proof → Type 0

@@ -1,43 +1,15 @@
-// Back leaves: the link to a companion (38), and the loop path from it down to the leaf (39). Tables of the tree tell both in one step.
+// The loop path from a back leaf's companion down to it (39), told in one step by two tables of the tree.
 ghost use mathlib.Core.Path.{_≡_};
-ghost use Prim.Native.Nat.{_+_, _*_, _-_, _<_, _≤_};
-ghost use lib.ListN.{length, take, drop, getD};
+ghost use Prim.Native.Nat.{_+_, _*_, _<_, _≤_};
+ghost use lib.ListN.{length};
 ghost use Rattle.verdict.specs.Shown.{shown};
-ghost use Rattle.verdict.specs.Tests.{any};
-ghost use Rattle.formula.specs.PlainNodes.{codesAt, proofOf};
-ghost use Rattle.calculus.specs.Judge.{in-focus, on-loop};
+ghost use Rattle.formula.specs.PlainNodes.{proofOf};
 ghost use Rattle.tree.specs.Owners.{Owned, Parented};
-ghost use Rattle.loops.specs.Paths.{nearest-at, Tabled, PathsFilled, LeafJudged, LeavesJudged, Linked, Companion, loops-judged};
+ghost use Rattle.loops.specs.Paths.{nearest-at, Tabled, PathsFilled, LeafJudged, LeavesJudged, Linked, loops-judged};
 use bits::wide;
 use formula::Rule;
-use spans::is_spanned;
+use loop_nodes::may_loop;
 use verdict::Verdict;
-
-// Whether one of the codes from start up to end is in focus.
-fn has_focus(codes: &[u16], start: usize, end: usize) -> bool
-    requires { ⌜ end ≤ length (now codes) ⌝ }
-    ensures { λ r. ⌜ r ≡ any in-focus (take (end - start) (drop start (now (codes .entry)))) ⌝ }
-{
-    let mut i = start;
-    while i < end {
-        if codes[i] % 2 == 1 {
-            return true;
-        }
-        i += 1;
-    }
-    false
-}
-
-// Whether node v may lie on a loop path: its sequent has a focused member, and its rule is not 8.
-fn may_loop(rules: &[u8], starts: &[u16], codes: &[u16], v: usize) -> bool
-    requires { ⌜ (v < length (now rules)) × (v + 1 < length (now starts)) × (getD (now starts) (v + 1) 0 ≤ length (now codes)) ⌝ }
-    ensures { λ r. ⌜ r ≡ on-loop (getD (now (rules .entry)) v 0) (codesAt (now (starts .entry)) (now (codes .entry)) v) ⌝ }
-{
-    if rules[v] == Rule::F {
-        return false;
-    }
-    has_focus(codes, wide(starts[v]), wide(starts[v + 1]))
-}
 
 // One more than the number of the nearest marked node at or above v, or 0; the table has those of all nodes below v.
 fn nearest(owners: &[u16], table: &[u16], v: usize, marked: bool) -> u16
@@ -124,19 +96,4 @@ pub fn judge_loops(
 {
     fill_paths(rules, starts, codes, nodes, owners, bars, boxes);
     judge_paths(rules, links, nodes, bars, boxes)
-}
-
-// Whether the back link of v is a proper ancestor of rule 10. The two sequents are not compared here.
-pub fn companion(rules: &[u8], links: &[u16], entries: &[u16], exits: &[u16], v: usize) -> bool
-    requires { ⌜ (v < length (now rules)) × (4 * v + 3 < length (now links)) × (v < length (now entries)) × (v < length (now exits)) ⌝ }
-    ensures { λ r. ⌜ Companion (now (rules .entry)) (now (links .entry)) (now (entries .entry)) (now (exits .entry)) v r ⌝ }
-{
-    let link = wide(links[4 * v + 3]);
-    if v <= link {
-        return false;
-    }
-    if !is_spanned(entries, exits, link, v) {
-        return false;
-    }
-    rules[link] == Rule::D
 }

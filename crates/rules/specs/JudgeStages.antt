@@ -27,8 +27,9 @@ use Rattle.verdict.specs.ScanLaws.{Passed, scan-passes, scan-fails, after, scan
 use Rattle.tree.specs.Owners.{Ownerless, OwnersFilled, tree-judged}
 use Rattle.tree.specs.TreeStages.{tree-then, accepted-tree}
 use Rattle.spans.specs.Ancestors.{AncestorsTold}
-use Rattle.loops.specs.Paths.{Companion, companion-fits, Linked, loops-judged}
-use Rattle.loops.specs.LoopStages.{back-kept-is}
+use Rattle.companions.specs.Companions.{Companion, companion-fits}
+use Rattle.companions.specs.CompanionLaws.{back-kept-is}
+use Rattle.loops.specs.Paths.{Linked, loops-judged}
 use Rattle.sequents.specs.Placed.{Entries}
 use Rattle.kept.specs.Judged.{Judged, codes-is}
 

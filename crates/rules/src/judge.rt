@@ -14,9 +14,9 @@ ghost use Rattle.rules.specs.JudgeStages.{TreeReady, Laid, Fresh, rules-
 ghost use Rattle.tree.specs.Owners.{OwnedBy};
 ghost use Rattle.spans.specs.Spans.{Upward, Counted};
 use bits::wide;
+use companions::companion;
 use formula::Rule;
 use kept::kept::kept;
-use loops::companion;
 use loops::judge_loops;
 use sequents::sets::root_is_claim;
 use sequents::sets::same_sequent;

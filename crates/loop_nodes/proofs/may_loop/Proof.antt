@@ -2,9 +2,9 @@
 use mathlib.Core.Path.{_∙_}
 use native.Mathlib.Omega.{arith}
 use borrow.Author.Needs.{needs}
-use Rattle.loops.specs.FocusLaws.{rule-bars, rule-passes}
-use Rattle.loops.proofs.may_loop.Statement.{statement}
-use Rattle.loops.proofs.may_loop.Tie as tie
+use Rattle.loop_nodes.specs.FocusLaws.{rule-bars, rule-passes}
+use Rattle.loop_nodes.proofs.may_loop.Statement.{statement}
+use Rattle.loop_nodes.proofs.may_loop.Tie as tie
 
 shared-slice-read-if1 : tie.Need-shared-slice-read-if1
 shared-slice-read-if1 c = search needs

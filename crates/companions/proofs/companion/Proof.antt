@@ -3,9 +3,9 @@ use mathlib.Core.Path.{sym, _∙_}
 use mathlib.Core.Bool.{false≢true}
 use borrow.Author.Needs.{needs}
 use borrow.Author.Tests.{not-true, not-false}
-use Rattle.loops.specs.LoopStages.{link-below, no-ancestor, some-ancestor}
-use Rattle.loops.proofs.companion.Statement.{statement}
-use Rattle.loops.proofs.companion.Tie as tie
+use Rattle.companions.specs.CompanionLaws.{link-below, no-ancestor, some-ancestor}
+use Rattle.companions.proofs.companion.Statement.{statement}
+use Rattle.companions.proofs.companion.Tie as tie
 
 mul-wide : tie.Need-mul-wide
 mul-wide c = search needs

@@ -6,9 +6,9 @@ use borrow.Author.Needs.{needs}
 use borrow.Author.Tests.{eq-eqb, ne-eqb}
 use Rattle.verdict.specs.Tests.{any}
 use Rattle.calculus.specs.Judge.{in-focus}
-use Rattle.loops.specs.FocusLaws.{part, focus-found, focus-on, focus-end}
-use Rattle.loops.proofs.has_focus.Statement.{statement}
-use Rattle.loops.proofs.has_focus.Tie as tie
+use Rattle.loop_nodes.specs.FocusLaws.{part, focus-found, focus-on, focus-end}
+use Rattle.loop_nodes.proofs.has_focus.Statement.{statement}
+use Rattle.loop_nodes.proofs.has_focus.Tie as tie
 
 abbrev Inv-loop : tie.InvT-loop
 Inv-loop codes start end i₀ i = any in-focus (part codes end start) ≡ any in-focus (part codes end i)

@@ -1,0 +1,2 @@
+pub mod Companions
+pub mod CompanionLaws
