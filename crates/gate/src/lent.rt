@@ -3,10 +3,10 @@
 ghost use Rattle.permit.specs.GateState.{opening, closing, taking};
 ghost use Rattle.permit.specs.Plain.{stateOf};
 ghost use Rattle.permit.specs.LentState.{Answered, TookNumber};
+use numbered::close_number;
+use numbered::open_number;
+use numbered::take_number;
 use permit::State;
-use permit::numbered::close_number;
-use permit::numbered::open_number;
-use permit::numbered::take_number;
 
 // Opens a closed gate: 0, or refusal × 65,536 + place.
 #[no_mangle]

@@ -1,5 +1,5 @@
 // The gate's calls: the single check, and opening, closing, taking, presenting, evaluating and writing on what C lends. Its states and the
-// steps by value are in the crate `permit`.
+// steps by value are in the crates `permit`, `numbered` and `granting`.
 pub mod check;
 pub mod evaluate;
 pub mod lent;

@@ -2,6 +2,5 @@
 pub mod GateState
 pub mod Numbers
 pub mod Plain
--- what a lent state holds, and the two ends of presenting
+-- what a lent state holds
 pub mod LentState
-pub mod PresentStages

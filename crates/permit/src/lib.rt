@@ -1,11 +1,8 @@
-// The gate's states, and its steps by value: here opening, closing and taking.
+// The gate's states, and its steps by value: opening, closing and taking.
 ghost use mathlib.Core.Path.{_≡_};
 ghost use Rattle.permit.specs.GateState.{opening, closing, taking};
 ghost use Rattle.permit.specs.Plain.{stateOf, Stepped, TookStep, refusedWith, movedTo, deniedWith};
 use verdict::Verdict;
-
-pub mod numbered;
-pub mod present;
 
 #[repr(C)]
 pub struct State {
@@ -37,6 +34,12 @@ pub enum Permit {
 pub struct Taken {
     pub answer: Permit,
     pub state: State,
+}
+
+// The state that a step leaves, and the number that it answers.
+pub struct Numbered {
+    pub state: State,
+    pub answer: u32,
 }
 
 fn refuse(number: u16, state: State) -> Changed
@@ -76,7 +79,7 @@ fn deny(number: u16, state: State) -> Taken
 }
 
 // Opens a closed gate.
-fn open_step(state: State) -> Changed
+pub fn open_step(state: State) -> Changed
     ensures { λ r. ⌜ Stepped (opening (stateOf state)) state r ⌝ }
 {
     let phase = state.phase;
@@ -90,7 +93,7 @@ fn open_step(state: State) -> Changed
 }
 
 // Closes an open gate and drops any permit.
-fn close_step(state: State) -> Changed
+pub fn close_step(state: State) -> Changed
     ensures { λ r. ⌜ Stepped (closing (stateOf state)) state r ⌝ }
 {
     let phase = state.phase;
@@ -104,7 +107,7 @@ fn close_step(state: State) -> Changed
 }
 
 // Hands out the permit's tag and leaves the gate open.
-fn take_step(state: State) -> Taken
+pub fn take_step(state: State) -> Taken
     ensures { λ r. ⌜ TookStep (taking (stateOf state)) state r ⌝ }
 {
     let phase = state.phase;

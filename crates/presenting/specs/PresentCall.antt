@@ -16,7 +16,7 @@ use Rattle.permit.specs.GateState.{Gate, closed, opened, holding}
 use Rattle.permit.specs.Plain.{stateOf, leftBy}
 use Rattle.permit.specs.LentState.{plain-reads}
 use Rattle.permit.specs.declared.State.{State}
-use Rattle.permit.specs.declared.numbered.Numbered.{Numbered}
+use Rattle.permit.specs.declared.Numbered.{Numbered}
 use Rattle.demands.specs.Slices.{Lent, short, LongEnough}
 use Rattle.lent_files.specs.LentSlices.{lentOf}
 use Rattle.calculus.specs.Judge.{judge}

@@ -19,9 +19,9 @@ use Rattle.records.specs.declared.Node.{Node}
 use Rattle.reader.specs.Files.{Files, firstly, files}
 use Rattle.permit.specs.GateState.{Gate, closed, opened, holding}
 use Rattle.permit.specs.Plain.{stateOf, leftBy}
-use Rattle.permit.specs.PresentStages.{standsBefore, settledState, Settled}
+use Rattle.granting.specs.PresentStages.{standsBefore, settledState, Settled}
 use Rattle.permit.specs.declared.State.{State}
-use Rattle.permit.specs.declared.numbered.Numbered.{Numbered}
+use Rattle.permit.specs.declared.Numbered.{Numbered}
 use Rattle.demands.specs.Slices.{short}
 use Rattle.demands.specs.Present.{Presented, held, presentedBy, ifLong, presenting}
 use Rattle.lent_files.specs.LentSlices.{lentOf}

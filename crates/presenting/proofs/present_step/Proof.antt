@@ -48,28 +48,28 @@ use Rattle.records.specs.declared.Node.{Node}
 use Rattle.records.proofs.Entry as E
 use Rattle.records.proofs.Node as T
 use Rattle.permit.specs.Plain.{stateOf}
-use Rattle.permit.specs.PresentStages.{standsBefore, Settled}
+use Rattle.granting.specs.PresentStages.{standsBefore, Settled}
 use Rattle.lent_files.specs.LentJudged.{LentTold, AllLong}
 use Rattle.presenting.specs.PresentStep.{all-long, presented-step}
 use Rattle.presenting.specs.PresentCall.{PresentCall, present-call}
 use Rattle.permit.specs.declared.State.{State}
-use Rattle.permit.specs.declared.numbered.Numbered.{Numbered}
+use Rattle.permit.specs.declared.Numbered.{Numbered}
 use Rattle.permit.proofs.State as S
 use Rattle.permit.proofs.State.Laws as S′
-use Rattle.permit.proofs.numbered.Numbered as N
-use Rattle.permit.proofs.numbered.Numbered.Laws as N′
-use Rattle.permit.proofs.present.stands_before as stand
-use Rattle.permit.proofs.present.stands_before.Symbol as stand-def
-use Rattle.permit.proofs.present.stands_before.Symbol.{name as #stand}
-use Rattle.permit.proofs.present.stands_before.Met as stand-thm
+use Rattle.permit.proofs.Numbered as N
+use Rattle.permit.proofs.Numbered.Laws as N′
+use Rattle.granting.proofs.stands_before as stand
+use Rattle.granting.proofs.stands_before.Symbol as stand-def
+use Rattle.granting.proofs.stands_before.Symbol.{name as #stand}
+use Rattle.granting.proofs.stands_before.Met as stand-thm
 use Rattle.presenting.proofs.judge_lent as rule-on
 use Rattle.presenting.proofs.judge_lent.Symbol as rule-on-def
 use Rattle.presenting.proofs.judge_lent.Symbol.{name as #rule-on}
 use Rattle.presenting.proofs.judge_lent.Met as rule-on-thm
-use Rattle.permit.proofs.present.settle as leave
-use Rattle.permit.proofs.present.settle.Symbol as leave-def
-use Rattle.permit.proofs.present.settle.Symbol.{name as #leave}
-use Rattle.permit.proofs.present.settle.Met as leave-thm
+use Rattle.granting.proofs.settle as leave
+use Rattle.granting.proofs.settle.Symbol as leave-def
+use Rattle.granting.proofs.settle.Symbol.{name as #leave}
+use Rattle.granting.proofs.settle.Met as leave-thm
 use Rattle.presenting.proofs.present_step.Key.{name as #fn}
 use Rattle.presenting.proofs.present_step as f
 use Rattle.presenting.proofs.present_step.Statement as stated
@@ -276,6 +276,6 @@ present-step-spec 𝓤 H 𝓜 𝓖 𝓡 =
     entered 𝓤 H (tripleOf 𝓤 H (𝓖 .A) f.signature (f.spec 𝓤 H (𝓖 .A) (𝓜 .mem) (𝓡 .run)))
     (tables 𝓤 H 𝓜 𝓡 code.env .C) (tables 𝓤 H 𝓜 𝓡 code.env .Λ) #fn code.function (code.unfolded 𝓤 H 𝓜 𝓡)
     (f-meets 𝓤 H (𝓖 .A) (givenOf 𝓤 H 𝓜 𝓖) (𝓜 .mem) (𝓡 .run) (tablesOf 𝓤 H 𝓜 (tables 𝓤 H 𝓜 𝓡 code.env))
-    (cited 𝓤 H (Stand 𝓤 H (𝓖 .A) (𝓜 .mem) (𝓡 .run)) 𝓜 𝓡 code.env #stand stand-def.routine code.calls-permit·present·stands-before (stand-thm.met 𝓤 H 𝓜 𝓖 𝓡))
+    (cited 𝓤 H (Stand 𝓤 H (𝓖 .A) (𝓜 .mem) (𝓡 .run)) 𝓜 𝓡 code.env #stand stand-def.routine code.calls-granting·stands-before (stand-thm.met 𝓤 H 𝓜 𝓖 𝓡))
     (cited 𝓤 H (Rule 𝓤 H (𝓖 .A) (𝓜 .mem) (𝓡 .run)) 𝓜 𝓡 code.env #rule-on rule-on-def.routine code.calls-presenting·judge-lent (rule-on-thm.met 𝓤 H 𝓜 𝓖 𝓡))
-    (cited 𝓤 H (Leave 𝓤 H (𝓖 .A) (𝓜 .mem) (𝓡 .run)) 𝓜 𝓡 code.env #leave leave-def.routine code.calls-permit·present·settle (leave-thm.met 𝓤 H 𝓜 𝓖 𝓡)))
+    (cited 𝓤 H (Leave 𝓤 H (𝓖 .A) (𝓜 .mem) (𝓡 .run)) 𝓜 𝓡 code.env #leave leave-def.routine code.calls-granting·settle (leave-thm.met 𝓤 H 𝓜 𝓖 𝓡)))

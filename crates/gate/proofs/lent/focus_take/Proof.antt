@@ -8,12 +8,12 @@ use Rattle.permit.specs.GateState.{taking}
 use Rattle.permit.specs.Plain.{stateOf}
 use Rattle.permit.specs.LentState.{TookNumber}
 use Rattle.permit.specs.declared.State.{State}
-use Rattle.permit.specs.declared.numbered.NumberedPermit.{NumberedPermit}
+use Rattle.numbered.specs.declared.NumberedPermit.{NumberedPermit}
 use Rattle.permit.proofs.State as T
 use Rattle.permit.proofs.State.Laws as T′
-use Rattle.permit.proofs.numbered.NumberedPermit as S
-use Rattle.permit.proofs.numbered.take_number.Symbol as numbered
-use Rattle.permit.proofs.numbered.take_number.Met as numbered-thm
+use Rattle.numbered.proofs.NumberedPermit as S
+use Rattle.numbered.proofs.take_number.Symbol as numbered
+use Rattle.numbered.proofs.take_number.Met as numbered-thm
 use Rattle.gate.proofs.Step as step
 use Rattle.gate.proofs.Step.{Result}
 use Rattle.gate.proofs.lent.focus_take.Key.{name as #fn}
@@ -33,4 +33,4 @@ focus-take-spec 𝓤 H 𝓜 𝓖 𝓡 =
     entered 𝓤 H (tripleOf 𝓤 H (𝓖 .A) f.signature (f.spec 𝓤 H (𝓖 .A) (𝓜 .mem) (𝓡 .run)))
     (tables 𝓤 H 𝓜 𝓡 code.env .C) (tables 𝓤 H 𝓜 𝓡 code.env .Λ) #fn code.function (code.unfolded 𝓤 H 𝓜 𝓡)
     (step.meets T.the-type T′.the-laws T′.the-plain T′.lowers w64 result Says numbered.name 𝓤 H (𝓖 .A) (givenOf 𝓤 H 𝓜 𝓖) (tablesOf 𝓤 H 𝓜 (tables 𝓤 H 𝓜 𝓡 code.env))
-    (cited 𝓤 H (step.Step T.the-type w64 result Says 𝓤 H (𝓖 .A)) 𝓜 𝓡 code.env numbered.name numbered.routine code.calls-permit·numbered·take-number (numbered-thm.met 𝓤 H 𝓜 𝓖 𝓡)))
+    (cited 𝓤 H (step.Step T.the-type w64 result Says 𝓤 H (𝓖 .A)) 𝓜 𝓡 code.env numbered.name numbered.routine code.calls-numbered·take-number (numbered-thm.met 𝓤 H 𝓜 𝓖 𝓡)))

@@ -45,11 +45,11 @@ use Rattle.records.proofs.Entry as E
 use Rattle.records.proofs.Node as T
 use Rattle.presenting.specs.PresentCall.{PresentCall}
 use Rattle.permit.specs.declared.State.{State}
-use Rattle.permit.specs.declared.numbered.Numbered.{Numbered}
+use Rattle.permit.specs.declared.Numbered.{Numbered}
 use Rattle.permit.proofs.State as S
 use Rattle.permit.proofs.State.Laws as S′
-use Rattle.permit.proofs.numbered.Numbered as N
-use Rattle.permit.proofs.numbered.Numbered.Laws as N′
+use Rattle.permit.proofs.Numbered as N
+use Rattle.permit.proofs.Numbered.Laws as N′
 use Rattle.presenting.proofs.present_step as step
 use Rattle.presenting.proofs.present_step.Symbol as step-def
 use Rattle.presenting.proofs.present_step.Symbol.{name as #step}

@@ -1,6 +1,6 @@
 use borrow.Author.Needs.{needs}
-use Rattle.permit.proofs.numbered.pack_permit.Statement.{statement}
-use Rattle.permit.proofs.numbered.pack_permit.Tie as tie
+use Rattle.numbered.proofs.pack_permit.Statement.{statement}
+use Rattle.numbered.proofs.pack_permit.Tie as tie
 
 enum-known-permit : tie.Need-enum-known-permit
 enum-known-permit c = search needs

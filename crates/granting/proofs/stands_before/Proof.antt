@@ -3,10 +3,10 @@ use borrow.Author.Needs.{needs}
 use Rattle.verdict.specs.Verdict as verdicts
 use Rattle.verdict.specs.Shown.{shown}
 use Rattle.verdict.specs.declared.Verdict.{Verdict}
 use Rattle.permit.specs.Plain.{state-open, state-holding, state-closed}
-use Rattle.permit.specs.PresentStages.{stands-closed, stands-holding, few-entries, few-nodes, few-codes, nothing-stands}
-use Rattle.permit.proofs.present.stands_before.Statement.{statement}
-use Rattle.permit.proofs.present.stands_before.Tie as tie
+use Rattle.granting.specs.PresentStages.{stands-closed, stands-holding, few-entries, few-nodes, few-codes, nothing-stands}
+use Rattle.granting.proofs.stands_before.Statement.{statement}
+use Rattle.granting.proofs.stands_before.Tie as tie
 
 -- an answer that stands for the right verdict
 shows : {v w : Verdict} {x : verdicts.Verdict} → v ≡ w → x ≡ shown w → shown v ≡ x

@@ -2,11 +2,11 @@
 ghost use mathlib.Core.Path.{_≡_};
 ghost use Rattle.verdict.specs.Shown.{shown};
 ghost use Rattle.verdict.specs.declared.Verdict.the-variants.{Refused};
 ghost use Rattle.permit.specs.Plain.{stateOf};
-ghost use Rattle.permit.specs.PresentStages.{standsBefore, Settled};
-use super::Phase;
-use super::State;
-use super::numbered::Numbered;
+ghost use Rattle.granting.specs.PresentStages.{standsBefore, Settled};
+use permit::Numbered;
+use permit::Phase;
+use permit::State;
 use verdict::Verdict;
 use verdict::pack;
 

@@ -1,8 +1,8 @@
 use borrow.Author.Needs.{needs}
 use mathlib.Core.Path.{ap, _∙_}
 use Rattle.permit.specs.Numbers.{packedPermit}
-use Rattle.permit.proofs.numbered.take_number.Statement.{statement}
-use Rattle.permit.proofs.numbered.take_number.Tie as tie
+use Rattle.numbered.proofs.take_number.Statement.{statement}
+use Rattle.numbered.proofs.take_number.Tie as tie
 
 take-step-requires : tie.Need-take-step-requires
 take-step-requires c κs = search needs

@@ -1,8 +1,8 @@
 use borrow.Author.Needs.{needs}
 use mathlib.Core.Path.{ap, _∙_}
 use Rattle.verdict.specs.Verdict.{packed}
-use Rattle.permit.proofs.numbered.close_number.Statement.{statement}
-use Rattle.permit.proofs.numbered.close_number.Tie as tie
+use Rattle.numbered.proofs.close_number.Statement.{statement}
+use Rattle.numbered.proofs.close_number.Tie as tie
 
 close-step-requires : tie.Need-close-step-requires
 close-step-requires c κs = search needs

@@ -1,8 +1,8 @@
 use borrow.Author.Needs.{needs}
 use mathlib.Core.Path.{ap, _∙_}
 use Rattle.verdict.specs.Verdict.{packed}
-use Rattle.permit.proofs.numbered.open_number.Statement.{statement}
-use Rattle.permit.proofs.numbered.open_number.Tie as tie
+use Rattle.numbered.proofs.open_number.Statement.{statement}
+use Rattle.numbered.proofs.open_number.Tie as tie
 
 open-step-requires : tie.Need-open-step-requires
 open-step-requires c κs = search needs

@@ -1,7 +1,7 @@
 use mathlib.Core.Path.{refl}
 use borrow.Author.Needs.{needs}
-use Rattle.permit.proofs.present.settle.Statement.{statement}
-use Rattle.permit.proofs.present.settle.Tie as tie
+use Rattle.granting.proofs.settle.Statement.{statement}
+use Rattle.granting.proofs.settle.Tie as tie
 
 pack-requires : tie.Need-pack-requires
 pack-requires c κs = search needs

@@ -1,22 +1,18 @@
 // Opening, closing and taking by value, answered by the numbers of the C calls.
 ghost use mathlib.Core.Path.{_≡_};
 ghost use Rattle.permit.specs.GateState.{opening, closing, taking};
 ghost use Rattle.permit.specs.Numbers.{packedPermit};
 ghost use Rattle.permit.specs.Plain.{stateOf, shownPermit};
 ghost use Rattle.permit.specs.LentState.{Answered, TookNumber};
-use super::Permit;
-use super::State;
-use super::close_step;
-use super::open_step;
-use super::take_step;
+use permit::Numbered;
+use permit::Permit;
+use permit::State;
+use permit::close_step;
+use permit::open_step;
+use permit::take_step;
 use verdict::pack;
 
-// The state that a step leaves, and the number that it answers.
-pub struct Numbered {
-    pub state: State,
-    pub answer: u32,
-}
-
+// The state that taking leaves, and the number that it answers.
 pub struct NumberedPermit {
     pub state: State,
     pub answer: u64,

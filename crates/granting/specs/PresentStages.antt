@@ -5,9 +5,9 @@ use Prim.Native.Nat.{ℕ, _<_, _≤_}
 use lib.Dec.{ltb}
 use borrow.Author.Tests.{lt-ltb, le-ltb}
 use Rattle.verdict.specs.Verdict.{Verdict, accepted, refused, pick, packed}
 use Rattle.permit.specs.GateState.{Gate, closed, opened, holding}
 use Rattle.permit.specs.declared.State.{State}
-use Rattle.permit.specs.declared.numbered.Numbered.{Numbered}
+use Rattle.permit.specs.declared.Numbered.{Numbered}
 
 -- 50 closed; 51 permit held; 1 a slice under 256 entries, 1,024 nodes or 24,576 codes
 unfoldable pub standsBefore : Gate → ℕ → ℕ → ℕ → Verdict
