@@ -17,7 +17,7 @@ use entry_sets::lowest;
 use entry_sets::remove;
 use forming::formed;
 use formula::Kind;
-use states::all_states;
+use letters::all_states;
 
 // Where the iteration of a fixpoint of a kind starts: mu at no state, nu at all.
 pub fn start_word(kind: u8, size: usize) -> u64

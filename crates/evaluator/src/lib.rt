@@ -12,7 +12,7 @@ ghost use Rattle.formula.specs.Plain.{tableOf};
 use dependencies::find_tops;
 use dependencies::find_users;
 use settling::eval_entry;
-use states::row_words;
+use successors::row_words;
 
 // Every entry, from the highest down: its free names lie above it and are settled.
 fn eval_all(

@@ -5,10 +5,10 @@ ghost use lib.ListN.{length};
 ghost use Rattle.forming.specs.Ready.{Ready, leafWord, formedWord};
 use bits::wide;
 use formula::Kind;
-use states::all_states;
-use states::box_word;
-use states::diamond_word;
-use states::letter_word;
+use letters::all_states;
+use letters::letter_word;
+use modal_words::box_word;
+use modal_words::diamond_word;
 
 // Where false, true, a letter or a negated letter holds.
 fn leaf_word(masks: &[u32; 64], size: usize, kind: u8, p: u16) -> u64

@@ -6,11 +6,11 @@ use borrow.Author.Needs.{needs}
 use lib.Dec.{eqb}
 use lib.ListN.{replicate, length-replicate}
 use Rattle.model.specs.DescribedLaws.{cell}
 use Rattle.states.specs.Words.{word}
 use Rattle.states.specs.Fill.{Filled, filled-none, filled-set}
 use Rattle.states.specs.PlainModel.{row-words}
-use Rattle.states.proofs.row_words.Statement.{statement}
-use Rattle.states.proofs.row_words.Tie as tie
+use Rattle.successors.proofs.row_words.Statement.{statement}
+use Rattle.successors.proofs.row_words.Tie as tie
 
 abbrev Inv-loop : tie.InvT-loop
 Inv-loop marks n rows₀ s₀ rows s = (s ≤ n) × Filled (λ k. word n (λ u. eqb (cell marks k u) 1)) (replicate 64 0) s rows

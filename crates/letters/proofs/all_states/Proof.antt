@@ -5,9 +5,9 @@ use native.Mathlib.Omega.{arith}
 use borrow.Author.Needs.{needs}
 use lib.Dec.{lit<}
 use lib.Pow.{pow-pos, shl-exact}
 use Rattle.states.specs.TopDown.{full-word}
-use Rattle.states.proofs.all_states.Statement.{statement}
-use Rattle.states.proofs.all_states.Tie as tie
+use Rattle.letters.proofs.all_states.Statement.{statement}
+use Rattle.letters.proofs.all_states.Tie as tie
 
 shl-result : tie.Need-shl-result
 shl-result c = search needs

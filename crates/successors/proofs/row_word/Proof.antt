@@ -5,9 +5,9 @@ use native.Mathlib.Omega.{arith}
 use borrow.Author.Needs.{needs}
 use lib.Dec.{eqb}
 use Rattle.model.specs.DescribedLaws.{cell}
 use Rattle.states.specs.TopDown.{Upper, upper-none, upper-small, byte-small, upper-eight, upper-whole, word-cut}
-use Rattle.states.proofs.row_word.Statement.{statement}
-use Rattle.states.proofs.row_word.Tie as tie
+use Rattle.successors.proofs.row_word.Statement.{statement}
+use Rattle.successors.proofs.row_word.Tie as tie
 
 abbrev Inv-loop : tie.InvT-loop
 Inv-loop marks n s r₀ u₀ r u = (u % 8 ≡ 0) × Upper ((n + 7) / 8 * 8) (λ k. eqb (cell marks s k) 1) u r

@@ -1,21 +1,21 @@
--- the states from s on that have a successor in w
-use mathlib.Core.Bool.{_&&_}
-use Prim.Native.Nat.{_-_}
+-- the states from s on whose digit is the wanted one
+use mathlib.Core.Path.{ap}
+use Prim.Native.Nat.{ℕ}
 use native.Mathlib.Omega.{arith}
 use borrow.Author.Needs.{needs}
+use lib.Dec.{eqb}
 use lib.ListN.{getD}
-use Rattle.meaning.specs.Truth.{some}
-use Rattle.bits.specs.Bits.{bit}
-use Rattle.states.specs.StateWords.{diamond-test}
+use Rattle.bits.specs.Bits.{digit}
+use Rattle.states.specs.BitLaws.{read-digit}
 use Rattle.states.specs.TopDown.{Upper, upper-none, upper-small, upper-one, upper-whole}
-use Rattle.states.proofs.diamond_word.Statement.{statement}
-use Rattle.states.proofs.diamond_word.Tie as tie
+use Rattle.letters.proofs.letter_word.Statement.{statement}
+use Rattle.letters.proofs.letter_word.Tie as tie
 
 abbrev Inv-loop : tie.InvT-loop
-Inv-loop rows n w r₀ s₀ r s = Upper n (λ k. some n (λ u. bit (getD rows k 0) u && bit w u)) s r
+Inv-loop masks n p wanted r₀ s₀ r s = Upper n (λ k. eqb (digit (getD masks k 0) p) wanted) s r
 
 abbrev μ-loop : tie.MeasureT-loop
-μ-loop rows n w r₀ s₀ r s = s
+μ-loop masks n p wanted r₀ s₀ r s = s
 
 loop-holds : tie.Need-loop-holds Inv-loop μ-loop
 loop-holds c = upper-none
@@ -29,6 +29,9 @@ mul-push c = search needs
 element-copy-out-push : tie.Need-element-copy-out-push Inv-loop μ-loop
 element-copy-out-push c = search needs
 
+shr-push : tie.Need-shr-push Inv-loop μ-loop
+shr-push c = search needs
+
 push-requires : tie.Need-push-requires Inv-loop μ-loop
 push-requires c κs = upper-small (c .before .before .loop .inv) 1 64 (omega arith) (omega arith)
 
@@ -38,14 +41,14 @@ loop-less c = search needs
 loop-again : tie.Need-loop-again Inv-loop μ-loop
 loop-again c =
     upper-one (c .before .before .before .loop .inv) _ _ (omega arith)
-    (diamond-test _ _ (c .before .before .before .before .args .w) (λ u h. c .before .before .before .before .pre .1 (c .before .before .before .loop .s - 1) u (omega arith) h))
+    (ap (λ (d : ℕ). eqb d (c .before .before .before .before .args .wanted)) (read-digit _ (c .before .before .before .before .args .p)))
     (c .push .ensures)
 
 returns : tie.Need-returns Inv-loop μ-loop
 returns c = upper-whole (c .before .loop .inv) (omega arith)
 
-pub diamond-word-spec : {M : Type 1} → statement M
-diamond-word-spec =
+pub letter-word-spec : {M : Type 1} → statement M
+letter-word-spec =
     tie.close
     (tie.spec
     Inv-loop
@@ -54,6 +57,7 @@ diamond-word-spec =
     sub-s
     mul-push
     element-copy-out-push
+    shr-push
     push-requires
     loop-less
     loop-again

@@ -6,10 +6,10 @@ use borrow.Author.Needs.{needs}
 use lib.ListN.{getD}
 use Rattle.meaning.specs.Truth.{every}
 use Rattle.bits.specs.Bits.{bit}
 use Rattle.states.specs.StateWords.{box-test}
 use Rattle.states.specs.TopDown.{Upper, upper-none, upper-small, upper-one, upper-whole}
-use Rattle.states.proofs.box_word.Statement.{statement}
-use Rattle.states.proofs.box_word.Tie as tie
+use Rattle.modal_words.proofs.box_word.Statement.{statement}
+use Rattle.modal_words.proofs.box_word.Tie as tie
 
 abbrev Inv-loop : tie.InvT-loop
 Inv-loop rows n w r₀ s₀ r s = Upper n (λ k. every n (λ u. not (bit (getD rows k 0) u) || bit w u)) s r
