@@ -22,7 +22,7 @@ use Rattle.calculus.specs.View.{View, plain}
 use Rattle.calculus.specs.Judge.{ax1-kept, ax2-kept, or-kept, and-kept, box-kept, mu-kept, nu-kept, weaken-kept, focus-kept, discharge-kept, of-kind, belongs, sides, clash, truth, step-kept, tests}
 use Rattle.calculus.specs.Steps.{keeps-ax1, keeps-ax2, keeps-or, keeps-and, keeps-box, keeps-mu, keeps-nu, keeps-w, keeps-f, keeps-u, keeps-d}
 use Rattle.sequents.specs.Placed.{family, Placed, Entries, Coded}
-use Rattle.kept.specs.Fixpoint.{fixpoint-kept}
+use Rattle.operand_rules.specs.Fixpoint.{fixpoint-kept}
 
 pub record Judged (ks xs ys : List ℕ) (n : ℕ) (rs ls ss cs : List ℕ) (m : ℕ) : Type 0 where
   pub entries : n ≤ 256

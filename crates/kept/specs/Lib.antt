@@ -1,2 +1,1 @@
-pub mod Fixpoint
 pub mod Judged

@@ -1,4 +1,5 @@
-// The test of each rule (refusal 37): the sequent that the rule asks of a child, and the child's, are compared as sets.
+// The test of each rule (refusal 37): the sequent that the rule asks of a child, and the child's, are compared as sets. Those of 2, 3, 5 and
+// 6 are in the crate operand_rules, that of 4 in modal.
 ghost use mathlib.Core.Path.{_≡_};
 ghost use mathlib.Core.List.{List, []};
 ghost use Prim.Native.Nat.{ℕ, _<_, _≤_};
@@ -8,101 +9,27 @@ ghost use Rattle.formula.specs.Table.{Table};
 ghost use Rattle.formula.specs.Plain.{tableOf};
 ghost use Rattle.formula.specs.PlainNodes.{proofOf};
 ghost use Rattle.sequents.specs.CodeSet.{Holds};
-ghost use Rattle.sequents.specs.Placed.{family, Side, Coded};
+ghost use Rattle.sequents.specs.Placed.{family, Side};
 ghost use Rattle.calculus.specs.View.{plain};
-ghost use Rattle.calculus.specs.Judge.{or-kept as OrKept, and-kept as AndKept, focus-kept as FocusKept, step-kept};
-ghost use Rattle.kept.specs.Fixpoint.{IsFixpoint, fixpoint-kept as FixpointKept};
+ghost use Rattle.calculus.specs.Judge.{focus-kept as FocusKept, step-kept};
 ghost use Rattle.kept.specs.Judged.{Judged};
 use bits::wide;
 use formula::Kind;
 use formula::Rule;
 use modal::box_kept;
+use operand_rules::and_kept;
+use operand_rules::fixpoint_kept;
+use operand_rules::or_kept;
 use sequents::axioms::ax1_kept;
 use sequents::axioms::ax2_kept;
 use sequents::principal::is_side_plus;
-use sequents::principal::operand_code;
 use sequents::sets::code_of;
-use sequents::sets::entry_of;
 use sequents::sets::has;
-use sequents::sets::put;
 use sequents::sets::put_part;
 use sequents::sets::put_sequent;
 use sequents::sets::same;
 use sequents::sets::same_sequent;
 use sequents::sets::take;
-
-// 2 or: side plus both targets, focus kept. Both are put into the side, which nobody reads afterwards.
-fn or_kept(
-    kinds: &[u8; 256],
-    a: &[u16; 256],
-    b: &[u16; 256],
-    size: usize,
-    principal: u16,
-    side: &mut [u64; 8],
-    first: &[u64; 8],
-) -> bool
-    requires { ⌜ Coded (now kinds) (now a) (now b) size principal ⌝ }
-    ensures { λ r. ⌜ ((l m : List ℕ) → Side (now (side .entry)) principal l → Holds (now (first .entry)) m → r ≡ OrKept
-        (tableOf (now (kinds .entry)) (now (a .entry)) (now (b .entry)) size) (family principal l m []) 0) ⌝ }
-{
-    if kinds[entry_of(principal)] != Kind::OR {
-        return false;
-    }
-    let left = operand_code(kinds, a, a, principal, principal % 2);
-    let right = operand_code(kinds, a, b, principal, principal % 2);
-    put(side, left);
-    put(side, right);
-    same(first, side)
-}
-
-// 3 and: side plus A's target for the first child, B's for the second, focus kept.
-fn and_kept(
-    kinds: &[u8; 256],
-    a: &[u16; 256],
-    b: &[u16; 256],
-    size: usize,
-    principal: u16,
-    side: &[u64; 8],
-    first: &[u64; 8],
-    second: &[u64; 8],
-) -> bool
-    requires { ⌜ Coded (now kinds) (now a) (now b) size principal ⌝ }
-    ensures { λ r. ⌜ ((l m k : List ℕ) → Side (now (side .entry)) principal l → Holds (now (first .entry)) m → Holds (now (second .entry)) k → r ≡ AndKept
-        (tableOf (now (kinds .entry)) (now (a .entry)) (now (b .entry)) size) (family principal l m k) 0) ⌝ }
-{
-    if kinds[entry_of(principal)] != Kind::AND {
-        return false;
-    }
-    let of_a = operand_code(kinds, a, a, principal, principal % 2);
-    if !is_side_plus(side, of_a, first) {
-        return false;
-    }
-    let of_b = operand_code(kinds, a, b, principal, principal % 2);
-    is_side_plus(side, of_b, second)
-}
-
-// 5 mu and 6 nu: side plus the body's target, out of focus or with its focus kept.
-fn fixpoint_kept(
-    kinds: &[u8; 256],
-    a: &[u16; 256],
-    b: &[u16; 256],
-    size: usize,
-    principal: u16,
-    side: &[u64; 8],
-    first: &[u64; 8],
-    kind: u8,
-    focus: u16,
-) -> bool
-    requires { ⌜ Coded (now kinds) (now a) (now b) size principal × IsFixpoint kind × (focus < 2) ⌝ }
-    ensures { λ r. ⌜ ((l m : List ℕ) → Side (now (side .entry)) principal l → Holds (now (first .entry)) m → r ≡ FixpointKept
-        (tableOf (now (kinds .entry)) (now (a .entry)) (now (b .entry)) size) (family principal l m []) kind focus 0) ⌝ }
-{
-    if kinds[entry_of(principal)] != kind {
-        return false;
-    }
-    let body = operand_code(kinds, a, a, principal, focus);
-    is_side_plus(side, body, first)
-}
 
 // 8 F and 9 U: side plus the principal, put from one focus into the other.
 fn focus_kept(principal: u16, side: &[u64; 8], first: &[u64; 8], from: u16, to: u16) -> bool

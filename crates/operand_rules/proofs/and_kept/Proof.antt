@@ -12,8 +12,8 @@ use Rattle.calculus.specs.Judge.{sides, and-kept as Kept}
 use Rattle.sequents.specs.CodeSet.{Holds}
 use Rattle.sequents.specs.Placed.{Side}
 use Rattle.sequents.specs.KeptLaws.{was-false, was-true, Operands, this-kind, other-kind, and-operands}
-use Rattle.kept.proofs.kept.and_kept.Statement.{statement}
-use Rattle.kept.proofs.kept.and_kept.Tie as tie
+use Rattle.operand_rules.proofs.and_kept.Statement.{statement}
+use Rattle.operand_rules.proofs.and_kept.Tie as tie
 
 -- where the first test is passed, the principal has two operands
 told : (c : tie.Else1) → let a = c .before .before .before .args in Operands (a .kinds .now) (a .a .now) (a .b .now) (a .size) (entryOf (a .principal))

@@ -7,8 +7,8 @@ use Rattle.formula.specs.Table.{entry}
 use Rattle.formula.specs.Codes.{entryOf}
 use Rattle.calculus.specs.Judge.{sides}
 use Rattle.sequents.specs.KeptLaws.{Operand-in, this-kind, other-kind, body}
-use Rattle.kept.proofs.kept.fixpoint_kept.Statement.{statement}
-use Rattle.kept.proofs.kept.fixpoint_kept.Tie as tie
+use Rattle.operand_rules.proofs.fixpoint_kept.Statement.{statement}
+use Rattle.operand_rules.proofs.fixpoint_kept.Tie as tie
 
 -- where the first test is passed, the principal has a body
 told : (c : tie.Else1) → let a = c .before .before .before .args in

@@ -6,8 +6,8 @@ use borrow.Author.Needs.{needs}
 use Rattle.formula.specs.Codes.{entryOf}
 use Rattle.calculus.specs.Judge.{sides, or-kept as Kept}
 use Rattle.sequents.specs.KeptLaws.{Operands, this-kind, other-kind, or-operands}
-use Rattle.kept.proofs.kept.or_kept.Statement.{statement}
-use Rattle.kept.proofs.kept.or_kept.Tie as tie
+use Rattle.operand_rules.proofs.or_kept.Statement.{statement}
+use Rattle.operand_rules.proofs.or_kept.Tie as tie
 
 -- where the first test is passed, the principal has two operands
 told : (c : tie.Else1) → let a = c .before .before .before .args in Operands (a .kinds .now) (a .a .now) (a .b .now) (a .size) (entryOf (a .principal))
