@@ -37,3 +37,9 @@ module _ (rs ls ss cs : List ℕ) (n : ℕ) where
   proofOf-node v h =
       valuesFrom-at (plainNode rs ls ss cs) (record { rule = Rule.AX1; principal = 0; first = 0; second = 0; back = 0; codes = [] }) 0 n v h
       ∙ ap (plainNode rs ls ss cs) (omega arith)
+
+  pub proofOf-rule : (v : ℕ) → v < n → node (proofOf rs ls ss cs n) v .rule ≡ getD rs v 0
+  proofOf-rule v h = ap (λ (x : Node). x .rule) (proofOf-node v h)
+
+  pub proofOf-back : (v : ℕ) → v < n → node (proofOf rs ls ss cs n) v .back ≡ getD ls (4 * v + 3) 0
+  proofOf-back v h = ap (λ (x : Node). x .back) (proofOf-node v h)

@@ -1,5 +1,5 @@
 -- a back leaf's loop path, as the code finds it
-use mathlib.Core.Path.{_≡_, refl, sym, ap, _∙_}
+use mathlib.Core.Path.{_≡_, refl, sym, _∙_}
 use mathlib.Core.Bool.{Bool, true, false}
 use mathlib.Core.List.{List}
 use Prim.Native.Nat.{ℕ, _+_, _*_, _<_, _≤_}
@@ -10,18 +10,15 @@ use borrow.Author.Tests.{eq-eqb, ne-eqb}
 use Rattle.verdict.specs.Verdict.{accepted, refused}
 use Rattle.verdict.specs.ScanLaws.{Passed, scan-passes, scan-fails}
 use Rattle.formula.specs.Rule
-use Rattle.formula.specs.Nodes.{Proof, Node, node}
-use Rattle.formula.specs.PlainNodes.{proofOf, proofOf-length, proofOf-node}
+use Rattle.formula.specs.Nodes.{Proof, node}
+use Rattle.formula.specs.PlainNodes.{proofOf, proofOf-length, proofOf-rule, proofOf-back}
 use Rattle.calculus.specs.View.{plain}
 use Rattle.calculus.specs.Judge.{loop}
 use Rattle.loops.specs.Paths.{clear, PathsTold, Linked, LeavesTold, LeafJudged, LeavesJudged}
 
 module _ (rs ls ss cs : List ℕ) (n v : ℕ) (real : v < n) where
   rule-is : node (proofOf rs ls ss cs n) v .rule ≡ getD rs v 0
-  rule-is = ap (λ (x : Node). x .rule) (proofOf-node rs ls ss cs n v real)
-
-  back-is : node (proofOf rs ls ss cs n) v .back ≡ getD ls (4 * v + 3) 0
-  back-is = ap (λ (x : Node). x .back) (proofOf-node rs ls ss cs n v real)
+  rule-is = proofOf-rule rs ls ss cs n v real
 
   -- only a back leaf has a loop path
   pub no-leaf : (getD rs v 0 ≡ Rule.BACK → ⊥) → loop (plain (proofOf rs ls ss cs n)) v ≡ true
@@ -30,7 +27,7 @@ module _ (rs ls ss cs : List ℕ) (n v : ℕ) (real : v < n) where
 
   pub leaf-loop : (bars boxes : List ℕ) → getD rs v 0 ≡ Rule.BACK → LeavesTold (proofOf rs ls ss cs n) bars boxes → clear bars boxes (getD ls (4 * v + 3) 0) v ≡ loop (plain (proofOf rs ls ss cs n)) v
   unfolding loop
-  leaf-loop bars boxes h T = rw (rule-is, eq-eqb (getD rs v 0) Rule.BACK h, ← back-is) (T .leaf-is v (rw proofOf-length real) (rule-is ∙ h))
+  leaf-loop bars boxes h T = rw (rule-is, eq-eqb (getD rs v 0) Rule.BACK h, ← proofOf-back rs ls ss cs n v real) (T .leaf-is v (rw proofOf-length real) (rule-is ∙ h))
 
 -- where 38 has passed, the tables of all paths tell the loop paths
 pub leaves-told : (p : Proof) (bars boxes : List ℕ) → Linked p → PathsTold p bars boxes → LeavesTold p bars boxes

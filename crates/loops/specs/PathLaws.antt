@@ -12,8 +12,8 @@ use borrow.Author.Count.{below-more}
 use borrow.Author.Tests.{eq-eqb, ne-eqb, lt-ltb, le-ltb, le-leb, lt-leb}
 use Rattle.verdict.specs.Tests.{all, any, member}
 use Rattle.formula.specs.Rule
-use Rattle.formula.specs.Nodes.{Proof, Node, node}
-use Rattle.formula.specs.PlainNodes.{codesAt, proofOf, proofOf-length, proofOf-node}
+use Rattle.formula.specs.Nodes.{Proof, Node}
+use Rattle.formula.specs.PlainNodes.{codesAt, proofOf, proofOf-length, proofOf-node, proofOf-rule}
 use Rattle.calculus.specs.Judge.{ancestor, on-loop, good-path}
 use Rattle.tree.specs.Owners.{Owned, Parented}
 use Rattle.spans.specs.Spans.{up}
@@ -115,11 +115,8 @@ module _ (rs ss cs : List ℕ) (n : ℕ) (owners : List ℕ) where
         let size : length p ≡ n = proofOf-length rs ls ss cs n in
         let R : Parents p owners = record { owned = rw size O; parented = rw size P } in (
           rw (e ∙ sym (ap (λ (x : Node). on-loop (x .rule) (x .codes)) (proofOf-node rs ls ss cs n v real))) (near-more p owners R (barred p) bars v (omega arith) (N ls O .0) room),
-          rw (← rule-is) (near-more p owners R (box p) boxes v (omega arith) (N ls O .1) room₂),
+          rw (← proofOf-rule rs ls ss cs n v real) (near-more p owners R (box p) boxes v (omega arith) (N ls O .1) room₂),
         )
-      where
-        rule-is : node (proofOf rs ls ss cs n) v .rule ≡ getD rs v 0
-        rule-is = ap (λ (x : Node). x .rule) (proofOf-node rs ls ss cs n v real)
 
   pub paths-done : {v : ℕ} (bars boxes : List ℕ) → v ≤ n → n ≤ v → PathsBelow v bars boxes → PathsFilled rs ss cs n owners bars boxes
   paths-done {v} bars boxes h k N ls O =

@@ -14,9 +14,9 @@ use Rattle.verdict.specs.Tests.{same}
 use Rattle.formula.specs.Rule
 use Rattle.formula.specs.Claim.{Claim, Derivation}
 use Rattle.formula.specs.Plain.{tableOf}
-use Rattle.formula.specs.Nodes.{Node, Proof, node}
+use Rattle.formula.specs.Nodes.{Proof, node}
 use Rattle.formula.specs.NodeColumns.{Columns}
-use Rattle.formula.specs.PlainNodes.{codesAt, proofOf, proofOf-length, proofOf-node}
+use Rattle.formula.specs.PlainNodes.{codesAt, proofOf, proofOf-length, proofOf-rule, proofOf-back}
 use Rattle.conditions.specs.WellFormed.{WellFormed}
 use Rattle.calculus.specs.Tree.{Tree}
 use Rattle.calculus.specs.View.{plain}
@@ -63,10 +63,10 @@ module _ {ks xs ys : List ℕ} {n : ℕ} {rs ls ss cs : List ℕ} {m : ℕ} (J :
   p = proofOf rs ls ss cs m
 
   rule-is : node p v .rule ≡ getD rs v 0
-  rule-is = ap (λ (x : Node). x .rule) (proofOf-node rs ls ss cs m v real)
+  rule-is = proofOf-rule rs ls ss cs m v real
 
   back-is : node p v .back ≡ getD ls (4 * v + 3) 0
-  back-is = ap (λ (x : Node). x .back) (proofOf-node rs ls ss cs m v real)
+  back-is = proofOf-back rs ls ss cs m v real
 
   -- a back leaf keeps its rule when its companion fits and has its sequent
   pub leaf-keeps : getD rs v 0 ≡ Rule.BACK → keeps c (plain p) v ≡ (companion-fits p v && same (codes (plain p) v) (codes (plain p) (node p v .back)))
