@@ -11,12 +11,5 @@ pub mod RowLaws
 pub mod Judge
 pub mod TestLaws
 pub mod JudgeExact
--- what the program computes, by kind numbers and by sets of names in words
+-- shapes and their tests by kind numbers
 pub mod KindShapes
-pub mod NameSets
-pub mod OperandBounds
-pub mod RowWords
-pub mod RowMarks
-pub mod MarksBelow
-pub mod Faults
-pub mod JudgeSteps

@@ -2,20 +2,11 @@
 use mathlib.Core.Path.{_≡_, refl, ap}
 use mathlib.Core.Logic.{_⊎_, inl, inr}
 use mathlib.Core.List.{[], _∷_}
-use mathlib.Core.Bool.{Bool, true, false, false≢true}
+use mathlib.Core.Bool.{true, false, false≢true}
 use Prim.Native.Nat.{ℕ, zero, suc, _≤_}
 use native.Mathlib.Omega.{arith}
-use Rattle.verdict.specs.Tells.{Tells, tells-as, and-tells, or-tells}
+use Rattle.verdict.specs.Tells.{Tells, tells-as, tells-self, true-tells, false-tells, and-tells, or-tells}
 use Rattle.conditions.specs.Rows.{Row, has, union, clear, single, upTo, meets}
-
-pub tells-self : (b : Bool) → Tells b (b ≡ true)
-tells-self b = record { says = λ h. h; holds = λ h. h }
-
-pub true-tells : {P : Type 0} → P → Tells true P
-true-tells p = record { says = λ h. p; holds = λ h. refl }
-
-pub false-tells : {P : Type 0} → (P → ⊥) → Tells false P
-false-tells n = record { says = λ h. absurd (false≢true h); holds = λ p. absurd (n p) }
 
 pub has-union : (r s : Row) (x : ℕ) → Tells (has (union r s) x) ((has r x ≡ true) ⊎ (has s x ≡ true))
 unfolding has union

@@ -15,9 +15,9 @@ use Rattle.formula.specs.Below.{by-smaller}
 use Rattle.conditions.specs.Conditions.{BadLeaf, Bad, NotAbove, Alternates, nu-in-mu, mu-in-nu, NoStep, Unguarded, here, down, OwnUnguarded}
 use Rattle.conditions.specs.Formed.{InBounds, Fits}
 use Rattle.conditions.specs.Rows.{Row, has, union, clear, upTo}
-use Rattle.conditions.specs.RowLaws.{true-tells, false-tells, has-union, has-clear, has-single, has-upTo, Common, meets-tells}
+use Rattle.conditions.specs.RowLaws.{has-union, has-clear, has-single, has-upTo, Common, meets-tells}
 use Rattle.conditions.specs.Upward.{look, look-eq, look-past}
-use Rattle.verdict.specs.Tells.{Tells, tells-as, leb-tells, or-tells, not-tells}
+use Rattle.verdict.specs.Tells.{Tells, tells-as, true-tells, false-tells, leb-tells, or-tells, not-tells}
 use Rattle.conditions.specs.Judge.{isFix, badLeaf, bad, freeRow, openRow, frees, opens, isMu, isNu, marks, alternates, ownOpen, low, mixed, loose}
 
 -- 20

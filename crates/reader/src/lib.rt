@@ -9,9 +9,9 @@ ghost use Rattle.reader.specs.Begins.{Begins, refusal};
 use claims::ClaimRead;
 use claims::judge_beginning;
 use claims::read_claim;
-use conditions::judge;
 use nodes::node_count;
 use proofs::judge_proof;
+use scopes::judge;
 use verdict::Verdict;
 
 // Whether a verdict is a refusal.

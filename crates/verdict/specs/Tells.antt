@@ -24,6 +24,15 @@ fails-holds {b} {P} x n = go b (x .says)
     go true f = absurd (n (f refl))
     go false f = refl
 
+pub tells-self : (b : Bool) → Tells b (b ≡ true)
+tells-self b = record { says = λ h. h; holds = λ h. h }
+
+pub true-tells : {P : Type 0} → P → Tells true P
+true-tells p = record { says = λ h. p; holds = λ h. refl }
+
+pub false-tells : {P : Type 0} → (P → ⊥) → Tells false P
+false-tells n = record { says = λ h. absurd (false≢true h); holds = λ p. absurd (n p) }
+
 pub eqb-tells : (a b : ℕ) → Tells (eqb a b) (a ≡ b)
 eqb-tells a b = record { says = eqb-true a b; holds = eq-eqb a b }
 

@@ -21,11 +21,11 @@ ghost use Rattle.writing.specs.Encoded.{claimJudged, proofJudged};
 use bits::wide;
 use claims::ClaimFault;
 use claims::may_follow;
-use conditions::judge;
 use formula::Kind;
 use formula::Rule;
 use proofs::ProofFault;
 use proofs::is_code;
+use scopes::judge;
 use tree::fill_owners;
 use verdict::Verdict;
 

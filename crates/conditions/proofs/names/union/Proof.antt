@@ -1,9 +1,0 @@
-use Rattle.conditions.specs.NameSets.{union-marks}
-use Rattle.conditions.proofs.names.union.Statement.{statement}
-use Rattle.conditions.proofs.names.union.Tie as tie
-
-returns : tie.Need-returns
-returns c = union-marks (c .before .before .before .before .before .before .before .before .args .x) (c .before .before .before .before .before .before .before .before .args .y)
-
-pub union-spec : {M : Type 1} → statement M
-union-spec = tie.close (tie.spec returns)

@@ -1,0 +1,2 @@
+-- refusal 20 in plain numbers
+pub mod OperandBounds
