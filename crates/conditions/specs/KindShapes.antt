@@ -23,11 +23,11 @@ isName (step m a) = false
 isName (fix σ a) = false
 isName (name x) = true
 
-abbrev past : ℕ → ℕ
+abbrev pub past : ℕ → ℕ
 past k = suc (suc (suc (suc (suc (suc (suc (suc (suc (suc (suc k))))))))))
 
 -- kind by kind, and past the last
-by-kind : (P : ℕ → Type 0) → P 0 → P 1 → P 2 → P 3 → P 4 → P 5 → P 6 → P 7 → P 8 → P 9 → P 10 → ((k : ℕ) → P (past k)) → (k : ℕ) → P k
+pub by-kind : (P : ℕ → Type 0) → P 0 → P 1 → P 2 → P 3 → P 4 → P 5 → P 6 → P 7 → P 8 → P 9 → P 10 → ((k : ℕ) → P (past k)) → (k : ℕ) → P k
 by-kind P a b c d e f g h i j l m zero = a
 by-kind P a b c d e f g h i j l m (suc zero) = b
 by-kind P a b c d e f g h i j l m (suc (suc zero)) = c

@@ -12,9 +12,9 @@ use borrow.Author.Tests.{le-leb, ne-eqb}
 use Rattle.formula.specs.Kind
 use Rattle.formula.specs.Table.{Table}
 use Rattle.formula.specs.Shape.{Shape, leaf, two, step, fix, name, shapeOf, shape}
-use Rattle.conditions.specs.Judge.{isFix, badLeaf, bad}
 use Rattle.formula.specs.Plain.{tableOf, tableOf-length, tableOf-entry}
 use Rattle.formula.specs.Fields.{isFixpoint}
+use Rattle.conditions.specs.Judge.{isFix, badLeaf, bad}
 use Rattle.conditions.specs.KindShapes.{plainShape, isName, fix-test, name-test, letter-kind, two-kind, step-kind, fix-kind, name-kind, bare-kind}
 
 -- entry e earns 20

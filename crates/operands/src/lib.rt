@@ -1,9 +1,9 @@
 // Refusal 20: a letter, operand or name out of its bounds, or a name of no fixpoint.
 ghost use mathlib.Core.Path.{_≡_};
 ghost use Prim.Native.Nat.{_<_, _≤_};
+ghost use Rattle.formula.specs.Plain.{tableOf};
 ghost use Rattle.conditions.specs.KindShapes.{plainShape};
 ghost use Rattle.operands.specs.OperandBounds.{outOf, operandsOut, nameOut, FirstOut};
-ghost use Rattle.formula.specs.Plain.{tableOf};
 use bits::wide;
 use formula::Kind;
 

@@ -14,14 +14,14 @@ use Rattle.formula.specs.Kind
 use Rattle.formula.specs.Table.{Table}
 use Rattle.formula.specs.Shape.{Shape, leaf, two, step, fix, name, mu, nu, never, shapeOf, shape}
 use Rattle.formula.specs.TableLaws.{past-end, fix-in}
+use Rattle.formula.specs.FieldLaws.{within-tells}
+use Rattle.formula.specs.Fields.{isFixpoint}
+use Rattle.formula.specs.Plain.{tableOf, tableOf-length}
 use Rattle.conditions.specs.Rows.{Row, has, upTo, meets}
 use Rattle.conditions.specs.RowLaws.{has-upTo, meets-tells}
 use Rattle.conditions.specs.Judge.{isFix, isMu, isNu, frees, opens, marks, alternates, ownOpen, low, mixed, loose}
 use Rattle.conditions.specs.TestLaws.{freeSet, openSet, marks-has, mus-tells, nus-tells}
-use Rattle.formula.specs.FieldLaws.{within-tells}
-use Rattle.formula.specs.Fields.{isFixpoint}
 use Rattle.conditions.specs.KindShapes.{plainShape, fix-test, mu-test, nu-test, fix-kind}
-use Rattle.formula.specs.Plain.{tableOf, tableOf-length}
 use Rattle.operands.specs.OperandBounds.{plain-shape}
 use Rattle.name_sets.specs.NameSets.{holds, Marks, Shared}
 use Rattle.name_sets.specs.MarksBelow.{MarksBelow}

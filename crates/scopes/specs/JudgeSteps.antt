@@ -1,48 +1,33 @@
 -- one step of the judge of 20 to 23 over a table in plain numbers, case by case
-use mathlib.Core.Path.{_≡_, refl, ap, _∙_, sym, subst}
-use mathlib.Core.Logic.{inr}
+use mathlib.Core.Path.{_≡_, refl, ap, _∙_, sym}
 use mathlib.Core.List.{List}
 use mathlib.Core.Bool.{Bool, true, false, not, _||_, _&&_}
 use Prim.Native.Nat.{ℕ, suc, _+_, _*_, _-_, _<_, _≤_}
 use native.Mathlib.Numerals.{add-one}
 use native.Mathlib.Omega.{arith}
-use native.Mathlib.Decide.{decLt, ℕ-discrete}
 use lib.Dec.{eqb, ltb}
 use borrow.Author.Tests.{leb-false}
 use lib.ListN.{length, getD}
 use Rattle.verdict.specs.Tests.{choose}
-use Rattle.verdict.specs.Tells.{fails}
 use Rattle.verdict.specs.Verdict.{Verdict, accepted, refused, pick, scan}
 use Rattle.verdict.specs.VerdictLaws.{scan-holds, scan-first}
 use Rattle.formula.specs.Kind
 use Rattle.formula.specs.Table.{Table}
-use Rattle.formula.specs.Shape.{Shape, shape}
-use Rattle.formula.specs.TableLaws.{past-end}
-use Rattle.conditions.specs.Conditions.{Bad}
-use Rattle.conditions.specs.Formed.{InBounds}
-use Rattle.conditions.specs.Rows.{Row, has}
-use Rattle.conditions.specs.Judge.{freeRow, openRow, frees, opens, marks, low, loose, judgeBy, judgeTable}
-use Rattle.conditions.specs.TestLaws.{bad-tells, freeSet, openSet, free-at, open-at}
 use Rattle.formula.specs.Plain.{tableOf, tableOf-length}
 use Rattle.formula.specs.FieldLaws.{within-tells}
 use Rattle.formula.specs.Fields.{isFixpoint}
-use Rattle.conditions.specs.KindShapes.{plainShape}
-use Rattle.operands.specs.OperandBounds.{outOf, operandsOut, FirstOut, plain-shape, out-one, out-none, out-other}
+use Rattle.conditions.specs.Rows.{has}
+use Rattle.conditions.specs.Judge.{freeRow, openRow, frees, opens, marks, low, loose, judgeBy, judgeTable}
+use Rattle.conditions.specs.TestLaws.{freeSet, openSet}
+use Rattle.operands.specs.OperandBounds.{outOf, FirstOut, plain-shape, out-one}
 use Rattle.name_sets.specs.NameSets.{holds, Marks}
 use Rattle.name_sets.specs.RowWords.{rowOf, withRow}
-use Rattle.scopes.specs.RowMarks.{Made, RowsBelow, row-made, rows-more}
 use Rattle.name_sets.specs.MarksBelow.{MarksBelow, below-none, below-with}
-use Rattle.scopes.specs.Faults.{mixedAt, faultAt, Seen, mu-marks, nu-marks}
 use Rattle.name_sets.specs.declared.Names.{Names}
+use Rattle.scopes.specs.RowMarks.{RowsBelow, words-more}
+use Rattle.scopes.specs.EntryRows.{PlacesOf, MadeAt, operands, free-made, open-made}
+use Rattle.scopes.specs.Faults.{mixedAt, faultAt, Seen, mu-marks, nu-marks}
 use Rattle.scopes.specs.declared.entry.Places.{Places}
-
--- field A of entry e, and the places of its operands' rows
-pub record PlacesOf (xs ys : List ℕ) (e : ℕ) (r : Places) : Type 0 where
-  pub first-is : r .first ≡ getD xs e 0
-  pub left-within : r .left ≤ e
-  pub left-is : getD xs e 0 < e → r .left ≡ getD xs e 0
-  pub right-within : r .right ≤ e
-  pub right-is : getD ys e 0 < e → r .right ≡ getD ys e 0
 
 -- n entries from e on, by 21, 22 and 23
 unfoldable pub namesFrom : Table → ℕ → ℕ → Verdict
@@ -101,21 +86,14 @@ module _ (t : Table) where
   unfolding namesFrom scan faultAt
   names-pass n e f = turn-passes (namesFrom t n (suc e)) e (low (frees t) e) (mixedAt t e) (loose t (opens t) e) f
 
-  placed-all : ((w : ℕ) → w < length t → outOf t w ≡ false) → (w : ℕ) → InBounds t w
-  placed-all f w = go (decLt w (length t))
-    where
-      go : Dec (w < length t) → InBounds t w
-      go (yes h) = fails (bad-tells t w (shape t w)) (f w h)
-      go (no h) = λ b. subst (Bad t w) (past-end t w (omega arith)) b
-
 -- where the pass over a table of at most 256 entries, none of which earns 20, stands before entry e: the rows of all entries passed, the
 -- set of these entries, and that what is left of the pass decides
 pub record Reached (ks xs ys : List ℕ) (n : ℕ) (fs os : List ℕ) (passed : Names) (e : ℕ) : Type 0 where
   pub small : n ≤ 256
   pub placed : (w : ℕ) → w < n → outOf (tableOf ks xs ys n) w ≡ false
   pub within : e ≤ n
-  pub free-rows : RowsBelow fs (freeSet (tableOf ks xs ys n)) e
-  pub open-rows : RowsBelow os (openSet (tableOf ks xs ys n)) e
+  pub free-rows : RowsBelow (rowOf fs) (freeSet (tableOf ks xs ys n)) e
+  pub open-rows : RowsBelow (rowOf os) (openSet (tableOf ks xs ys n)) e
   pub up-to : MarksBelow passed e (λ n. true)
   pub left : namesFrom (tableOf ks xs ys n) n 0 ≡ namesFrom (tableOf ks xs ys n) (n - e) e
 
@@ -148,19 +126,6 @@ module _ {ks xs ys : List ℕ} {n : ℕ} {fs os : List ℕ} {passed : Names} {e 
     abbrev b : ℕ
     b = getD ys e 0
 
-    all-placed : (w : ℕ) → InBounds t w
-    all-placed = placed-all t (λ w h. now .placed w (omega (arith, tableOf-length ks xs ys n)))
-
-    operands : operandsOut e (plainShape k a b) ≡ false
-    operands = go (ℕ-discrete k Kind.NAME)
-      where
-        go : Dec (k ≡ Kind.NAME) → operandsOut e (plainShape k a b) ≡ false
-        go (yes q) = out-none k a b e (inr (omega arith))
-        go (no q) = sym (out-other ks xs ys n e inside q) ∙ now .placed e inside
-
-    shaped : shape t e ≡ plainShape k a b
-    shaped = plain-shape ks xs ys n e inside
-
     one-more : n - e ≡ suc (n - (e + 1))
     one-more = omega arith
 
@@ -170,29 +135,17 @@ module _ {ks xs ys : List ℕ} {n : ℕ} {fs os : List ℕ} {passed : Names} {e 
         ∙ sym (now .left ∙ ap (λ (m : ℕ). namesFrom t m e) one-more ∙ names-fault t (n - (e + 1)) e (λ z. f (q ∙ z)))
 
     module _ {at : Places} (is : PlacesOf xs ys e at) where
-      -- r is what a clause makes for entry e of the rows of its operands
-      abbrev MadeHere : ((ℕ → Row) → ℕ → Shape → Row) → List ℕ → Names → Type 0
-      MadeHere row l r = (x y : Names) × (x ≡ rowOf l (at .left)) × (y ≡ rowOf l (at .right)) × Made row k (at .first) e x y r
-
-      row-here : (row : (ℕ → Row) → ℕ → Shape → Row) (f : ℕ → Row) (l : List ℕ) → RowsBelow l f e → f e ≡ row f e (plainShape k a b)
-          → (r : Names) → MadeHere row l r → Marks r (has (f e))
-      row-here row f l rows clause r (x, y, p, q, m) =
-          row-made f l e rows row k a b clause operands (at .left) (at .right) (is .left-is) (is .right-is) r (rw (p, q, is .first-is) at m)
-
-      free-made : (r : Names) → MadeHere freeRow fs r → Marks r (has (freeSet t e))
-      free-made = row-here freeRow (freeSet t) fs (now .free-rows) (free-at t all-placed e (plainShape k a b) shaped)
-
-      open-made : (r : Names) → MadeHere openRow os r → Marks r (has (openSet t e))
-      open-made = row-here openRow (openSet t) os (now .open-rows) (open-at t all-placed e (plainShape k a b) shaped)
-
       body-made : isFixpoint k ≡ true → Marks (rowOf os (at .left)) (has (openSet t a))
       body-made h =
           let (l, m) = within-tells Kind.MU Kind.NU k .says h in
-          let below : a < e = leb-false e a (sym (out-one k a b e (omega arith) m) ∙ operands) in
+          let below : a < e = leb-false e a (sym (out-one k a b e (omega arith) m) ∙ operands ks xs ys n (now .placed) e inside) in
           rw (is .left-is below) (now .open-rows a below)
 
       -- the free names of entry e, and the entries up to e
-      module _ (free upto : Names) (made : MadeHere freeRow fs free) (more : Marks upto (λ n. holds passed n || eqb n e)) where
+      module _ (free upto : Names) (made : MadeAt k e at freeRow (rowOf fs) free) (more : Marks upto (λ n. holds passed n || eqb n e)) where
+        free-row : Marks free (has (freeSet t e))
+        free-row = free-made ks xs ys n (now .placed) e inside is (rowOf fs) (now .free-rows) free made
+
         up-to-e : MarksBelow upto (e + 1) (λ n. true)
         up-to-e = below-with passed (λ n. true) e (now .up-to) refl upto more
 
@@ -203,22 +156,24 @@ module _ {ks xs ys : List ℕ} {n : ℕ} {fs os : List ℕ} {passed : Names} {e 
             record {
               small = omega (arith, now .small);
               inside = omega arith;
-              shaped = shaped;
-              free-row = free-made free made;
+              shaped = plain-shape ks xs ys n e inside;
+              free-row = free-row;
               body-row = rw q body-made;
               up-to = up-to-e;
               mu-row = mu-marks ks xs ys n mus u;
               nu-row = nu-marks ks xs ys n nus v;
             }
 
-        pub goes-on : (reach : Names) → MadeHere openRow os reach → faultAt t e ≡ 0 → 4 * n ≤ length fs → 4 * n ≤ length os
+        pub goes-on : (reach : Names) → MadeAt k e at openRow (rowOf os) reach → faultAt t e ≡ 0 → 4 * n ≤ length fs → 4 * n ≤ length os
             → Reached ks xs ys n (withRow fs e free) (withRow os e reach) upto (e + 1)
         goes-on reach y f free-long open-long = record {
           small = now .small;
           placed = now .placed;
           within = omega arith;
-          free-rows = rows-more (freeSet t) fs e (now .free-rows) free (omega arith) (free-made free made);
-          open-rows = rows-more (openSet t) os e (now .open-rows) reach (omega arith) (open-made reach y);
+          free-rows = words-more (freeSet t) fs e (now .free-rows) free (omega arith) free-row;
+          open-rows =
+              words-more (openSet t) os e (now .open-rows) reach (omega arith)
+              (open-made ks xs ys n (now .placed) e inside is (rowOf os) (now .open-rows) reach y);
           up-to = up-to-e;
           left = now .left ∙ ap (λ (m : ℕ). namesFrom t m e) one-more ∙ names-pass t (n - (e + 1)) e f ∙ ap (namesFrom t (n - (e + 1))) (sym (add-one e));
         }

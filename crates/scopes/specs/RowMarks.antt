@@ -6,7 +6,8 @@ use mathlib.Core.Bool.{Bool, true, false, not, _||_, _&&_, true≢false}
 use Prim.Native.Nat.{ℕ, _+_, _*_, _<_, _≤_}
 use native.Mathlib.Omega.{arith}
 use lib.Dec.{eqb, leb}
-use lib.ListN.{length}
+use lib.ListN.{length, getD, set}
+use lib.Seq.{getD-set-same, getD-set-other}
 use borrow.Author.Count.{below-more}
 use borrow.Author.Tests.{leb-false}
 use Rattle.verdict.specs.Tells.{tells-self, same-test, and-tells, or-tells, not-tells, eqb-tells}
@@ -96,19 +97,33 @@ module _ (k a e : ℕ) (x y : Names) where
   unfolding openRow operandsOut
   open-fix l m f b o g h n i = let (w, z) = fix-kind k a b l m in rw z (g (leb-false e a (rw z at o)) n i)
 
--- the rows of the entries below e, in a list of words
+-- the rows of the entries below e, wherever these stand
+abbrev pub RowsBelow : (ℕ → Names) → (ℕ → Row) → ℕ → Type 0
+RowsBelow rows f e = (d : ℕ) → d < e → Marks (rows d) (has (f d))
 
-abbrev pub RowsBelow : List ℕ → (ℕ → Row) → ℕ → Type 0
-RowsBelow l f e = (d : ℕ) → d < e → Marks (rowOf l d) (has (f d))
-
-module _ (f : ℕ → Row) (l : List ℕ) (e : ℕ) (rows : RowsBelow l f e) where
+module _ (f : ℕ → Row) (rows : ℕ → Names) (e : ℕ) (below : RowsBelow rows f e) where
   -- i and j are the operands where these lie below
   pub row-made : (row : (ℕ → Row) → ℕ → Shape → Row) (k a b : ℕ) → f e ≡ row f e (plainShape k a b) → operandsOut e (plainShape k a b) ≡ false
-      → (i j : ℕ) → (a < e → i ≡ a) → (b < e → j ≡ b) → (r : Names) → Made row k a e (rowOf l i) (rowOf l j) r → Marks r (has (f e))
-  row-made row k a b clause placed i j p q r m = rw clause (m f b placed (λ h. rw (p h) (rows a h)) (λ h. rw (q h) (rows b h)))
+      → (i j : ℕ) → (a < e → i ≡ a) → (b < e → j ≡ b) → (r : Names) → Made row k a e (rows i) (rows j) r → Marks r (has (f e))
+  row-made row k a b clause placed i j p q r m = rw clause (m f b placed (λ h. rw (p h) (below a h)) (λ h. rw (q h) (below b h)))
 
-  pub rows-more : (r : Names) → 4 * e + 3 < length l → Marks r (has (f e)) → RowsBelow (withRow l e r) f (e + 1)
-  rows-more r h m =
-      below-more (λ d. Marks (rowOf (withRow l e r) d) (has (f d))) e
-      (λ d less. rw (row-other l e r d (λ q. omega arith)) (rows d less))
-      (rw (row-same l e r h) m)
+  -- row e is written, and no other
+  rows-more : (new : ℕ → Names) → ((d : ℕ) → (d ≡ e → ⊥) → new d ≡ rows d) → Marks (new e) (has (f e)) → RowsBelow new f (e + 1)
+  rows-more new other m = below-more (λ d. Marks (new d) (has (f d))) e (λ d less. rw (other d (λ q. omega arith)) (below d less)) m
+
+-- in a list of words
+pub words-more : (f : ℕ → Row) (l : List ℕ) (e : ℕ) → RowsBelow (rowOf l) f e → (r : Names) → 4 * e + 3 < length l → Marks r (has (f e))
+    → RowsBelow (rowOf (withRow l e r)) f (e + 1)
+words-more f l e below r h m = rows-more f (rowOf l) e below (rowOf (withRow l e r)) (row-other l e r) (rw (row-same l e r h) m)
+
+-- in a list of sets
+abbrev pub noNames : Names
+noNames = record { 0 = 0; 1 = 0; 2 = 0; 3 = 0 }
+
+abbrev pub setOf : List Names → ℕ → Names
+setOf l e = getD l e noNames
+
+pub sets-more : (f : ℕ → Row) (l : List Names) (e : ℕ) → RowsBelow (setOf l) f e → (r : Names) → e < length l → Marks r (has (f e))
+    → RowsBelow (setOf (set l e r)) f (e + 1)
+sets-more f l e below r h m =
+    rows-more f (setOf l) e below (setOf (set l e r)) (λ d. getD-set-other l e d r noNames) (rw (getD-set-same l e r noNames h) m)

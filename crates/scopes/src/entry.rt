@@ -5,7 +5,7 @@ ghost use Rattle.formula.specs.Table.{Table};
 ghost use Rattle.conditions.specs.Judge.{freeRow, openRow};
 ghost use Rattle.scopes.specs.RowMarks.{Made};
 ghost use Rattle.scopes.specs.Faults.{Seen, faultAt, oppositeOf};
-ghost use Rattle.scopes.specs.JudgeSteps.{PlacesOf};
+ghost use Rattle.scopes.specs.EntryRows.{PlacesOf};
 use bits::wide;
 use formula::Kind;
 use name_sets::Names;
@@ -71,7 +71,15 @@ fn opposite(kind: u8, mus: Names, nus: Names) -> Names
 
 // The refusal that entry e earns first, 21, 22 or 23, or 0: from its free names, its body's open names, the entries up to it, and the
 // fixpoint entries.
-pub fn fault(kind: u8, e: usize, free: Names, body: Names, passed: Names, mus: Names, nus: Names) -> u16
+pub fn fault(
+    kind: u8,
+    e: usize,
+    free: Names,
+    body: Names,
+    passed: Names,
+    mus: Names,
+    nus: Names,
+) -> u16
     ensures { λ r. ⌜ ((t : Table) (a b : ℕ) → Seen t e kind a b free body passed mus nus → r ≡ faultAt t e) ⌝ }
 {
     if name_sets::meet(free, passed) {

@@ -8,8 +8,10 @@ ghost use lib.ListN.{length, getD};
 ghost use Rattle.verdict.specs.Shown.{shown};
 ghost use Rattle.formula.specs.Plain.{tableOf};
 ghost use Rattle.conditions.specs.Judge.{judgeTable};
+ghost use Rattle.conditions.specs.TestLaws.{freeSet};
 ghost use Rattle.operands.specs.OperandBounds.{outOf};
 ghost use Rattle.name_sets.specs.NameSets.{Marks};
+ghost use Rattle.scopes.specs.RowMarks.{RowsBelow, setOf};
 ghost use Rattle.scopes.specs.JudgeSteps.{namesFrom};
 use crate::entry::fault;
 use crate::entry::free_names;
@@ -130,4 +132,31 @@ pub fn judge(kinds: &[u8; 256], a: &[u16; 256], b: &[u16; 256], count: usize) ->
         };
     }
     judge_names(kinds, a, b, count)
+}
+
+// In a function of its own, so that a caller's goals do not spell 256 sets out.
+fn no_rows() -> [Names; 256]
+    ensures { λ r. ⌜ length r ≡ 256 ⌝ }
+{
+    [Names(0, 0, 0, 0); 256]
+}
+
+// The free names of each entry, where none earns 20.
+pub fn free_rows(kinds: &[u8; 256], a: &[u16; 256], b: &[u16; 256], count: usize) -> [Names; 256]
+    requires { ⌜ count ≤ 256 ⌝ }
+    requires { ⌜ ((w : ℕ) → w < count → outOf (tableOf (now kinds) (now a) (now b) count) w ≡ false) ⌝ }
+    ensures { λ r. ⌜ (length r ≡ 256) × RowsBelow (setOf r) (freeSet (tableOf (now (kinds .entry)) (now (a .entry)) (now (b .entry)) count)) count ⌝ }
+{
+    let mut rows = no_rows();
+    let mut e: usize = 0;
+    while e < count {
+        let kind = kinds[e];
+        let at = places_of(a, b, e);
+        let first = at.first;
+        let left = at.left;
+        let right = at.right;
+        rows[e] = free_names(kind, first, e, rows[left], rows[right]);
+        e += 1;
+    }
+    rows
 }

@@ -6,8 +6,8 @@ use lib.ListN.{length}
 use borrow.Author.Needs.{needs}
 use Rattle.formula.specs.Table.{Table}
 use Rattle.formula.specs.Plain.{tableOf}
-use Rattle.scopes.specs.Faults.{faultAt}
 use Rattle.name_sets.specs.RowWords.{length-row}
+use Rattle.scopes.specs.Faults.{faultAt}
 use Rattle.scopes.specs.JudgeSteps.{Reached, starts, seen, refuses, goes-on, ends}
 use Rattle.scopes.proofs.judge_rows.Statement.{statement}
 use Rattle.scopes.proofs.judge_rows.Tie as tie
