@@ -9,15 +9,19 @@ use Rattle.formula.specs.Table.{Entry, Table, entry}
 pub data Leaf : Type 0 where
   never always : Leaf
   letter negated : ℕ → Leaf
+  deriving Discrete as Leaf-discrete
 
 pub data Two : Type 0 where
   or and : Two
+  deriving Discrete as Two-discrete
 
 pub data Step : Type 0 where
   diamond box : Step
+  deriving Discrete as Step-discrete
 
 pub data Fix : Type 0 where
   mu nu : Fix
+  deriving Discrete as Fix-discrete
 
 -- an entry by its kind, with the numbers of its operands, its body or its fixpoint
 pub data Shape : Type 0 where
@@ -53,3 +57,10 @@ Fixpoint (two o a b) = ⊥
 Fixpoint (step m a) = ⊥
 Fixpoint (fix σ a) = Unit {0}
 Fixpoint (name x) = ⊥
+
+abbrev pub NoName : Shape → Type 0
+NoName (leaf l) = Unit {0}
+NoName (two o a b) = Unit {0}
+NoName (step m a) = Unit {0}
+NoName (fix σ a) = Unit {0}
+NoName (name x) = ⊥

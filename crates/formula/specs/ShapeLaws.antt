@@ -1,6 +1,6 @@
--- the shape of each kind by its number, and the target by the kind
-use mathlib.Core.Path.{_≡_, refl, ap, _∙_}
-use mathlib.Core.Logic.{_≢_}
+-- the shape of each kind by its number, the kind's number by the shape, and the target by the kind
+use mathlib.Core.Path.{_≡_, refl, sym, ap, _∙_}
+use mathlib.Core.Logic.{_≢_, _⊎_, inl, inr}
 use Prim.Native.Nat.{ℕ, zero, suc}
 use native.Mathlib.Omega.{arith}
 use Rattle.formula.specs.Kind
@@ -54,28 +54,82 @@ module _ (t : Table) (e : ℕ) where
   unfolding shape shapeOf
   name-shape q = rw q refl
 
-is-name : Shape → ℕ
-is-name (leaf l) = 0
-is-name (two o a b) = 0
-is-name (step m a) = 0
-is-name (fix σ a) = 0
-is-name (name x) = 1
+-- the number of a shape's kind, and its field A, or d where the kind has none
+kindOf : Shape → ℕ
+kindOf (leaf never) = Kind.FALSE
+kindOf (leaf always) = Kind.TRUE
+kindOf (leaf (letter p)) = Kind.LETTER
+kindOf (leaf (negated p)) = Kind.NEGATED
+kindOf (two or a b) = Kind.OR
+kindOf (two and a b) = Kind.AND
+kindOf (step diamond a) = Kind.DIAMOND
+kindOf (step box a) = Kind.BOX
+kindOf (fix mu a) = Kind.MU
+kindOf (fix nu a) = Kind.NU
+kindOf (name x) = Kind.NAME
 
--- only kind 10 has the shape of a name
-name-kind : (k a b : ℕ) → is-name (shapeOf (record { kind = k; a = a; b = b })) ≡ 1 → k ≡ Kind.NAME
-unfolding is-name shapeOf
-name-kind zero a b h = absurd (omega arith)
-name-kind (suc zero) a b h = absurd (omega arith)
-name-kind (suc (suc zero)) a b h = absurd (omega arith)
-name-kind (suc (suc (suc zero))) a b h = absurd (omega arith)
-name-kind (suc (suc (suc (suc zero)))) a b h = absurd (omega arith)
-name-kind (suc (suc (suc (suc (suc zero))))) a b h = absurd (omega arith)
-name-kind (suc (suc (suc (suc (suc (suc zero)))))) a b h = absurd (omega arith)
-name-kind (suc (suc (suc (suc (suc (suc (suc zero))))))) a b h = absurd (omega arith)
-name-kind (suc (suc (suc (suc (suc (suc (suc (suc zero)))))))) a b h = absurd (omega arith)
-name-kind (suc (suc (suc (suc (suc (suc (suc (suc (suc zero))))))))) a b h = absurd (omega arith)
-name-kind (suc (suc (suc (suc (suc (suc (suc (suc (suc (suc zero)))))))))) a b h = refl
-name-kind (suc (suc (suc (suc (suc (suc (suc (suc (suc (suc (suc k))))))))))) a b h = absurd (omega arith)
+fieldA : Shape → ℕ → ℕ
+fieldA (leaf never) d = d
+fieldA (leaf always) d = d
+fieldA (leaf (letter p)) d = p
+fieldA (leaf (negated p)) d = p
+fieldA (two o a b) d = a
+fieldA (step m a) d = a
+fieldA (fix σ a) d = a
+fieldA (name x) d = x
+
+-- v tells the kind k, unless it is false, which any number past the last kind stands for too, and the field a
+abbrev Tells-back : Shape → ℕ → ℕ → Type 0
+Tells-back v k a = ((kindOf v ≡ Kind.FALSE) ⊎ (k ≡ kindOf v)) × (fieldA v a ≡ a)
+
+shape-back : (k a b : ℕ) → Tells-back (shapeOf (record { kind = k; a = a; b = b })) k a
+unfolding shapeOf kindOf fieldA
+shape-back zero a b = (inl refl, refl)
+shape-back (suc zero) a b = (inr refl, refl)
+shape-back (suc (suc zero)) a b = (inr refl, refl)
+shape-back (suc (suc (suc zero))) a b = (inr refl, refl)
+shape-back (suc (suc (suc (suc zero)))) a b = (inr refl, refl)
+shape-back (suc (suc (suc (suc (suc zero))))) a b = (inr refl, refl)
+shape-back (suc (suc (suc (suc (suc (suc zero)))))) a b = (inr refl, refl)
+shape-back (suc (suc (suc (suc (suc (suc (suc zero))))))) a b = (inr refl, refl)
+shape-back (suc (suc (suc (suc (suc (suc (suc (suc zero)))))))) a b = (inr refl, refl)
+shape-back (suc (suc (suc (suc (suc (suc (suc (suc (suc zero))))))))) a b = (inr refl, refl)
+shape-back (suc (suc (suc (suc (suc (suc (suc (suc (suc (suc zero)))))))))) a b = (inr refl, refl)
+shape-back (suc (suc (suc (suc (suc (suc (suc (suc (suc (suc (suc k))))))))))) a b = (inl refl, refl)
+
+-- the kind by the shape, and field A
+module _ (t : Table) (e : ℕ) where
+  kind-of : {v : Shape} → shape t e ≡ v → (kindOf v ≡ Kind.FALSE → ⊥) → kind t e ≡ kindOf v
+  unfolding shape
+  kind-of {v} q n = go (shape-back (entry t e .kind) (entry t e .a) (entry t e .b) .0)
+    where
+      go : (kindOf (shape t e) ≡ Kind.FALSE) ⊎ (kind t e ≡ kindOf (shape t e)) → kind t e ≡ kindOf v
+      go (inl z) = absurd (n (sym (ap kindOf q) ∙ z))
+      go (inr z) = z ∙ ap kindOf q
+
+  field-of : {v : Shape} → shape t e ≡ v → entry t e .a ≡ fieldA v (entry t e .a)
+  unfolding shape
+  field-of q = sym (shape-back (entry t e .kind) (entry t e .a) (entry t e .b) .1) ∙ ap (λ (v : Shape). fieldA v (entry t e .a)) q
+
+  pub true-kind : shape t e ≡ leaf always → kind t e ≡ Kind.TRUE
+  unfolding kindOf
+  true-kind q = kind-of q (λ z. omega arith)
+
+  pub letter-kind : {p : ℕ} → shape t e ≡ leaf (letter p) → (kind t e ≡ Kind.LETTER) × (entry t e .a ≡ p)
+  unfolding kindOf fieldA
+  letter-kind q = (kind-of q (λ z. omega arith), field-of q)
+
+  pub negated-kind : {p : ℕ} → shape t e ≡ leaf (negated p) → (kind t e ≡ Kind.NEGATED) × (entry t e .a ≡ p)
+  unfolding kindOf fieldA
+  negated-kind q = (kind-of q (λ z. omega arith), field-of q)
+
+  pub box-kind : {a : ℕ} → shape t e ≡ step box a → (kind t e ≡ Kind.BOX) × (entry t e .a ≡ a)
+  unfolding kindOf fieldA
+  box-kind q = (kind-of q (λ z. omega arith), field-of q)
+
+  pub name-kind : {x : ℕ} → shape t e ≡ name x → kind t e ≡ Kind.NAME
+  unfolding kindOf
+  name-kind q = kind-of q (λ z. omega arith)
 
 -- the operand's fixpoint if it is a name
 pub target-name : (t : Table) (e : ℕ) → kind t e ≡ Kind.NAME → target t e ≡ entry t e .a
@@ -84,7 +138,7 @@ target-name t e q = target-at t e (name-shape t e q)
 
 -- else the operand
 pub target-other : (t : Table) (e : ℕ) → kind t e ≢ Kind.NAME → target t e ≡ e
-unfolding targetOf is-name
+unfolding targetOf
 target-other t e n = target-at t e refl ∙ go (shape t e) refl
   where
     go : (v : Shape) → shape t e ≡ v → targetOf v e ≡ e
@@ -92,4 +146,4 @@ target-other t e n = target-at t e refl ∙ go (shape t e) refl
     go (two o a b) q = refl
     go (step m a) q = refl
     go (fix σ a) q = refl
-    go (name x) q = absurd (n (name-kind (entry t e .kind) (entry t e .a) (entry t e .b) (unfold shape in ap is-name q)))
+    go (name x) q = absurd (n (name-kind t e q))
