@@ -1,21 +1,20 @@
 -- a table that is filled gives the number of each formula: the least entry, no name, with the same number
-use mathlib.Core.Path.{_≡_, ap}
-use mathlib.Core.Bool.{Bool, not, _&&_, decide-iff}
+use mathlib.Core.Path.{_≡_}
+use mathlib.Core.Bool.{Bool, not, _&&_}
 use Prim.Native.Nat.{ℕ, _<_}
 use native.Mathlib.Omega.{arith}
 use lib.Dec.{eqb}
 use lib.ListN.{length}
-use Rattle.verdict.specs.Tells.{tells-as, eqb-tells, same-test}
+use Rattle.verdict.specs.Tells.{tells-as, eqb-tells, and-tells, not-tells, same-test}
 use Rattle.formula.specs.Kind
 use Rattle.formula.specs.Table.{Table, kind}
 use Rattle.conditions.specs.WellFormed.{WellFormed}
 use Rattle.conditions.specs.Formed.{InBounds}
 use Rattle.conditions.specs.Rows.{has}
 use Rattle.conditions.specs.TestLaws.{freeSet, free-tells}
-use Rattle.written.specs.Form.{same-form}
 use Rattle.written.specs.Written.{written}
 use Rattle.written.specs.Canon.{least, has-form, canon}
-use Rattle.written.specs.CanonLaws.{least-local}
+use Rattle.written.specs.CanonLaws.{least-local, has-form-tells}
 use Rattle.numbering.specs.Forms.{Fits}
 use Rattle.numbering.specs.Filled.{Numbers, Filled}
 use Rattle.numbering.specs.FilledExact.{filled-exact}
@@ -36,7 +35,6 @@ module _ (t : Table) (wf : WellFormed t) (placed : (w : ℕ) → InBounds t w) (
     where
       same : (f : ℕ) → f < length t → has-number t (rep 0) e f ≡ has-form t (written t e) f
       same f G =
-          let (says, holds) = decide-iff (same-form (written t e) (written t f)) in
           let (into, from) = filled-exact t wf (free-test t) (free-tells t placed) rep on F all e f E G in
-          ap (λ (b : Bool). not (eqb (kind t f) Kind.NAME) && b)
-          (same-test (tells-as into from (eqb-tells (rep 0 e) (rep 0 f))) (record { says = says; holds = holds }))
+          let number-tells = and-tells (not-tells (eqb-tells (kind t f) Kind.NAME)) (tells-as into from (eqb-tells (rep 0 e) (rep 0 f))) in
+          same-test number-tells (has-form-tells t (written t e) f)

@@ -36,7 +36,7 @@ least-local ok pass zero i h = refl
 least-local ok pass (suc n) i h = rw (h i (omega arith)) (ap (choose (pass i) i) (least-local ok pass n (suc i) (λ f l. h f (omega arith))))
 
 module _ (t : Table) where
-  has-form-tells : (F : Form) (f : ℕ) → Tells (has-form t F f) ((kind t f ≢ Kind.NAME) × (F ≡ written t f))
+  pub has-form-tells : (F : Form) (f : ℕ) → Tells (has-form t F f) ((kind t f ≢ Kind.NAME) × (F ≡ written t f))
   unfolding has-form
   has-form-tells F f =
       let (says, holds) = decide-iff (same-form F (written t f)) in
