@@ -7,7 +7,7 @@ use Rattle.formula.specs.Kind
 use Rattle.formula.specs.Table.{Table, entry, kind}
 use Rattle.formula.specs.Shape.{Shape, leaf, two, step, fix, name, never, always, letter, negated, or, and, diamond, box, mu, nu, shapeOf, shape}
 use Rattle.formula.specs.Target.{targetOf, target}
-use Rattle.formula.specs.TableLaws.{target-at}
+use Rattle.formula.specs.TableLaws.{target-at, target-by}
 
 module _ (t : Table) (e : ℕ) where
   pub false-shape : kind t e ≡ Kind.FALSE → shape t e ≡ leaf never
@@ -138,12 +138,4 @@ target-name t e q = target-at t e (name-shape t e q)
 
 -- else the operand
 pub target-other : (t : Table) (e : ℕ) → kind t e ≢ Kind.NAME → target t e ≡ e
-unfolding targetOf
-target-other t e n = target-at t e refl ∙ go (shape t e) refl
-  where
-    go : (v : Shape) → shape t e ≡ v → targetOf v e ≡ e
-    go (leaf l) q = refl
-    go (two o a b) q = refl
-    go (step m a) q = refl
-    go (fix σ a) q = refl
-    go (name x) q = absurd (n (name-kind t e q))
+target-other t e n = target-by t e (λ d. d ≡ e) (λ _. refl) (λ x q. absurd (n (name-kind t e q)))

@@ -5,14 +5,14 @@ use native.Mathlib.Omega.{arith}
 use lib.ListN.{length}
 use Rattle.formula.specs.Table.{Table}
 use Rattle.formula.specs.Shape.{Shape, leaf, two, step, fix, name, Fix, shape}
-use Rattle.formula.specs.Target.{targetOf, target}
+use Rattle.formula.specs.Target.{target}
 use Rattle.conditions.specs.WellFormed.{WellFormed}
 use Rattle.meaning.specs.States.{Model, StateSet, SameStates, leafSet, twoSet, stepSet}
 use Rattle.meaning.specs.StateLaws.{same-sym, same-trans, path-same, two-same, step-same}
 use Rattle.meaning.specs.Meaning.{clause, meaning, owns, own}
 use Rattle.meaning.specs.MeaningLaws.{put-at, put-other, meaning-at, meaning-local}
 use Rattle.meaning.specs.FixLaws.{fix-is}
-use Rattle.formula.specs.TableLaws.{fix-in}
+use Rattle.formula.specs.TableLaws.{fix-in, target-by}
 
 module _ (M : Model) where
   -- the set that a shape makes of its targets' own meanings
@@ -50,15 +50,7 @@ module _ (M : Model) where
     own-name e x q = same-trans (path-same (meaning-at M t wf e q _)) (owns-own x (wf .names-above e x q .1))
 
     pub own-target : (e : ℕ) → SameStates (M .size) (own M t e) (own M t (target t e))
-    unfolding target
-    own-target e = go (shape t e) refl
-      where
-        go : (v : Shape) → shape t e ≡ v → SameStates (M .size) (own M t e) (own M t (targetOf v e))
-        go (leaf l) q s k = refl
-        go (two o a b) q s k = refl
-        go (step m a) q s k = refl
-        go (fix σ a) q s k = refl
-        go (name x) q s k = own-name e x q s k
+    own-target e = target-by t e (λ d. SameStates (M .size) (own M t e) (own M t d)) (λ _ s k. refl) (own-name e)
 
     -- at a fixpoint the body is read with the fixpoint's own meaning
     own-body : (e a : ℕ) (σ : Fix) → shape t e ≡ fix σ a → SameStates (M .size) (own M t e) (own M t a)

@@ -1,30 +1,27 @@
 -- where every number stands, numbers are equal just where the forms are the same
 use mathlib.Core.Path.{_≡_, refl, sym, ap, ap₂, subst, _∙_}
 use mathlib.Core.Logic.{_⊎_, inl, inr, _↔_}
-use mathlib.Core.Bool.{Bool, true}
-use mathlib.Core.List.{List, [], _∷_}
+use mathlib.Core.Bool.{Bool}
+use mathlib.Core.List.{List, _∷_}
 use Prim.Native.Nat.{ℕ, zero, suc, _<_}
 use native.Mathlib.Nat.{suc-ne-zero}
 use native.Mathlib.Omega.{arith}
 use lib.ListN.{length}
 use Rattle.verdict.specs.Tells.{Tells}
-use Rattle.verdict.specs.Lists.{more}
 use Rattle.formula.specs.Table.{Table}
 use Rattle.formula.specs.Shape.{Shape, leaf, two, step, fix, name, Step, Fix, shape, Operand, Fixpoint, NoName}
 use Rattle.formula.specs.Target.{target}
 use Rattle.formula.specs.TableLaws.{name-or-not, target-by}
 use Rattle.conditions.specs.Free.{Free}
 use Rattle.conditions.specs.WellFormed.{WellFormed}
-use Rattle.written.specs.Form.{Form, pair, modal, bind, bound}
+use Rattle.written.specs.Form.{Form, pair, modal, bind}
 use Rattle.written.specs.Written.{clause, written, SameFormula}
-use Rattle.written.specs.Binding.{named-bound}
 use Rattle.written.specs.WrittenLaws.{below, spell-at, written-target}
 use Rattle.written.specs.SameShape.{target-no-name}
-use Rattle.numbering.specs.FreeNames.{free-by}
 use Rattle.numbering.specs.Renaming.{size, size-rename}
-use Rattle.numbering.specs.Only.{only, marks, All, Distinct, same-count, all-marks}
+use Rattle.numbering.specs.Only.{only, marks, same-count, all-marks}
 use Rattle.numbering.specs.Narrowing.{narrowed, same-below}
-use Rattle.numbering.specs.Forms.{within, scope, form, Fits, inOperand, Scoped, form-written, scope-distinct, scope-length, scope-free}
+use Rattle.numbering.specs.Forms.{within, scope, form, Fits, inOperand, Scoped, form-written, scope-length, bound-name, not-bound}
 use Rattle.numbering.specs.Forms.{operand-scoped, step-free, step-scoped, body-free, body-scoped}
 use Rattle.numbering.specs.Filled.{Numbers, places, Level, Filled}
 
@@ -188,33 +185,7 @@ module _ (t : Table) (wf : WellFormed t) (isFree : ℕ → ℕ → Bool) (tells 
         λ h. target-number e E ∙ from (sym (target-form e) ∙ h ∙ target-form f) ∙ sym (target-number f G),
       )
 
-  -- a name has one free name: where one is bound it is that
-
-  bound-name : (k e x : ℕ) → shape t e ≡ name x → Fit (suc k) e → (k ≡ 0) × (FormOf (suc k) e ≡ bound 0)
-  unfolding clause
-  bound-name k e x q E =
-      go (Scope (suc k) e) refl
-      (scope-free t wf isFree tells (suc k) e) (scope-distinct t wf isFree tells (suc k) e) (scope-length t wf isFree tells (suc k) e E)
-    where
-      own : (y : ℕ) → isFree e y ≡ true → y ≡ x
-      own y h = free-by t q (tells e y .says h)
-
-      go : (l : List ℕ) → Scope (suc k) e ≡ l → All (isFree e) l → Distinct l → length l ≡ suc k → (k ≡ 0) × (FormOf (suc k) e ≡ bound 0)
-      go [] u a d n = absurd (omega arith)
-      go (y ∷ []) u (more a _) d n =
-          (omega arith, ap (below t e) u ∙ spell-at t wf (written t) e q (y ∷ []) ∙ named-bound (written t) (y ∷ []) x 0 (sym (own y a)))
-      go (y ∷ z ∷ l) u (more a (more b _)) ((n, _), _) m = absurd (n (own y a ∙ sym (own z b)))
-
-  not-bound : (k f : ℕ) → NoName (shape t f) → FormOf k f ≡ bound 0 → ⊥
-  unfolding clause
-  not-bound k f n h = go (shape t f) n (sym (spell-at t wf (written t) f refl (Scope k f)) ∙ h)
-    where
-      go : (w : Shape) → NoName w → clause (written t) (below t) f w (Scope k f) ≡ bound 0 → ⊥
-      go (leaf l) n e = suc-ne-zero 0 cc
-      go (two o a b) n e = suc-ne-zero 0 cc
-      go (step m a) n e = suc-ne-zero 0 cc
-      go (fix σ a) n e = suc-ne-zero 0 cc
-      go (name x) n e = n
+  -- with names bound, a name is as all names and as nothing else
 
   abbrev MaybeName : ℕ → Type 0
   MaybeName e = ((x : ℕ) × (shape t e ≡ name x)) ⊎ NoName (shape t e)
@@ -222,18 +193,18 @@ module _ (t : Table) (wf : WellFormed t) (isFree : ℕ → ℕ → Bool) (tells 
   some-exact : (k e f : ℕ) → Upto (size (FormOf (suc k) e)) → Fit (suc k) e → Fit (suc k) f → MaybeName e → MaybeName f → Exact (suc k) e f
   some-exact k e f ih E G (inr p) (inr r) = no-names (suc k) e f E G ih p r
   some-exact k e f ih E G (inl (x, q)) (inl (y, r)) =
-      let (z, b) = bound-name k e x q E in
-      let (_, c) = bound-name k f y r G in
+      let (z, b) = bound-name t wf isFree tells k e x q E in
+      let (_, c) = bound-name t wf isFree tells k f y r G in
       (λ _. b ∙ sym c, λ _. rw z (F .bounds e f x y (all 1 e (rw z at E)) (all 1 f (rw z at G)) q r))
   some-exact k e f ih E G (inl (x, q)) (inr r) =
-      let (z, b) = bound-name k e x q E in (
+      let (z, b) = bound-name t wf isFree tells k e x q E in (
         λ h. absurd (F .bound-apart e f x (all 1 e (rw z at E)) (all 1 f (rw z at G)) q r (rw z at h)),
-        λ h. absurd (not-bound (suc k) f r (sym h ∙ b)),
+        λ h. absurd (not-bound t wf isFree tells (suc k) f r (sym h ∙ b)),
       )
   some-exact k e f ih E G (inr p) (inl (y, q)) =
-      let (z, b) = bound-name k f y q G in (
+      let (z, b) = bound-name t wf isFree tells k f y q G in (
         λ h. absurd (F .bound-apart f e y (all 1 f (rw z at G)) (all 1 e (rw z at E)) q p (sym (rw z at h))),
-        λ h. absurd (not-bound (suc k) e p (h ∙ b)),
+        λ h. absurd (not-bound t wf isFree tells (suc k) e p (h ∙ b)),
       )
 
   upto : (n : ℕ) → Upto n

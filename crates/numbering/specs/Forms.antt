@@ -3,24 +3,26 @@
 use mathlib.Core.Path.{_≡_, refl, sym, ap, _∙_}
 use mathlib.Core.Logic.{_≢_}
 use mathlib.Core.Bool.{Bool, true, false}
-use mathlib.Core.List.{List, _∷_}
+use mathlib.Core.List.{List, [], _∷_}
 use Prim.Native.Nat.{ℕ, suc, _<_, _≤_}
-use native.Mathlib.Nat.{min-le-right}
+use native.Mathlib.Nat.{min-le-right, suc-ne-zero}
 use native.Mathlib.Decide.{ℕ-discrete}
 use native.Mathlib.Omega.{arith}
 use lib.ListN.{length, take, length-take}
 use lib.Seq.{length-take-le}
 use Rattle.verdict.specs.Tests.{keep}
+use Rattle.verdict.specs.Lists.{more}
 use Rattle.verdict.specs.Tells.{Tells, tells-as, fails-holds, same-test}
 use Rattle.formula.specs.Table.{Table}
-use Rattle.formula.specs.Shape.{Shape, step, fix, Step, Fix, shape, Operand, Fixpoint}
+use Rattle.formula.specs.Shape.{Shape, leaf, two, step, fix, name, Step, Fix, shape, Operand, Fixpoint, NoName}
 use Rattle.formula.specs.TableLaws.{fix-in}
 use Rattle.conditions.specs.Free.{Free, inside}
 use Rattle.conditions.specs.WellFormed.{WellFormed}
 use Rattle.conditions.specs.WellFormedLaws.{operand-below}
-use Rattle.written.specs.Form.{Form}
-use Rattle.written.specs.Written.{written}
-use Rattle.written.specs.WrittenLaws.{below, written-law}
+use Rattle.written.specs.Form.{Form, bound}
+use Rattle.written.specs.Written.{clause, written}
+use Rattle.written.specs.Binding.{named-bound}
+use Rattle.written.specs.WrittenLaws.{below, spell-at, written-law}
 use Rattle.numbering.specs.FreeNames.{free-by}
 use Rattle.numbering.specs.Only.{only, range, All, only-passes, take-passes, passes-too, only-all, only-only, only-local, only-take}
 use Rattle.numbering.specs.Only.{Distinct, only-distinct, take-distinct, range-distinct, fails-unbound, first-more}
@@ -68,14 +70,41 @@ module _ (t : Table) (wf : WellFormed t) (isFree : ℕ → ℕ → Bool) (tells 
   pub form-written : (e : ℕ) → form t isFree 0 e ≡ written t e
   form-written e = sym (written-law t wf e)
 
-  pub scope-distinct : (k e : ℕ) → Distinct (Scope k e)
+  scope-distinct : (k e : ℕ) → Distinct (Scope k e)
   scope-distinct k e = take-distinct k (Names e) (only-distinct (isFree e) _ (range-distinct 0 (length t)))
 
   pub scope-length : (k e : ℕ) → Fits t isFree k e → length (Scope k e) ≡ k
   scope-length k e F = length-take-le k (Names e) (F .enough)
 
-  pub scope-free : (k e : ℕ) → All (isFree e) (Scope k e)
+  scope-free : (k e : ℕ) → All (isFree e) (Scope k e)
   scope-free k e = take-passes (isFree e) k (Names e) (only-passes (isFree e) _)
+
+  -- a name has one free name, its own: where one is bound it is that
+  pub bound-name : (k e x : ℕ) → shape t e ≡ name x → Fits t isFree (suc k) e → (k ≡ 0) × (form t isFree (suc k) e ≡ bound 0)
+  unfolding clause
+  bound-name k e x q E =
+      go (Scope (suc k) e) refl (scope-free (suc k) e) (scope-distinct (suc k) e) (scope-length (suc k) e E)
+    where
+      own : (y : ℕ) → isFree e y ≡ true → y ≡ x
+      own y h = free-by t q (tells e y .says h)
+
+      go : (l : List ℕ) → Scope (suc k) e ≡ l → All (isFree e) l → Distinct l → length l ≡ suc k → (k ≡ 0) × (form t isFree (suc k) e ≡ bound 0)
+      go [] u a d n = absurd (omega arith)
+      go (y ∷ []) u (more a _) d n =
+          (omega arith, ap (below t e) u ∙ spell-at t wf (written t) e q (y ∷ []) ∙ named-bound (written t) (y ∷ []) x 0 (sym (own y a)))
+      go (y ∷ z ∷ l) u (more a (more b _)) ((n, _), _) m = absurd (n (own y a ∙ sym (own z b)))
+
+  -- and no other form is a bound name
+  pub not-bound : (k f : ℕ) → NoName (shape t f) → form t isFree k f ≡ bound 0 → ⊥
+  unfolding clause
+  not-bound k f n h = go (shape t f) n (sym (spell-at t wf (written t) f refl (Scope k f)) ∙ h)
+    where
+      go : (w : Shape) → NoName w → clause (written t) (below t) f w (Scope k f) ≡ bound 0 → ⊥
+      go (leaf l) n e = suc-ne-zero 0 cc
+      go (two o a b) n e = suc-ne-zero 0 cc
+      go (step m a) n e = suc-ne-zero 0 cc
+      go (fix σ a) n e = suc-ne-zero 0 cc
+      go (name x) n e = n
 
   -- an operand of an entry that is no fixpoint: free names of it are free names of the entry
   module _ (e a : ℕ) (v : Shape) (u : shape t e ≡ v) (o : Operand v a) (n : Fixpoint v → ⊥) (k : ℕ) where

@@ -11,15 +11,15 @@ use Rattle.formula.specs.Shape.{Shape, leaf, two, step, fix, name, never, shape
 use Rattle.formula.specs.Below.{recur}
 use Rattle.written.specs.Form.{Form, atom, pair, modal, bind, bound}
 
--- a name of x below the fixpoints s, innermost first: bound if x is one of them, else free, and f's formula is written for it; i is the
--- number of the first of s
+-- a name of the fixpoint x below the fixpoints s, innermost first and counted from i on: bound if x is one of these; else free, and replaced by
+-- what f has for x
 unfoldable pub named : (ℕ → Form) → ℕ → List ℕ → ℕ → Form
 named f i [] x = f x
 named f i (y ∷ s) x =
     let further = named f (suc i) s x in
     cond (eqb x y) (bound i) further
 
--- an entry e of a shape below the fixpoints s, g giving the formulas of entries below e
+-- an entry e of a shape below the fixpoints s, g writing the entries below it
 unfoldable pub clause : (ℕ → Form) → (ℕ → List ℕ → Form) → ℕ → Shape → List ℕ → Form
 unfolding named
 clause f g e (leaf l) s = atom l
@@ -29,18 +29,18 @@ clause f g e (fix σ a) s = bind σ (g a (e ∷ s))
 clause f g e (name x) s = named f 0 s x
 
 module _ (t : Table) where
-  -- entry e below the fixpoints s, f giving what is written for a free name
+  -- entry e below the fixpoints s, each free name x replaced by f x
   unfoldable pub spell : (ℕ → Form) → ℕ → List ℕ → Form
   unfolding clause recur shape
   spell f = recur (λ s. atom never) (λ g e. clause f g e (shape t e))
 
-  -- d replacements one inside the other
+  -- an entry by itself, with d replacements one inside the other
   unfoldable pub replaced : ℕ → ℕ → Form
   unfolding spell
   replaced zero e = atom never
   replaced (suc d) e = spell (replaced d) e []
 
-  -- a free name's fixpoint lies above the entry, so no more than there are entries stand one inside the other (written-law)
+  -- a free name's fixpoint lies above the entry, so there cannot be more of them one inside the other than entries (written-law)
   unfoldable pub written : ℕ → Form
   unfolding replaced
   written e = replaced (suc (length t)) e

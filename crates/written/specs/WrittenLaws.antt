@@ -97,7 +97,7 @@ module _ (t : Table) (wf : WellFormed t) where
   written-at : (e : ℕ) {v : Shape} → shape t e ≡ v → written t e ≡ clause (written t) (below t) e v []
   written-at e q = written-law e ∙ spell-at (written t) e q []
 
-  pub written-name : (e x : ℕ) → shape t e ≡ name x → written t e ≡ written t x
+  written-name : (e x : ℕ) → shape t e ≡ name x → written t e ≡ written t x
   unfolding clause named
   written-name e x q = written-at e q
 
