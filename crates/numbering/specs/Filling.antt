@@ -7,7 +7,7 @@ use Prim.Native.Nat.{ℕ}
 use Rattle.formula.specs.Table.{Table}
 use Rattle.formula.specs.Shape.{Shape, leaf, two, step, fix, name, shape, NoName}
 use Rattle.numbering.specs.Filled.{Numbers, Alike, Operands, Filled}
-use Rattle.numbering.specs.LevelLaws.{alike-refl, alike-sym, alike-trans, alike-move}
+use Rattle.numbering.specs.LevelLaws.{alike-no-name, alike-refl, alike-sym, alike-trans, alike-move}
 
 -- what stands, and the number of e₀ with k₀ names bound
 abbrev pub With : (ℕ → ℕ → Type 0) → ℕ → ℕ → ℕ → ℕ → Type 0
@@ -18,22 +18,32 @@ module _ (t : Table) (isFree : ℕ → ℕ → Bool) where
   pub record Taken (rep : Numbers) (on : ℕ → ℕ → Type 0) (k₀ e₀ n : ℕ) : Type 0 where
     pub like : ℕ
     pub stands : on k₀ like
-    pub no-name : NoName (shape t like)
     pub level : Alike t isFree rep k₀ e₀ like
     pub number : n ≡ rep k₀ like
 
   -- or, where there is none, one that nothing has
   pub record Fresh (rep : Numbers) (on : ℕ → ℕ → Type 0) (k₀ e₀ n : ℕ) : Type 0 where
-    pub none-like : (f : ℕ) → on k₀ f → NoName (shape t f) → Alike t isFree rep k₀ e₀ f → ⊥
+    pub none-like : (f : ℕ) → on k₀ f → Alike t isFree rep k₀ e₀ f → ⊥
     pub none-has : (f : ℕ) → on k₀ f → n ≡ rep k₀ f → ⊥
 
-  pub operands-as : (on more : ℕ → ℕ → Type 0) → ((k e : ℕ) → on k e → more k e) → (k e : ℕ) (v : Shape)
+  operands-as : (on more : ℕ → ℕ → Type 0) → ((k e : ℕ) → on k e → more k e) → (k e : ℕ) (v : Shape)
       → Operands t isFree on k e v → Operands t isFree more k e v
   operands-as on more f k e (leaf l) A = tt
   operands-as on more f k e (two o a b) (A, B) = (f _ _ A, f _ _ B)
   operands-as on more f k e (step m a) A = f _ _ A
   operands-as on more f k e (fix σ a) A = f _ _ A
   operands-as on more f k e (name x) A = tt
+
+  -- what stands may be told in other words
+  pub filled-as : (rep : Numbers) (on too : ℕ → ℕ → Type 0) → ((k e : ℕ) → on k e → too k e) → ((k e : ℕ) → too k e → on k e)
+      → Filled t isFree rep on → Filled t isFree rep too
+  filled-as rep on too f g F = record {
+    closed = λ k e A. operands-as on too f k e (shape t e) (F .closed k e (g k e A));
+    level = λ k e h A B. F .level k e h (g k e A) (g k h B);
+    free = λ e x A q. let (B, h) = F .free e x (g 0 e A) q in (f 0 x B, h);
+    bounds = λ e h x y A B. F .bounds e h x y (g 1 e A) (g 1 h B);
+    bound-apart = λ e h x A B. F .bound-apart e h x (g 1 e A) (g 1 h B);
+  }
 
   -- new has what stands in rep, and one number more
   module _ (rep new : Numbers) (on : ℕ → ℕ → Type 0) (F : Filled t isFree rep on) (k₀ e₀ : ℕ) (old : (k e : ℕ) → on k e → new k e ≡ rep k e) where
@@ -65,6 +75,9 @@ module _ (t : Table) (isFree : ℕ → ℕ → Bool) where
     closed-with K k e (inl A) = operands-as on (With on k₀ e₀) (λ k e A. inl A) k e (shape t e) (F .closed k e A)
     closed-with K k e (inr (i, j)) = rw (i, j) (operands-as on (With on k₀ e₀) (λ k e A. inl A) k₀ e₀ (shape t e₀) K)
 
+    taken-no-name : {n : ℕ} (T : Taken rep on k₀ e₀ n) → NoName (shape t (T .like))
+    taken-no-name T = alike-no-name t isFree rep k₀ e₀ (T .like) (T .level)
+
     -- the number of an entry that is no name
     abbrev Found : Type 0
     Found = Taken rep on k₀ e₀ (new k₀ e₀) ⊎ Fresh rep on k₀ e₀ (new k₀ e₀)
@@ -73,11 +86,11 @@ module _ (t : Table) (isFree : ℕ → ℕ → Bool) where
       -- against one that stands
       against : Found → (f : ℕ) → on k₀ f → NoName (shape t f) → (new k₀ e₀ ≡ rep k₀ f) ↔ Alike t isFree rep k₀ e₀ f
       against (inl T) f B n =
-          let (says, holds) = F .level k₀ (T .like) f (T .stands) B (T .no-name) n in (
+          let (says, holds) = F .level k₀ (T .like) f (T .stands) B (taken-no-name T) n in (
             λ h. alike-trans t isFree rep k₀ e₀ (T .like) f (T .level) (says (sym (T .number) ∙ h)),
             λ l. T .number ∙ holds (alike-trans t isFree rep k₀ (T .like) e₀ f (alike-sym t isFree rep k₀ e₀ (T .like) (T .level)) l),
           )
-      against (inr N) f B n = (λ h. absurd (N .none-has f B h), λ l. absurd (N .none-like f B n l))
+      against (inr N) f B n = (λ h. absurd (N .none-has f B h), λ l. absurd (N .none-like f B l))
 
       level-new : Found → (f : ℕ) → on k₀ f → NoName (shape t f) → (new k₀ e₀ ≡ new k₀ f) ↔ Alike t isFree new k₀ e₀ f
       level-new c f B n =
@@ -110,7 +123,7 @@ module _ (t : Table) (isFree : ℕ → ℕ → Bool) where
           bounds e f x y (inl A) (inr (i, j)) q r = is-name f y j r
 
           apart : Found → (e x : ℕ) → 1 ≡ k₀ → on 1 e → shape t e ≡ name x → rep 1 e ≡ new 1 e₀ → ⊥
-          apart (inl T) e x i A q h = F .bound-apart e (T .like) x A (rw (← i) at (T .stands)) q (T .no-name) (h ∙ (rw (← i) at (T .number)))
+          apart (inl T) e x i A q h = F .bound-apart e (T .like) x A (rw (← i) at (T .stands)) q (taken-no-name T) (h ∙ (rw (← i) at (T .number)))
           apart (inr N) e x i A q h = N .none-has e (rw i at A) (rw i at (sym h))
 
           bound-apart : (e f x : ℕ) → With on k₀ e₀ 1 e → With on k₀ e₀ 1 f → shape t e ≡ name x → NoName (shape t f) → new 1 e ≡ new 1 f → ⊥

@@ -1,4 +1,4 @@
--- to be alike one level down is an equivalence, and goes by the numbers of the operands
+-- to be alike one level down is an equivalence of entries that are no names, and goes by the numbers of the operands
 use mathlib.Core.Path.{_≡_, refl, sym, subst, _∙_}
 use mathlib.Core.Bool.{Bool}
 use Prim.Native.Nat.{ℕ}
@@ -56,6 +56,16 @@ module _ (t : Table) (isFree : ℕ → ℕ → Bool) where
         let (c2, z2, b2, r2) = rw z at j in
         (c2, z2, b ∙ b2, r ∙ subst (λ (x : Bool). rep (within x k) c ≡ rep (within x k) c2) (sym b) r2)
     level-trans e f g (name x) w u h j = absurd h
+
+    level-no-name : (e f : ℕ) (v w : Shape) → Level t isFree rep k e f v w → NoName w
+    level-no-name e f (leaf l) w h = rw h tt
+    level-no-name e f (two o a b) w (c, d, z, m, n, r, s) = rw z tt
+    level-no-name e f (step m a) w (c, z, r) = rw z tt
+    level-no-name e f (fix σ a) w (c, z, b, r) = rw z tt
+    level-no-name e f (name x) w h = absurd h
+
+    pub alike-no-name : (e f : ℕ) → Alike t isFree rep k e f → NoName (shape t f)
+    alike-no-name e f = level-no-name e f (shape t e) (shape t f)
 
     pub alike-refl : (e : ℕ) → NoName (shape t e) → Alike t isFree rep k e e
     alike-refl e = level-refl e (shape t e)
