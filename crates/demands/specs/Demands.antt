@@ -1,5 +1,5 @@
 -- the demands on the gate over the definitions, each with its proof; `Bytes s`: the numbers of s are below 256
--- what to read to believe them: `Correct`, `Irrefutable` and `Earned` rest on 676 lines of definitions, all contracts of the calls on 1682 lines;
+-- what to read to believe them: `Correct`, `Irrefutable` and `Earned` rest on 678 lines of definitions, all contracts of the calls on 1684 lines;
 -- tests/believed.sh counts and lists them
 use mathlib.Core.Path.{_≡_}
 use mathlib.Core.Logic.{_↔_, _⊎_}
