@@ -3,12 +3,12 @@ use mathlib.Core.Path.{_≡_, refl, ap, _∙_, sym, subst}
 use mathlib.Core.Bool.{Bool, true, false, not, _||_, _&&_, false≢true}
 use Prim.Native.Nat.{ℕ, zero, suc, _+_, _*_, _-_, _/_, _%_, _^_, _<_, min, max}
 use native.Mathlib.Omega.{arith}
-use native.Mathlib.Nat.{div-eq-of-lt}
+use native.Mathlib.Nat.{div-eq-of-lt, pow-suc}
 use native.Mathlib.Decide.{decLt, ℕ-discrete}
-use lib.Dec.{eqb, lit<}
+use lib.Dec.{eqb, ltb, lit<}
 use lib.Pow.{pow-pos, pow-add, pow-lt, shl-shr, shl-exact, shr-shr}
 use lib.Bits.{bitAnd, bitOr, bitXor, differ, or-shr, and-shr, xor-shr, or-step, and-step, xor-step}
-use borrow.Author.Tests.{eq-eqb, ne-eqb}
+use borrow.Author.Tests.{eq-eqb, ne-eqb, lt-ltb, le-ltb}
 
 -- the number of a truth value
 abbrev pub one : Bool → ℕ
@@ -101,6 +101,22 @@ one-bit s k = go (ℕ-discrete k s)
 -- what `1 << s` makes in 64 bits
 pub shift-bit : (s k : ℕ) → s < 64 → bit (1 * 2 ^ s % 2 ^ 64) k ≡ eqb k s
 shift-bit s k h = ap (λ (n : ℕ). bit n k) (shl-exact 1 s 64 (lit< tt) (omega arith)) ∙ one-bit s k
+
+-- the m lowest bits
+pub ones-bit : (m k : ℕ) → bit (2 ^ m - 1) k ≡ ltb k m
+unfolding bit
+ones-bit zero k = no-bit k ∙ sym (le-ltb k 0 (omega arith))
+ones-bit (suc m) zero = eq-eqb ((2 ^ suc m - 1) / 2 ^ 0 % 2) 1 (omega (arith, pow-suc 2 m, pow-pos m)) ∙ sym (lt-ltb 0 (suc m) (omega arith))
+ones-bit (suc m) (suc k) = ap (λ (n : ℕ). eqb (n % 2) 1) halved ∙ ones-bit m k ∙ less (decLt k m)
+  where
+    halved : (2 ^ suc m - 1) / 2 ^ suc k ≡ (2 ^ m - 1) / 2 ^ k
+    halved =
+        let half : (2 ^ suc m - 1) / 2 ^ 1 ≡ 2 ^ m - 1 = omega (arith, pow-suc 2 m, pow-pos m) in
+        ap (λ (n : ℕ). (2 ^ suc m - 1) / 2 ^ n) (omega arith) ∙ sym (shr-shr (2 ^ suc m - 1) 1 k) ∙ ap (λ (n : ℕ). n / 2 ^ k) half
+
+    less : Dec (k < m) → ltb k m ≡ ltb (suc k) (suc m)
+    less (yes h) = lt-ltb k m h ∙ sym (lt-ltb (suc k) (suc m) (omega arith))
+    less (no h) = le-ltb k m (omega arith) ∙ sym (le-ltb (suc k) (suc m) (omega arith))
 
 -- a word that is not 0 has a bit within its width
 pub some-bit : (n w : ℕ) → w < 2 ^ n → (w ≡ 0 → ⊥) → (k : ℕ) × (k < n) × (bit w k ≡ true)

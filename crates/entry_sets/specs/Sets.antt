@@ -2,13 +2,10 @@
 use mathlib.Core.Path.{_≡_, refl, ap, _∙_, sym}
 use mathlib.Core.List.{List}
 use mathlib.Core.Bool.{Bool, true, false, not, _||_, _&&_}
-use Prim.Native.Nat.{ℕ, zero, suc, _+_, _*_, _/_, _%_, _^_, _<_, _≤_}
-use native.Mathlib.Nat.{pow-suc}
+use Prim.Native.Nat.{ℕ, _+_, _*_, _/_, _%_, _<_, _≤_}
 use native.Mathlib.Decide.{decLt, ℕ-discrete}
 use native.Mathlib.Omega.{arith}
 use lib.Dec.{eqb}
-use lib.Pow.{shr-shr}
-use lib.Count.{trailingZeros, under, trailing-le}
 use lib.Bits.{bitOr}
 use lib.ListN.{length, getD, set, length-set}
 use borrow.Author.Tests.{eq-eqb, ne-eqb}
@@ -32,33 +29,6 @@ pub by-words : (w v : List ℕ) (f : ℕ → ℕ) → Filled f w 4 v → length 
     → (c : ℕ) → c < 256 → inSet v c ≡ p c
 unfolding inSet
 by-words w v f F l p h c m = ap (λ (x : ℕ). bit x (c % 64)) (F .below (c / 64) (omega arith)) ∙ h c m
-
-half : (q : ℕ) (t : ℕ) → q / 2 ^ suc t ≡ q / 2 / 2 ^ t
-half q t = ap (λ (m : ℕ). q / 2 ^ m) (omega arith) ∙ sym (shr-shr q 1 t)
-
--- the trailing zeros of a number lead to a bit
-trailing-digit : (d q : ℕ) → 0 < q → q < 2 ^ d → q / 2 ^ trailingZeros d q % 2 ≡ 1
-unfolding trailingZeros
-trailing-digit zero q h k = absurd (omega arith)
-trailing-digit (suc d) q h k = go (q % 2) refl (λ (e : q % 2 ≡ 0). trailing-digit d (q / 2) (omega arith) (omega (arith, pow-suc 2 d)))
-  where
-    go : (r : ℕ) → q % 2 ≡ r → (q % 2 ≡ 0 → q / 2 / 2 ^ trailingZeros d (q / 2) % 2 ≡ 1) → q / 2 ^ under r (trailingZeros d (q / 2)) % 2 ≡ 1
-    go zero e ih = ap (λ (x : ℕ). x % 2) (half q (trailingZeros d (q / 2))) ∙ ih e
-    go (suc r) e ih = omega arith
-
-pub trailing-bit : (q : ℕ) → (q ≡ 0 → ⊥) → q < 2 ^ 64 → bit q (trailingZeros 64 q) ≡ true
-unfolding bit
-trailing-bit q n h = eq-eqb _ 1 (trailing-digit 64 q (omega (arith, n)) h)
-
-pub trailing-small : (q : ℕ) → (q ≡ 0 → ⊥) → q < 2 ^ 64 → trailingZeros 64 q < 64
-trailing-small q n h = go (decLt (trailingZeros 64 q) 64)
-  where
-    go : Dec (trailingZeros 64 q < 64) → trailingZeros 64 q < 64
-    go (yes l) = l
-    go (no l) =
-        let t : trailingZeros 64 q ≡ 64 = omega (arith, trailing-le 64 q) in
-        let z : q / 2 ^ 64 % 2 ≡ 1 = rw t at (trailing-digit 64 q (omega (arith, n)) h) in
-        absurd (omega (arith, z, h))
 
 -- a number of the set, or one past all if it has none
 pub record Lowest (w : List ℕ) (r : ℕ) : Type 0 where

@@ -1,12 +1,11 @@
 // Sets of entries, by number: number k is bit k % 64 of word k / 64.
 ghost use mathlib.Core.Path.{_≡_};
-ghost use mathlib.Core.Bool.{true};
 ghost use Prim.Native.Nat.{_*_, _%_, _<_};
 ghost use lib.ListN.{length};
-ghost use Rattle.bits.specs.Bits.{bit};
 ghost use Rattle.bits.specs.WordLaws.{withoutBit};
 ghost use Rattle.bits.specs.WordSet.{inSet};
 ghost use Rattle.entry_sets.specs.Sets.{Inserted, Removed, Joined, Lowest};
+use bits::lowest_bit;
 
 pub fn has(set: &[u64; 4], k: usize) -> bool
     requires { ⌜ k < 256 ⌝ }
@@ -61,29 +60,22 @@ pub fn join(set: &mut [u64; 4], more: &[u64; 4])
     }
 }
 
-fn first(w: u64) -> usize
-    requires { ⌜ (w ≡ 0 → ⊥) ⌝ }
-    ensures { λ r. ⌜ (r < 64) × (bit w r ≡ true) ⌝ }
-{
-    u64::trailing_zeros(w) as usize
-}
-
 // The lowest number in a set, 256 if it has none.
 pub fn lowest(set: &[u64; 4]) -> usize
     requires { ⌜ length (now set) ≡ 4 ⌝ }
     ensures { λ r. ⌜ Lowest (now (set .entry)) r ⌝ }
 {
     if set[0] != 0 {
-        return first(set[0]);
+        return lowest_bit(set[0]);
     }
     if set[1] != 0 {
-        return 64 + first(set[1]);
+        return 64 + lowest_bit(set[1]);
     }
     if set[2] != 0 {
-        return 128 + first(set[2]);
+        return 128 + lowest_bit(set[2]);
     }
     if set[3] != 0 {
-        return 192 + first(set[3]);
+        return 192 + lowest_bit(set[3]);
     }
     256
 }

@@ -2,3 +2,4 @@
 pub mod NameSets
 pub mod RowWords
 pub mod MarksBelow
+pub mod Ordered

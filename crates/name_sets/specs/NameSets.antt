@@ -32,7 +32,7 @@ Marks n g = (x : ℕ) → x < 256 → holds n x ≡ g x
 abbrev pub Shared : Names → Names → Type 0
 Shared n m = (x : ℕ) × (x < 256) × (holds n x ≡ true) × (holds m x ≡ true)
 
-by-word : (P : ℕ → Type 0) → P 0 → P 1 → P 2 → P 3 → (i : ℕ) → i < 4 → P i
+pub by-word : (P : ℕ → Type 0) → P 0 → P 1 → P 2 → P 3 → (i : ℕ) → i < 4 → P i
 by-word P a b c d zero h = a
 by-word P a b c d (suc zero) h = b
 by-word P a b c d (suc (suc zero)) h = c
