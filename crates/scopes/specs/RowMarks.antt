@@ -6,8 +6,7 @@ use mathlib.Core.Bool.{Bool, true, false, not, _||_, _&&_, true≢false}
 use Prim.Native.Nat.{ℕ, _+_, _*_, _<_, _≤_}
 use native.Mathlib.Omega.{arith}
 use lib.Dec.{eqb, leb}
-use lib.ListN.{length, getD, set}
-use lib.Seq.{getD-set-same, getD-set-other}
+use lib.ListN.{length}
 use borrow.Author.Count.{below-more}
 use borrow.Author.Tests.{leb-false}
 use Rattle.verdict.specs.Tells.{tells-self, same-test, and-tells, or-tells, not-tells, eqb-tells}
@@ -115,15 +114,3 @@ module _ (f : ℕ → Row) (rows : ℕ → Names) (e : ℕ) (below : RowsBelow r
 pub words-more : (f : ℕ → Row) (l : List ℕ) (e : ℕ) → RowsBelow (rowOf l) f e → (r : Names) → 4 * e + 3 < length l → Marks r (has (f e))
     → RowsBelow (rowOf (withRow l e r)) f (e + 1)
 words-more f l e below r h m = rows-more f (rowOf l) e below (rowOf (withRow l e r)) (row-other l e r) (rw (row-same l e r h) m)
-
--- in a list of sets
-abbrev pub noNames : Names
-noNames = record { 0 = 0; 1 = 0; 2 = 0; 3 = 0 }
-
-abbrev pub setOf : List Names → ℕ → Names
-setOf l e = getD l e noNames
-
-pub sets-more : (f : ℕ → Row) (l : List Names) (e : ℕ) → RowsBelow (setOf l) f e → (r : Names) → e < length l → Marks r (has (f e))
-    → RowsBelow (setOf (set l e r)) f (e + 1)
-sets-more f l e below r h m =
-    rows-more f (setOf l) e below (setOf (set l e r)) (λ d. getD-set-other l e d r noNames) (rw (getD-set-same l e r noNames h) m)

@@ -11,7 +11,8 @@ ghost use Rattle.conditions.specs.Judge.{judgeTable};
 ghost use Rattle.conditions.specs.TestLaws.{freeSet};
 ghost use Rattle.operands.specs.OperandBounds.{outOf};
 ghost use Rattle.name_sets.specs.NameSets.{Marks};
-ghost use Rattle.scopes.specs.RowMarks.{RowsBelow, setOf};
+ghost use Rattle.name_sets.specs.RowWords.{rowOf};
+ghost use Rattle.scopes.specs.RowMarks.{RowsBelow};
 ghost use Rattle.scopes.specs.JudgeSteps.{namesFrom};
 use crate::entry::fault;
 use crate::entry::free_names;
@@ -134,29 +135,20 @@ pub fn judge(kinds: &[u8; 256], a: &[u16; 256], b: &[u16; 256], count: usize) ->
     judge_names(kinds, a, b, count)
 }
 
-// In a function of its own, so that a caller's goals do not spell 256 sets out.
-fn no_rows() -> [Names; 256]
-    ensures { λ r. ⌜ length r ≡ 256 ⌝ }
-{
-    [Names(0, 0, 0, 0); 256]
-}
-
-// The free names of each entry, where none earns 20.
-pub fn free_rows(kinds: &[u8; 256], a: &[u16; 256], b: &[u16; 256], count: usize) -> [Names; 256]
-    requires { ⌜ count ≤ 256 ⌝ }
+// The free names of each entry, where none earns 20, into lent rows; what stood in them does not matter.
+pub fn fill_free_rows(kinds: &[u8; 256], a: &[u16; 256], b: &[u16; 256], count: usize, rows: &mut [u64])
+    requires { ⌜ (count ≤ 256) × (4 * count ≤ length (now rows)) ⌝ }
     requires { ⌜ ((w : ℕ) → w < count → outOf (tableOf (now kinds) (now a) (now b) count) w ≡ false) ⌝ }
-    ensures { λ r. ⌜ (length r ≡ 256) × RowsBelow (setOf r) (freeSet (tableOf (now (kinds .entry)) (now (a .entry)) (now (b .entry)) count)) count ⌝ }
+    ensures { λ _. ⌜ RowsBelow (rowOf (now (rows .exit))) (freeSet (tableOf (now (kinds .entry)) (now (a .entry)) (now (b .entry)) count)) count ⌝ }
 {
-    let mut rows = no_rows();
     let mut e: usize = 0;
     while e < count {
-        let kind = kinds[e];
         let at = places_of(a, b, e);
         let first = at.first;
         let left = at.left;
         let right = at.right;
-        rows[e] = free_names(kind, first, e, rows[left], rows[right]);
+        let free = free_names(kinds[e], first, e, row(rows, left), row(rows, right));
+        put_row(rows, e, free);
         e += 1;
     }
-    rows
 }
