@@ -55,7 +55,7 @@ module _ (t : Table) (e : ℕ) where
   name-shape q = rw q refl
 
 -- the number of a shape's kind, and its field A, or d where the kind has none
-kindOf : Shape → ℕ
+abbrev pub kindOf : Shape → ℕ
 kindOf (leaf never) = Kind.FALSE
 kindOf (leaf always) = Kind.TRUE
 kindOf (leaf (letter p)) = Kind.LETTER
@@ -83,7 +83,7 @@ abbrev Tells-back : Shape → ℕ → ℕ → Type 0
 Tells-back v k a = ((kindOf v ≡ Kind.FALSE) ⊎ (k ≡ kindOf v)) × (fieldA v a ≡ a)
 
 shape-back : (k a b : ℕ) → Tells-back (shapeOf (record { kind = k; a = a; b = b })) k a
-unfolding shapeOf kindOf fieldA
+unfolding shapeOf fieldA
 shape-back zero a b = (inl refl, refl)
 shape-back (suc zero) a b = (inr refl, refl)
 shape-back (suc (suc zero)) a b = (inr refl, refl)
@@ -112,23 +112,21 @@ module _ (t : Table) (e : ℕ) where
   field-of q = sym (shape-back (entry t e .kind) (entry t e .a) (entry t e .b) .1) ∙ ap (λ (v : Shape). fieldA v (entry t e .a)) q
 
   pub true-kind : shape t e ≡ leaf always → kind t e ≡ Kind.TRUE
-  unfolding kindOf
   true-kind q = kind-of q (λ z. omega arith)
 
   pub letter-kind : {p : ℕ} → shape t e ≡ leaf (letter p) → (kind t e ≡ Kind.LETTER) × (entry t e .a ≡ p)
-  unfolding kindOf fieldA
+  unfolding fieldA
   letter-kind q = (kind-of q (λ z. omega arith), field-of q)
 
   pub negated-kind : {p : ℕ} → shape t e ≡ leaf (negated p) → (kind t e ≡ Kind.NEGATED) × (entry t e .a ≡ p)
-  unfolding kindOf fieldA
+  unfolding fieldA
   negated-kind q = (kind-of q (λ z. omega arith), field-of q)
 
   pub box-kind : {a : ℕ} → shape t e ≡ step box a → (kind t e ≡ Kind.BOX) × (entry t e .a ≡ a)
-  unfolding kindOf fieldA
+  unfolding fieldA
   box-kind q = (kind-of q (λ z. omega arith), field-of q)
 
   pub name-kind : {x : ℕ} → shape t e ≡ name x → kind t e ≡ Kind.NAME
-  unfolding kindOf
   name-kind q = kind-of q (λ z. omega arith)
 
 -- the operand's fixpoint if it is a name

@@ -1,16 +1,22 @@
--- sets of names by the order of their numbers: the lowest, and the numbers below one
+-- sets of names by the order of their numbers: as marks by place, the lowest, and the numbers below one
 use mathlib.Core.Path.{_≡_, refl, ap, subst, _∙_, sym}
 use mathlib.Core.Bool.{Bool, true, false}
+use mathlib.Core.List.{List}
 use Prim.Native.Nat.{ℕ, _+_, _*_, _/_, _%_, _<_, _≤_}
 use native.Mathlib.Decide.{decLt}
 use native.Mathlib.Omega.{arith}
 use lib.Dec.{eqb, ltb}
+use lib.ListN.{getD}
 use borrow.Author.Tests.{eq-eqb, eqb-true}
 use Rattle.verdict.specs.Tells.{Tells, same-test}
 use Rattle.bits.specs.Bits.{bit, no-bit}
 use Rattle.bits.specs.LowestBit.{LowestBit}
 use Rattle.name_sets.specs.NameSets.{word, holds, Marks, Shared, by-word}
 use Rattle.name_sets.specs.declared.Names.{Names}
+
+-- number i is in the set just where place i of the list is marked
+abbrev pub Bits : Names → List Bool → Type 0
+Bits n l = (i : ℕ) → i < 256 → holds n i ≡ getD l i false
 
 -- the lowest number of a set, 256 where it has none
 pub record Lowest (n : Names) (r : ℕ) : Type 0 where

@@ -115,7 +115,12 @@ fn low_word(k: usize, from: usize) -> u64
 pub fn below(k: usize) -> Names
     ensures { λ r. ⌜ Marks r (λ n. ltb n k) ⌝ }
 {
-    Names(low_word(k, 0), low_word(k, 64), low_word(k, 128), low_word(k, 192))
+    Names(
+        low_word(k, 0),
+        low_word(k, 64),
+        low_word(k, 128),
+        low_word(k, 192),
+    )
 }
 
 // The names in row e.

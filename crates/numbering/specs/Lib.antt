@@ -6,6 +6,7 @@ pub mod Renaming
 pub mod Narrowing
 -- an entry with some of its names bound
 pub mod Forms
+pub mod Count
 -- numbers for these, how a table of them is filled, and that a filled one tells formulas apart
 pub mod Filled
 pub mod LevelLaws

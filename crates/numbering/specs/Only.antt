@@ -2,7 +2,7 @@
 use mathlib.Core.Path.{_≡_, refl, sym, ap, ap₂, _∙_}
 use mathlib.Core.Logic.{_≢_}
 use mathlib.Core.Bool.{Bool, true, false, true≢false, false≢true}
-use mathlib.Core.List.{List, [], _∷_}
+use mathlib.Core.List.{List, [], _∷_, _++_}
 use Prim.Native.Nat.{ℕ, zero, suc, _+_, _<_, _≤_}
 use native.Mathlib.Decide.{ℕ-discrete}
 use native.Mathlib.Omega.{arith}
@@ -57,6 +57,24 @@ pub only-all : (q : ℕ → Bool) (l : List ℕ) → All q l → only q l ≡ l
 unfolding only
 only-all q [] h = refl
 only-all q (y ∷ l) (more e h) = rw e (ap (λ (m : List ℕ). y ∷ m) (only-all q l h))
+
+-- one mark for each number
+
+pub length-marks : (q : ℕ → Bool) (l : List ℕ) → length (marks q l) ≡ length l
+unfolding marks
+length-marks q [] = refl
+length-marks q (y ∷ l) = ap suc (length-marks q l)
+
+pub append-marks : (q : ℕ → Bool) (l m : List ℕ) → marks q (l ++ m) ≡ marks q l ++ marks q m
+unfolding marks
+append-marks q [] m = refl
+append-marks q (y ∷ l) m = ap (λ (b : List Bool). q y ∷ b) (append-marks q l m)
+
+pub take-marks : (q : ℕ → Bool) (k : ℕ) (l : List ℕ) → marks q (take k l) ≡ take k (marks q l)
+unfolding marks
+take-marks q zero l = refl
+take-marks q (suc k) [] = refl
+take-marks q (suc k) (y ∷ l) = ap (λ (b : List Bool). q y ∷ b) (take-marks q k l)
 
 pub all-marks : (q r : ℕ → Bool) (l m : List ℕ) → All q l → All r m → length l ≡ length m → marks q l ≡ marks r m
 unfolding marks

@@ -136,7 +136,13 @@ pub fn judge(kinds: &[u8; 256], a: &[u16; 256], b: &[u16; 256], count: usize) ->
 }
 
 // The free names of each entry, where none earns 20, into lent rows; what stood in them does not matter.
-pub fn fill_free_rows(kinds: &[u8; 256], a: &[u16; 256], b: &[u16; 256], count: usize, rows: &mut [u64])
+pub fn fill_free_rows(
+    kinds: &[u8; 256],
+    a: &[u16; 256],
+    b: &[u16; 256],
+    count: usize,
+    rows: &mut [u64],
+)
     requires { ⌜ (count ≤ 256) × (4 * count ≤ length (now rows)) ⌝ }
     requires { ⌜ ((w : ℕ) → w < count → outOf (tableOf (now kinds) (now a) (now b) count) w ≡ false) ⌝ }
     ensures { λ _. ⌜ RowsBelow (rowOf (now (rows .exit))) (freeSet (tableOf (now (kinds .entry)) (now (a .entry)) (now (b .entry)) count)) count ⌝ }

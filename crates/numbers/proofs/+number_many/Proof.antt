@@ -1,0 +1,81 @@
+-- There is room for all 256 entries; asked again, it calls itself, unasked.
+use mathlib.Core.Path.{refl}
+use Prim.Native.Nat.{ℕ, _<_}
+use native.Mathlib.Omega.{arith}
+use borrow.Fn.Kinds.{In}
+use borrow.Fn.PlainCycle.{Measures, is, falls, and}
+use Rattle.bits.specs.IfSet.{ifSet}
+use Rattle.numbers.specs.Numbered.{room-many}
+use Rattle.numbers.proofs.number_in.Reads as number-in
+use Rattle.numbers.proofs.number_many.Reads as number-many
+use Rattle.numbers.proofs.number_many.Kinds as kinds
+use Rattle.numbers.proofs.+number_many.Lts-number_many as lts
+use Rattle.numbers.proofs.+number_many.{statement}
+use Rattle.numbers.proofs.+number_many.Tie.{close}
+
+abbrev μ-number-many : Measures 4 kinds.ps ℕ
+μ-number-many κs a = ifSet (a .1 .1 .1 .1 .1 .0) 1
+
+module _ (t : ℕ) where
+  abbrev here : In 4 kinds.ps
+  here = and 4 kinds.ps (is 4 kinds.ps μ-number-many t) number-many.Pre
+
+  abbrev below : In 4 kinds.ps
+  below = and 4 kinds.ps (falls 4 kinds.ps _<_ μ-number-many t) number-many.Pre
+
+  abbrev claims : lts.Claims
+  claims = (below, number-many.Post, number-in.Asked, number-in.Learnt)
+
+  number-many-requires : lts.Need-number-many-requires claims here number-many.Post
+  number-many-requires c κs =
+      let given = c .before .before .pre in
+      (omega (arith, rw (c .before .if1 .taken) at (given .0)), given .1)
+
+  number-many-requires-2 : lts.Need-number-many-requires-2 claims here number-many.Post
+  number-many-requires-2 c κs =
+      let asked = c .before .before .before in
+      let given = asked .before .pre in
+      (omega (arith, rw (asked .if1 .taken) at (given .0)), (given .1 .0, c .before .number-many .ensures .1))
+
+  returns : lts.Need-returns claims here number-many.Post
+  returns c = c .number-many2 .ensures
+
+  free-room : lts.Need-slice-aggregate-number-in claims here number-many.Post
+  free-room c = refl
+
+  first-room : lts.Need-slice-aggregate-number-in-2 claims here number-many.Post
+  first-room c = refl
+
+  second-room : lts.Need-slice-aggregate-number-in-3 claims here number-many.Post
+  second-room c = refl
+
+  number-room : lts.Need-slice-aggregate-number-in-4 claims here number-many.Post
+  number-room c = refl
+
+  mark-room : lts.Need-slice-aggregate-number-in-5 claims here number-many.Post
+  mark-room c = refl
+
+  number-in-requires : lts.Need-number-in-requires claims here number-many.Post
+  number-in-requires c κs =
+      let given = c .before .before .before .before .before .before .before .pre .1 in
+      (given .0, room-many (given .0 .small) refl refl refl refl refl, given .1)
+
+  returns-2 : lts.Need-returns-2 claims here number-many.Post
+  returns-2 c = c .before .before .before .before .before .number-in .ensures
+
+pub +number-many-spec : {M : Type 1} → statement M
++number-many-spec =
+    close μ-number-many λ t. lts.spec
+    (claims t)
+    (here t)
+    number-many.Post
+    (number-many-requires t)
+    (number-many-requires-2 t)
+    (returns t)
+    (free-room t)
+    (first-room t)
+    (second-room t)
+    (number-room t)
+    (mark-room t)
+    (number-in-requires t)
+    (returns-2 t)

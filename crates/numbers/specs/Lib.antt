@@ -1,0 +1,4 @@
+pub mod Numbered
+pub mod First
+pub mod Begun
+pub mod Ended

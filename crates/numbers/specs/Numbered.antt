@@ -1,0 +1,42 @@
+-- What the numbering asks of a table in plain numbers, and what it says.
+use mathlib.Core.Path.{_≡_}
+use mathlib.Core.Bool.{false}
+use mathlib.Core.List.{List}
+use Prim.Native.Nat.{ℕ, _*_, _<_, _≤_}
+use native.Mathlib.Omega.{arith}
+use lib.ListN.{length, getD}
+use Rattle.formula.specs.Kind
+use Rattle.formula.specs.Table.{Table}
+use Rattle.formula.specs.Codes.{Formula}
+use Rattle.formula.specs.Plain.{tableOf}
+use Rattle.conditions.specs.WellFormed.{WellFormed}
+use Rattle.operands.specs.OperandBounds.{outOf}
+use Rattle.written.specs.Canon.{canon}
+
+-- a table of known kinds that earns none of 20 to 23
+pub record Sound (ks xs ys : List ℕ) (n : ℕ) : Type 0 where
+  pub small : n ≤ 256
+  pub known : (e : ℕ) → e < n → getD ks e 0 ≤ Kind.NAME
+  pub placed : (w : ℕ) → w < n → outOf (tableOf ks xs ys n) w ≡ false
+  pub wf : WellFormed (tableOf ks xs ys n)
+
+-- room for n entries
+pub record RoomFor (n : ℕ) (fs us vs rs ss : List ℕ) : Type 0 where
+  pub free : 4 * n ≤ length fs
+  pub firsts : 4 * n ≤ length us
+  pub seconds : 4 * n ≤ length vs
+  pub cells : 256 * n ≤ length rs
+  pub marks : 8 * n ≤ length ss
+
+-- as much as 256 entries need, and as much as 32
+pub room-many : {n : ℕ} {fs us vs rs ss : List ℕ} → n ≤ 256 → length fs ≡ 1024 → length us ≡ 1024 → length vs ≡ 1024 → length rs ≡ 65536
+    → length ss ≡ 2048 → RoomFor n fs us vs rs ss
+room-many h f u v r s = record { free = omega arith; firsts = omega arith; seconds = omega arith; cells = omega arith; marks = omega arith }
+
+pub room-few : {n : ℕ} {fs us vs rs ss : List ℕ} → n ≤ 32 → length fs ≡ 128 → length us ≡ 128 → length vs ≡ 128 → length rs ≡ 8192
+    → length ss ≡ 256 → RoomFor n fs us vs rs ss
+room-few h f u v r s = record { free = omega arith; firsts = omega arith; seconds = omega arith; cells = omega arith; marks = omega arith }
+
+-- each entry that is no name has the number of its formula
+abbrev pub Numbered : Table → List ℕ → Type 0
+Numbered t cs = (e : ℕ) → Formula t e → getD cs e 0 ≡ canon t e

@@ -1,0 +1,4 @@
+pub mod Kinds
+pub mod Agree
+pub mod Fit
+pub mod LevelTest

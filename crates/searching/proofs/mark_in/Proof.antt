@@ -1,0 +1,47 @@
+use mathlib.Core.Path.{sym}
+use native.Mathlib.Omega.{arith}
+use Rattle.searching.specs.Search.{mark-constant, mark-letter, mark-one, mark-two}
+use borrow.Author.Needs.{needs}
+use Rattle.searching.proofs.mark_in.Statement.{statement}
+use Rattle.searching.proofs.mark_in.Tie as tie
+
+returns : tie.Need-returns
+returns c = (sym (mark-constant _ _ _ _ (c .if1 .taken)), omega (arith, c .if1 .taken))
+
+as-index-requires : tie.Need-as-index-requires
+as-index-requires c κs = search needs
+
+add-result : tie.Need-add-result
+add-result c = search needs
+
+returns-2 : tie.Need-returns-2
+returns-2 c = (rw (c .as-index .ensures .0) (sym (mark-letter _ _ _ _ (c .before .before .if1 .left) (c .before .if2 .taken))), omega arith)
+
+add-left : tie.Need-add-left
+add-left c = search needs
+
+returns-3 : tie.Need-returns-3
+returns-3 c = (sym (mark-one _ _ _ _ (c .before .before .if1 .left) (c .before .if2 .left) (c .if3 .taken)), omega arith)
+
+mul-result : tie.Need-mul-result
+mul-result c = search needs
+
+add-result-2 : tie.Need-add-result-2
+add-result-2 c = search needs
+
+returns-4 : tie.Need-returns-4
+returns-4 c = (sym (mark-two _ _ _ _ (c .before .before .if1 .left) (c .before .if2 .left) (c .if3 .left)), omega arith)
+
+pub mark-in-spec : {M : Type 1} → statement M
+mark-in-spec =
+    tie.close
+    (tie.spec
+    returns
+    as-index-requires
+    add-result
+    returns-2
+    add-left
+    returns-3
+    mul-result
+    add-result-2
+    returns-4)

@@ -1,0 +1,249 @@
+// The number for an entry with some names bound: that of an entry that is the same form, or a fresh one. Entries that are the same form have
+// the same mark, one of 512 for each number of bound names, so where that mark does not stand yet there is none, and nothing is searched.
+ghost use mathlib.Core.Path.{_≡_};
+ghost use mathlib.Core.Bool.{_||_};
+ghost use Prim.Native.Nat.{ℕ, _+_, _*_, _<_, _≤_};
+ghost use lib.Dec.{eqb};
+ghost use lib.ListN.{length};
+ghost use Rattle.verdict.specs.Tells.{Tells};
+ghost use Rattle.bits.specs.WordSet.{inSet};
+ghost use Rattle.one_level.specs.Fit.{cell};
+ghost use Rattle.searching.specs.Search.{Room, Candidate, Found, Searched, NameNumber, markIn, markOf, Chosen};
+use formula::Kind;
+use one_level::as_index;
+use one_level::at;
+use one_level::fit;
+use one_level::number;
+
+// Whether f stands with k names bound, which it does from bound[f] to totals[f], and is the same form as e.
+fn candidate(
+    kinds: &[u8; 256],
+    a: &[u16; 256],
+    b: &[u16; 256],
+    count: usize,
+    totals: &[u16; 256],
+    firsts: &[u64],
+    seconds: &[u64],
+    bound: &[u16; 256],
+    numbers: &[u8],
+    k: usize,
+    i: usize,
+    j: usize,
+    e: usize,
+    f: usize,
+) -> bool
+    requires { ⌜ (k < 256) × (i < 65536) × (j < 65536) × (e < count) × (f < count) ⌝ }
+    requires { ⌜ Room count (now totals) (now firsts) (now seconds) (now bound) (now numbers) ⌝ }
+    ensures { λ r. ⌜ Tells r (Candidate (now (kinds .entry)) (now (a .entry)) (now (b .entry)) (now (totals .entry))
+        (now (firsts .entry)) (now (seconds .entry)) (now (bound .entry)) (now (numbers .entry)) k i j e f) ⌝ }
+{
+    if k < as_index(bound[f]) {
+        return false;
+    }
+    if as_index(totals[f]) < k {
+        return false;
+    }
+    fit(kinds, a, b, totals, firsts, seconds, numbers, k, i, j, e, f)
+}
+
+// The first such entry, or count.
+fn find(
+    kinds: &[u8; 256],
+    a: &[u16; 256],
+    b: &[u16; 256],
+    count: usize,
+    totals: &[u16; 256],
+    firsts: &[u64],
+    seconds: &[u64],
+    bound: &[u16; 256],
+    numbers: &[u8],
+    k: usize,
+    i: usize,
+    j: usize,
+    e: usize,
+) -> usize
+    requires { ⌜ (k < 256) × (i < 65536) × (j < 65536) × (e < count) ⌝ }
+    requires { ⌜ Room count (now totals) (now firsts) (now seconds) (now bound) (now numbers) ⌝ }
+    ensures { λ r. ⌜ Found count (Candidate (now (kinds .entry)) (now (a .entry)) (now (b .entry)) (now (totals .entry))
+        (now (firsts .entry)) (now (seconds .entry)) (now (bound .entry)) (now (numbers .entry)) k i j e) r ⌝ }
+{
+    let mut f: usize = 0;
+    while f < count {
+        if candidate(
+            kinds,
+            a,
+            b,
+            count,
+            totals,
+            firsts,
+            seconds,
+            bound,
+            numbers,
+            k,
+            i,
+            j,
+            e,
+            f,
+        ) {
+            return f;
+        }
+        f += 1;
+    }
+    count
+}
+
+// The number of the first such entry, or e, which is a fresh one.
+fn search(
+    kinds: &[u8; 256],
+    a: &[u16; 256],
+    b: &[u16; 256],
+    count: usize,
+    totals: &[u16; 256],
+    firsts: &[u64],
+    seconds: &[u64],
+    bound: &[u16; 256],
+    numbers: &[u8],
+    k: usize,
+    i: usize,
+    j: usize,
+    e: usize,
+) -> u8
+    requires { ⌜ (k < count) × (i < 65536) × (j < 65536) × (e < count) ⌝ }
+    requires { ⌜ Room count (now totals) (now firsts) (now seconds) (now bound) (now numbers) ⌝ }
+    ensures { λ r. ⌜ Searched count (Candidate (now (kinds .entry)) (now (a .entry)) (now (b .entry)) (now (totals .entry))
+        (now (firsts .entry)) (now (seconds .entry)) (now (bound .entry)) (now (numbers .entry)) k i j e)
+        (cell (now (numbers .entry)) k) e r ⌝ }
+{
+    let f = find(
+        kinds,
+        a,
+        b,
+        count,
+        totals,
+        firsts,
+        seconds,
+        bound,
+        numbers,
+        k,
+        i,
+        j,
+        e,
+    );
+    if f < count {
+        return numbers[256 * k + f];
+    }
+    e as u8
+}
+
+// The number of a name of fixpoint x: bound, 255; written out, that of its fixpoint.
+fn name_number(numbers: &[u8], k: usize, x: u16) -> u8
+    ensures { λ r. ⌜ NameNumber (now (numbers .entry)) k x r ⌝ }
+{
+    if k == 0 {
+        return number(numbers, 0, x);
+    }
+    255
+}
+
+// The mark of an entry of the kind and first field x, whose operands have the numbers. It goes by what `fit` compares, and by no more.
+fn mark_in(kind: u8, x: u16, first: u8, second: u8) -> usize
+    ensures { λ r. ⌜ (r ≡ markIn kind x first second) × (r < 512) ⌝ }
+{
+    if kind < Kind::LETTER {
+        return kind as usize;
+    }
+    if kind < Kind::OR {
+        return (kind as usize + as_index(x)) % 512;
+    }
+    let left = kind as usize + first as usize;
+    if Kind::AND < kind {
+        return left % 512;
+    }
+    (left + 37 * second as usize) % 512
+}
+
+// The mark of e, i names bound in its first operand and j in its second.
+fn mark_of(
+    kinds: &[u8; 256],
+    a: &[u16; 256],
+    b: &[u16; 256],
+    numbers: &[u8],
+    i: usize,
+    j: usize,
+    e: usize,
+) -> usize
+    requires { ⌜ (i < 65536) × (j < 65536) × (e < 256) ⌝ }
+    ensures { λ r. ⌜ (r ≡ markOf (now (kinds .entry)) (now (a .entry)) (now (b .entry)) (now (numbers .entry)) i j e) × (r < 512) ⌝ }
+{
+    mark_in(
+        kinds[e],
+        a[e],
+        number(numbers, i, a[e]),
+        number(numbers, j, b[e]),
+    )
+}
+
+// Whether mark x stands.
+fn marked(marks: &[u64], x: usize) -> bool
+    requires { ⌜ x < 64 * length (now marks) ⌝ }
+    ensures { λ r. ⌜ r ≡ inSet (now (marks .entry)) x ⌝ }
+{
+    (marks[x / 64] >> (x % 64)) & 1 == 1
+}
+
+// Mark x stands from now on.
+fn mark(marks: &mut [u64], x: usize)
+    requires { ⌜ x < 64 * length (now marks) ⌝ }
+    ensures { λ _. ⌜ ((d : ℕ) → inSet (now (marks .exit)) d ≡ (inSet (now (marks .entry)) d || eqb d x)) ⌝ }
+{
+    let i = x / 64;
+    marks[i] = marks[i] | (1u64 << (x % 64));
+}
+
+// The number for entry e with k names bound, where its operands' numbers stand. Its mark stands afterwards.
+pub fn choose(
+    kinds: &[u8; 256],
+    a: &[u16; 256],
+    b: &[u16; 256],
+    count: usize,
+    totals: &[u16; 256],
+    firsts: &[u64],
+    seconds: &[u64],
+    bound: &[u16; 256],
+    numbers: &[u8],
+    marks: &mut [u64],
+    k: usize,
+    e: usize,
+) -> u8
+    requires { ⌜ (k < count) × (e < count) × (8 * count ≤ length (now marks)) ⌝ }
+    requires { ⌜ Room count (now totals) (now firsts) (now seconds) (now bound) (now numbers) ⌝ }
+    ensures { λ r. ⌜ Chosen (now (kinds .entry)) (now (a .entry)) (now (b .entry)) count (now (totals .entry)) (now (firsts .entry))
+        (now (seconds .entry)) (now (bound .entry)) (now (numbers .entry)) (now (marks .entry)) (now (marks .exit)) k e r ⌝ }
+{
+    if kinds[e] == Kind::NAME {
+        return name_number(numbers, k, a[e]);
+    }
+    let i = at(bound, a[e]);
+    let j = at(bound, b[e]);
+    let place = 512 * k + mark_of(kinds, a, b, numbers, i, j, e);
+    let seen = marked(marks, place);
+    mark(marks, place);
+    if !seen {
+        return e as u8;
+    }
+    search(
+        kinds,
+        a,
+        b,
+        count,
+        totals,
+        firsts,
+        seconds,
+        bound,
+        numbers,
+        k,
+        i,
+        j,
+        e,
+    )
+}
