@@ -49,6 +49,10 @@ impl Bits {
             .all(|(word, mask)| word & !mask == 0)
     }
 
+    pub fn count(&self) -> usize {
+        self.0.iter().map(|word| word.count_ones() as usize).sum()
+    }
+
     pub fn first(&self) -> Option<usize> {
         let at = self.0.iter().position(|&word| word != 0)?;
         Some(at * 64 + self.0[at].trailing_zeros() as usize)
@@ -77,6 +81,7 @@ mod tests {
         bits.insert(256);
         bits.remove(3);
         assert_eq!(bits.iter().collect::<Vec<_>>(), [64, 255]);
+        assert_eq!(bits.count(), 2);
         assert!(Bits::one(64).is_subset(&bits));
         assert!(!Bits::one(65).is_subset(&bits));
     }

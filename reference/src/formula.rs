@@ -91,6 +91,17 @@ fn names_of(entry: &Entry, below: &[Names]) -> Names {
     }
 }
 
+/// The free names of each entry of a table that passed.
+pub fn free_names(entries: &[Entry]) -> Vec<Bits> {
+    let mut below: Vec<Names> = Vec::with_capacity(entries.len());
+    for (number, entry) in entries.iter().enumerate() {
+        let mut names = names_of(entry, &below);
+        names.free.remove(number);
+        below.push(names);
+    }
+    below.into_iter().map(|names| names.free).collect()
+}
+
 /// "The target of an operand is the operand, or its fixpoint if it is a name."
 pub fn target(entries: &[Entry], operand: u16) -> u16 {
     match entries[usize::from(operand)] {

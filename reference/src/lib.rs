@@ -6,11 +6,13 @@
 //! The layers, from the bytes up:
 //! * `bytes`, `claim`, `proof`, `model` read files (refusals 10–14, 30–34, 60–64);
 //! * `formula` judges entries (20–23), `tree` child numbers (35);
+//! * `alike` tells which entries are the same formula (no verdict asks it yet);
 //! * `rules` and `loops` judge a decoded proof (36–39);
 //! * `evaluate` gives each entry its meaning in a model;
 //! * `write` judges records by the same numbers and lays files down (70);
 //! * `check` and `gate` are the calls, `corpus` and `generate` serve the tests.
 
+mod alike;
 mod bits;
 mod bytes;
 mod check;
@@ -31,6 +33,7 @@ pub mod corpus;
 pub mod draft;
 pub mod generate;
 
+pub use alike::least_alike;
 pub use check::{check, evaluate, judge, Decoded, Judgement};
 pub use claim::{Claim, Entry, Kind};
 pub use gate::Gate;

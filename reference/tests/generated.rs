@@ -2,7 +2,10 @@
 //! outcome, proofs that are accepted, and claims that hold.
 
 use reference::generate::{self, Tally};
-use reference::{check, corpus, describe, evaluate, judge, Claim, Proof, Rule};
+use reference::{
+    check, corpus, describe, evaluate, judge, least_alike, Claim, Decoded, Kind, Proof, Rule,
+};
+use std::collections::BTreeSet;
 
 #[test]
 fn the_same_seed_gives_the_same_inputs() {
@@ -136,6 +139,52 @@ fn loops_that_leave_focus_are_good_and_bad() {
     assert_occur(&tally, [36, 37, 38, 39]);
     assert!(
         tally.count(0) * 100 >= tally.total() * 30,
+        "few accepted in\n{tally}"
+    );
+}
+
+/// The pairs of entries that are the same formula and both stand in a node's
+/// sequent or as its principal.
+fn twins_used(Decoded { claim, proof }: &Decoded) -> Vec<(u16, u16)> {
+    let least = least_alike(&claim.entries);
+    let with_principal = |rule: Rule| rule.low_bits() & 1 == 1;
+    let nodes = proof.nodes.iter().filter(|node| with_principal(node.rule));
+    let codes = proof.codes.iter().copied();
+    let used: BTreeSet<u16> = codes
+        .chain(nodes.map(|node| node.principal))
+        .map(|code| code / 2)
+        .filter(|&entry| usize::from(entry) < least.len())
+        .filter(|&entry| claim.entries[usize::from(entry)].kind != Kind::Name)
+        .collect();
+    let below = |entry: u16| used.range(..entry).map(move |&other| (other, entry));
+    used.iter()
+        .flat_map(|&entry| below(entry))
+        .filter(|&(one, other)| least[usize::from(one)] == least[usize::from(other)])
+        .collect()
+}
+
+#[test]
+fn files_with_twins_use_them() {
+    let records = || generate::twins(3).take(5_000);
+    let (mut used, mut compound, mut fixpoints) = (0, 0, 0);
+    for record in records() {
+        let Some(decoded) = judge(&record.claim, &record.proof).decoded else {
+            continue;
+        };
+        let kinds = twins_used(&decoded)
+            .into_iter()
+            .map(|(entry, _)| decoded.claim.entries[usize::from(entry)].kind);
+        let kinds: Vec<Kind> = kinds.collect();
+        used += usize::from(!kinds.is_empty());
+        compound += usize::from(kinds.iter().any(|&kind| kind as u8 >= Kind::Or as u8));
+        fixpoints += usize::from(kinds.iter().any(|kind| matches!(kind, Kind::Mu | Kind::Nu)));
+    }
+    let tally = Tally::of(records().map(|record| record.answer));
+    println!("{used} of 5000 use twins, {compound} compound ones, {fixpoints} fixpoints\n{tally}");
+    assert!(used * 3 > 5_000 && compound * 3 > 5_000 && fixpoints * 6 > 5_000);
+    assert_occur(&tally, [36, 37, 38, 39]);
+    assert!(
+        tally.count(0) * 100 >= tally.total() * 25,
         "few accepted in\n{tally}"
     );
 }

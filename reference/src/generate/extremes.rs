@@ -54,6 +54,26 @@ pub fn funnel(kind: Kind, modality: Kind, join: Kind, depth: u16) -> Vec<Entry> 
     entries
 }
 
+/// 2 to 85 fixpoints in one another, and below the innermost a chain of entries
+/// in which the names of all are free.
+pub fn crowd(depth: u16) -> Vec<Entry> {
+    let first = 256 - depth;
+    let mut entries: Vec<Entry> = (first..256)
+        .map(|fixpoint| Entry::new(Kind::Name, fixpoint, 0))
+        .collect();
+    entries.push(Entry::new(Kind::Or, 0, 1));
+    for at in depth + 1..first {
+        entries.push(match at {
+            _ if at < 2 * depth - 1 => Entry::new(Kind::Or, at - 1, at - depth + 1),
+            _ if at % 2 == 1 => Entry::new(Kind::Box, at - 1, 0),
+            _ => Entry::new(Kind::And, at - 1, at - 2),
+        });
+    }
+    entries[usize::from(first) - 1] = Entry::new(Kind::Box, first - 2, 0);
+    entries.extend((first..256).map(|at| Entry::new(Kind::Nu, at - 1, 0)));
+    entries
+}
+
 /// Fixpoints one above the other, each closed, the next one over the last.
 pub fn side_by_side(count: u16) -> Vec<Entry> {
     let mut entries = vec![Entry::new(Kind::Letter, 0, 0)];

@@ -11,10 +11,12 @@ mod pairs;
 mod paths;
 mod provable;
 mod records;
+mod renamed;
 mod rng;
 mod search;
 mod step;
 mod tally;
+mod twins;
 
 pub mod extremes;
 
@@ -23,6 +25,7 @@ pub use rng::Rng;
 pub use tally::Tally;
 
 use crate::check::{check, evaluate};
+use crate::claim::Entry;
 use crate::corpus::{CheckRecord, EvalRecord, WriteRecord};
 use crate::draft;
 use crate::refusal::answer;
@@ -35,6 +38,12 @@ pub fn checks(seed: u64) -> impl Iterator<Item = CheckRecord> {
 /// The same with a loop in each proof that has rule 9 on its path.
 pub fn loops_leaving_focus(seed: u64) -> impl Iterator<Item = CheckRecord> {
     inputs(seed, |rng| check_record(pairs::loop_leaving_focus(rng)))
+}
+
+/// The same over tables in which formulas stand more than once, with proofs whose
+/// codes are those of any entry of their formula.
+pub fn twins(seed: u64) -> impl Iterator<Item = CheckRecord> {
+    inputs(seed, |rng| check_record(renamed::with_twins(rng).files()))
 }
 
 fn check_record((claim, proof): (Vec<u8>, Vec<u8>)) -> CheckRecord {
@@ -88,6 +97,14 @@ pub fn models(seed: u64) -> impl Iterator<Item = Vec<u8>> {
 /// Well-formed small claims, with models of at most `states` states.
 pub fn small_evals(seed: u64, states: usize) -> impl Iterator<Item = (Vec<u8>, Vec<u8>)> {
     inputs(seed, move |rng| pairs::small_eval_pair(rng, states))
+}
+
+/// Well-formed small tables in which formulas stand more than once.
+pub fn small_twins(seed: u64) -> impl Iterator<Item = Vec<Entry>> {
+    inputs(seed, |rng| {
+        let plain = pairs::small_entries(rng);
+        twins::twins(rng, &plain).entries
+    })
 }
 
 fn inputs<T>(seed: u64, make: impl Fn(&mut Rng) -> T) -> impl Iterator<Item = T> {

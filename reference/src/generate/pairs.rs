@@ -33,7 +33,7 @@ impl Proved {
         draft::proof(&self.nodes)
     }
 
-    fn files(&self) -> (Vec<u8>, Vec<u8>) {
+    pub fn files(&self) -> (Vec<u8>, Vec<u8>) {
         (self.claim().bytes, self.proof().bytes)
     }
 }
@@ -77,7 +77,7 @@ fn flawed(rng: &mut Rng) -> Proved {
     accepted(rng)
 }
 
-fn prove(rng: &mut Rng, claim: Provable, flaw: Flaw) -> Option<Proved> {
+pub fn prove(rng: &mut Rng, claim: Provable, flaw: Flaw) -> Option<Proved> {
     let steps = search(rng, &claim, flaw)?;
     let nodes = number(rng, &steps, flaw != Flaw::LoopWithoutCompanion);
     Some(Proved {
@@ -306,8 +306,8 @@ fn damaged_model(rng: &mut Rng, model: &File) -> Vec<u8> {
     }
 }
 
-/// A well-formed claim and model, the claim small enough for slow methods.
-pub fn small_eval_pair(rng: &mut Rng, states: usize) -> (Vec<u8>, Vec<u8>) {
+/// A well-formed table, small enough for slow methods; the last entry is closed.
+pub fn small_entries(rng: &mut Rng) -> Vec<Entry> {
     let shape = Shape {
         size: rng.between(2, 12),
         depth: rng.between(2, 5),
@@ -315,8 +315,14 @@ pub fn small_eval_pair(rng: &mut Rng, states: usize) -> (Vec<u8>, Vec<u8>) {
         wild: false,
     };
     let mut builder = Builder::new(rng, shape);
-    let root = builder.formula(Scope::closed(), shape.depth);
-    let entries = builder.entries;
+    builder.formula(Scope::closed(), shape.depth);
+    builder.entries
+}
+
+/// A well-formed claim and model, the claim small enough for slow methods.
+pub fn small_eval_pair(rng: &mut Rng, states: usize) -> (Vec<u8>, Vec<u8>) {
+    let entries = small_entries(rng);
+    let root = (entries.len() - 1) as u16;
     let count = rng.between(1, states);
     let model = draft::model(&models::states_of(rng, count));
     (draft::claim(&entries, &[root]).bytes, model.bytes)

@@ -5,9 +5,10 @@
 use super::provable::Provable;
 use super::rng::Rng;
 use super::step::{self, Flaw};
+use crate::alike::least_alike;
 use crate::claim::{Entry, Kind};
 use crate::proof::Rule;
-use crate::sequent::{entry_of, focused, in_focus};
+use crate::sequent::{entry_of, focused, in_focus, insert, with_focus_of};
 
 /// Attempts before a search ends, and the longest branch.
 const ATTEMPTS: usize = 500;
@@ -42,6 +43,8 @@ pub struct Search<'a> {
     rng: &'a mut Rng,
     claim: &'a Provable,
     flaw: Flaw,
+    /// For each entry the least alike, where twins close a loop.
+    least: Vec<u16>,
     steps: Vec<Step>,
     path: Vec<usize>,
     attempts: usize,
@@ -56,6 +59,10 @@ pub fn search(rng: &mut Rng, claim: &Provable, flaw: Flaw) -> Option<Vec<Step>> 
         rng,
         claim,
         flaw,
+        least: match flaw {
+            Flaw::LoopToTwins => least_alike(&claim.entries),
+            _ => Vec::new(),
+        },
         steps: Vec::new(),
         path: Vec::new(),
         attempts: 0,
@@ -173,7 +180,7 @@ impl Search<'_> {
                 break;
             }
             boxed |= step.rule == Rule::Box;
-            if boxed && step.sequent == sequent {
+            if boxed && self.closes(flaw, &step.sequent, sequent) {
                 starts.push(at);
             }
         }
@@ -184,6 +191,23 @@ impl Search<'_> {
             return None;
         }
         self.rng.pick(&starts)
+    }
+
+    fn closes(&self, flaw: Flaw, start: &[u16], leaf: &[u16]) -> bool {
+        match flaw {
+            Flaw::LoopToTwins => self.formulas(start) == self.formulas(leaf),
+            _ => start == leaf,
+        }
+    }
+
+    /// The codes of the least entries alike.
+    fn formulas(&self, sequent: &[u16]) -> Vec<u16> {
+        let mut formulas = Vec::with_capacity(sequent.len());
+        for &code in sequent {
+            let least = self.least[entry_of(code)];
+            insert(&mut formulas, with_focus_of(least, code));
+        }
+        formulas
     }
 
     /// Steps with this sequent that are no ancestors.

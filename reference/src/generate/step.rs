@@ -30,8 +30,11 @@ pub enum Flaw {
     AxiomWithMore,
     /// A branch that will not close ends in any leaf.
     GivesUp,
+    /// Back leaves linked to a D with the same formulas under other numbers.
+    LoopToTwins,
 }
 
+/// Those that any claim gives room for.
 pub const FLAWS: [Flaw; 11] = [
     Flaw::LoopWithoutFocus,
     Flaw::LoopWithoutBox,
