@@ -1,6 +1,7 @@
 //! Random and damaged files: the gate and the reference agree on each.
 //! `GATE_FILES` sets how many, `GATE_LOOPS` how many whose loops leave focus,
-//! `GATE_SEED` the seed.
+//! `GATE_TWINS` how many in which formulas stand more than once, `GATE_SEED` the
+//! seed.
 
 use gate_tests::setting;
 use reference::corpus::CheckRecord;
@@ -37,6 +38,13 @@ fn loops_that_leave_focus_agree() {
         setting("GATE_LOOPS", 10_000),
         "loops that leave focus",
     );
+}
+
+/// Formulas under several entry numbers, and proofs that name any of these.
+#[test]
+fn files_with_twins_agree() {
+    let records = generate::twins(setting("GATE_SEED", 1));
+    assert_agree(records, setting("GATE_TWINS", 10_000), "files with twins");
 }
 
 #[test]
