@@ -31,7 +31,7 @@ use Rattle.companions.specs.Companions.{Companion, companion-fits}
 use Rattle.companions.specs.CompanionLaws.{back-kept-is}
 use Rattle.loops.specs.Paths.{Linked, loops-judged}
 use Rattle.sequents.specs.Placed.{Entries}
-use Rattle.kept.specs.Judged.{Judged, codes-is}
+use Rattle.principal_rules.specs.Judged.{Judged, codes-is}
 
 -- 37 or 38 by rising node
 abbrev pub rules-judged : Claim → Proof → Verdict

@@ -9,7 +9,7 @@ ghost use Rattle.formula.specs.PlainNodes.{proofOf};
 ghost use Rattle.calculus.specs.View.{plain};
 ghost use Rattle.calculus.specs.Judge.{keeps, judge as judged};
 ghost use Rattle.sequents.specs.Placed.{Members};
-ghost use Rattle.kept.specs.Judged.{Judged};
+ghost use Rattle.principal_rules.specs.Judged.{Judged};
 ghost use Rattle.rules.specs.JudgeStages.{TreeReady, Laid, Fresh, rules-judged, nodes-judged, tree-rules-judged};
 ghost use Rattle.tree.specs.Owners.{OwnedBy};
 ghost use Rattle.spans.specs.Spans.{Upward, Counted};

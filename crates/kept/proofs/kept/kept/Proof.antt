@@ -2,7 +2,7 @@
 use mathlib.Core.Path.{_∙_}
 use native.Mathlib.Omega.{arith}
 use borrow.Author.Needs.{needs}
-use Rattle.kept.specs.Judged.{placed, first-placed, keeps-ax1-here, keeps-ax2-here, keeps-d-here, keeps-none}
+use Rattle.principal_rules.specs.Judged.{placed, first-placed, keeps-ax1-here, keeps-ax2-here, keeps-d-here, keeps-none}
 use Rattle.kept.proofs.kept.kept.Statement.{statement}
 use Rattle.kept.proofs.kept.kept.Tie as tie
 

@@ -7,7 +7,7 @@ use Rattle.formula.specs.Claim.{Claim, Derivation}
 use Rattle.formula.specs.Held.{heldClaim, heldProof}
 use Rattle.calculus.specs.View.{plain}
 use Rattle.calculus.specs.Judge.{root}
-use Rattle.kept.specs.Judged.{placed}
+use Rattle.principal_rules.specs.Judged.{placed}
 use Rattle.rules.specs.JudgeStages.{other-root, claim-root}
 use Rattle.rules.proofs.judge.judge_tree.Statement.{statement}
 use Rattle.rules.proofs.judge.judge_tree.Tie as tie

@@ -6,7 +6,7 @@ use Rattle.formula.specs.Held.{heldClaim}
 use Rattle.formula.specs.Claim.{Claim}
 use mathlib.Core.List.{List, []}
 use Prim.Native.Nat.{ℕ}
-use Rattle.kept.specs.Judged.{placed}
+use Rattle.principal_rules.specs.Judged.{placed}
 use Rattle.rules.specs.JudgeStages.{other-keeps, leaf-refused, companion-inside, leaf-compared}
 use Rattle.rules.proofs.judge.node_keeps.Statement.{statement}
 use Rattle.rules.proofs.judge.node_keeps.Tie as tie

@@ -15,9 +15,9 @@ use Rattle.calculus.specs.Judge.{belongs, sides, weaken-kept}
 use Rattle.sequents.specs.CodeSet.{Holds, holds-none}
 use Rattle.sequents.specs.Placed.{Side, Coded}
 use Rattle.sequents.specs.KeptLaws.{was-false, was-true}
-use Rattle.kept.specs.Judged.{placed, first-placed, second-placed, coded, around, keeps-or-here, keeps-and-here, keeps-box-here, keeps-mu-here, keeps-nu-here, keeps-w-here, keeps-f-here, keeps-u-here, keeps-alien, past}
-use Rattle.kept.proofs.kept.principal_kept.Statement.{statement}
-use Rattle.kept.proofs.kept.principal_kept.Tie as tie
+use Rattle.principal_rules.specs.Judged.{placed, first-placed, second-placed, coded, around, keeps-or-here, keeps-and-here, keeps-box-here, keeps-mu-here, keeps-nu-here, keeps-w-here, keeps-f-here, keeps-u-here, keeps-alien, past}
+use Rattle.principal_rules.proofs.principal_kept.Statement.{statement}
+use Rattle.principal_rules.proofs.principal_kept.Tie as tie
 
 -- the function's start, from where the node's own set is lent and from where the principal belongs; the latter from the first child's set
 abbrev filling : tie.After-side → tie.Start
