@@ -14,11 +14,11 @@ use Rattle.encoding.specs.File.{Reading, refused}
 use Rattle.encoding.specs.Opening.{opens}
 use Rattle.encoding.specs.Places.{InFile}
 use Rattle.encoding.specs.Walk.{Reached}
-use Rattle.claims.specs.ClaimFile.{claimOpening}
-use Rattle.claims.specs.ReadClaim.{early, readClaim}
-use Rattle.claims.specs.Numbers.{countAt, count-inside}
-use Rattle.claims.specs.ClaimEntry.{entryAt}
-use Rattle.claims.specs.ClaimEntries.{entriesAt, entries-start, entries-cut, none-entered, entering-stops}
+use Rattle.claim_files.specs.ClaimFile.{claimOpening}
+use Rattle.claim_files.specs.ReadClaim.{early, readClaim}
+use Rattle.file_parts.specs.Numbers.{countAt, count-inside}
+use Rattle.claim_entries.specs.ClaimEntry.{entryAt}
+use Rattle.claim_entries.specs.ClaimEntries.{entriesAt, entries-start, entries-cut, none-entered, entering-stops}
 use Rattle.claims.specs.ClaimWalk.{claim-closed, claim-no-entries}
 
 -- what a first entry earns by itself, and what the count before it does

@@ -17,11 +17,12 @@ use Rattle.encoding.specs.Parse.{Got, fault, got, bind}
 use Rattle.encoding.specs.File.{Reading, refused, good, ending}
 use Rattle.encoding.specs.Outcome.{RefusedWith}
 use Rattle.encoding.specs.Opening.{opens, begins-tells}
-use Rattle.claims.specs.ClaimFile.{claimOpening}
-use Rattle.claims.specs.ReadClaim.{early, entries, members, claimOf, body, readClaim}
+use Rattle.claim_files.specs.ClaimFile.{claimOpening}
+use Rattle.claim_files.specs.ReadClaim.{early, entries, members, claimOf, body, readClaim}
 use Rattle.encoding.specs.Walk.{file-opens, file-closed, bytes-follow, none-follow}
-use Rattle.claims.specs.ClaimEntries.{ListRead, EntryArrays, EntriesStored, entriesAt}
-use Rattle.claims.specs.ClaimMembers.{MembersStored, membersAt, members-same}
+use Rattle.file_parts.specs.Parts.{ListRead}
+use Rattle.claim_entries.specs.ClaimEntries.{EntryArrays, EntriesStored, entriesAt}
+use Rattle.claim_members.specs.ClaimMembers.{MembersStored, membersAt, members-same}
 use Rattle.claims.specs.declared.ClaimRead.{ClaimRead}
 use Rattle.claims.specs.declared.ClaimRead.the-variants.{Read, Refused}
 

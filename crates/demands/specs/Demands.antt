@@ -26,9 +26,9 @@ use Rattle.meaning.specs.Meaning.{Env, meaning, round, own}
 use Rattle.meaning.specs.MeaningLaws.{meaning-local}
 use Rattle.meaning.specs.FixLaws.{fix-settles}
 use Rattle.meaning.specs.KindMeaning as by-kind
-use Rattle.claims.specs.ClaimFile.{ClaimFile, FitClaim, encodeClaim}
-use Rattle.claims.specs.ReadClaim.{readClaim}
-use Rattle.claims.specs.ClaimExact.{claim-decodes, claim-encodes, one-claim}
+use Rattle.claim_files.specs.ClaimFile.{ClaimFile, FitClaim, encodeClaim}
+use Rattle.claim_files.specs.ReadClaim.{readClaim}
+use Rattle.claim_files.specs.ClaimExact.{claim-decodes, claim-encodes, one-claim}
 use Rattle.proofs.specs.ProofFile.{FitProof, encodeProof}
 use Rattle.proofs.specs.ReadProof.{readProof}
 use Rattle.proofs.specs.ProofExact.{proof-decodes, proof-encodes}

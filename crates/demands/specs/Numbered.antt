@@ -11,8 +11,8 @@ use Rattle.encoding.specs.File as file
 use Rattle.formula.specs.Table.{Table}
 use Rattle.conditions.specs.Formed as table
 use Rattle.formula.specs.Claim.{Claim, Derivation}
-use Rattle.claims.specs.ClaimDocument as claims
-use Rattle.claims.specs.ClaimDocument.{ClaimStage, at-entry-count, at-entry, at-fields, at-member-count, at-member}
+use Rattle.claim_files.specs.ClaimDocument as claims
+use Rattle.claim_files.specs.ClaimDocument.{ClaimStage, at-entry-count, at-entry, at-fields, at-member-count, at-member}
 use Rattle.proofs.specs.ProofDocument as proofs
 use Rattle.proofs.specs.ProofDocument.{ProofStage, at-node-count, at-node, at-code-count, at-code}
 use Rattle.calculus.specs.Faults as rules

@@ -16,8 +16,8 @@ use Rattle.meaning.specs.Chain.{iter}
 use Rattle.formula.specs.Below.{recur}
 use Rattle.meaning.specs.States.{Model, leafSet, stepSet, start}
 use Rattle.meaning.specs.Meaning.{put, meaning, owns, own}
-use Rattle.claims.specs.ReadClaim.{readClaim}
-use Rattle.claims.specs.ClaimExact.{claim-good}
+use Rattle.claim_files.specs.ReadClaim.{readClaim}
+use Rattle.claim_files.specs.ClaimExact.{claim-good}
 use Rattle.demands.specs.Correct.{Refutes, Irrefutable}
 
 -- the name of entry 2, its box, and the mu; member 2

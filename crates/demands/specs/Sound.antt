@@ -12,8 +12,8 @@ use Rattle.formula.specs.Claim.{Claim, Derivation}
 use Rattle.formula.specs.Nodes.{node}
 use Rattle.meaning.specs.States.{Model}
 use Rattle.meaning.specs.Meaning.{own}
-use Rattle.claims.specs.ClaimFile.{ClaimFile}
-use Rattle.claims.specs.ClaimExact.{one-claim}
+use Rattle.claim_files.specs.ClaimFile.{ClaimFile}
+use Rattle.claim_files.specs.ClaimExact.{one-claim}
 use Rattle.proofs.specs.ProofRecords.{node-count}
 use Rattle.calculus.specs.Sequents.{sequent}
 use Rattle.calculus.specs.CorrectNodes.{CorrectNodes}

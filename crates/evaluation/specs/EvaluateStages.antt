@@ -20,7 +20,7 @@ use Rattle.formula.specs.Plain.{tableOf, tableOf-kind}
 use Rattle.conditions.specs.Formed.{Formed}
 use Rattle.meaning.specs.States.{Model}
 use Rattle.claims.specs.ClaimWalk.{ClaimGot}
-use Rattle.claims.specs.ClaimRecords.{entry-fits}
+use Rattle.claim_files.specs.ClaimRecords.{entry-fits}
 use Rattle.model.specs.ModelFile.{State, FitModel}
 use Rattle.model.specs.Described.{blank, state, modelOf, successorTable}
 use Rattle.model.specs.ReadModel.{readModel}

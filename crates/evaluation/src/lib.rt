@@ -4,7 +4,7 @@ ghost use Prim.Native.Nat.{_≤_};
 ghost use mathlib.Core.Path.{_≡_};
 ghost use lib.ListN.{length};
 ghost use Rattle.formula.specs.Plain.{tableOf};
-ghost use Rattle.claims.specs.ClaimEntries.{EntryArrays};
+ghost use Rattle.claim_entries.specs.ClaimEntries.{EntryArrays};
 ghost use Rattle.model.specs.ReadModel.{readModel};
 ghost use Rattle.forming.specs.Claim.{Given};
 ghost use Rattle.demands.specs.Evaluate.{inModel, evaluated};

@@ -16,7 +16,7 @@ use Rattle.formula.specs.Records.{allCodes}
 use Rattle.formula.specs.NodeColumns.{Columns, start-stands}
 use Rattle.formula.specs.CodeCounts.{few-codes, more-codes}
 use Rattle.conditions.specs.WellFormed.{WellFormed}
-use Rattle.claims.specs.ClaimRecords.{member-formula, entry-count}
+use Rattle.claim_files.specs.ClaimRecords.{member-formula, entry-count}
 use Rattle.proofs.specs.ProofFile.{ProofFile}
 use Rattle.proofs.specs.ProofExact.{proof-good}
 use Rattle.proofs.specs.ProofRecords.{node-count, codes-few, code-formula}

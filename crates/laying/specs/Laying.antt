@@ -17,7 +17,7 @@ use Rattle.formula.specs.Fields.{hasPrincipal, hasFirst, hasSecond, hasBack}
 use Rattle.formula.specs.Claim.{Claim, Derivation}
 use Rattle.formula.specs.Plain.{plainEntry, tableOf}
 use Rattle.encoding.specs.Encode.{encodeTwo, encodePart, encodeField, encodeAll}
-use Rattle.claims.specs.ClaimFile.{claimOpening, encodeEntry, encodeClaim}
+use Rattle.claim_files.specs.ClaimFile.{claimOpening, encodeEntry, encodeClaim}
 use Rattle.proofs.specs.ProofFile.{proofOpening, encodeCodes, full, encodeNode, encodeProof}
 use Rattle.writing.specs.Held.{plainRecord, recordsOf, NodesGiven}
 use Rattle.writing.specs.FieldEnds.{numbers-long}

@@ -7,7 +7,7 @@ use Rattle.verdict.specs.Verdict as verdicts
 use Rattle.verdict.specs.Verdict.{Verdict, accepted}
 use Rattle.verdict.specs.ScanLaws.{after}
 use Rattle.encoding.specs.File.{refused}
-use Rattle.claims.specs.ReadClaim.{readClaim}
+use Rattle.claim_files.specs.ReadClaim.{readClaim}
 use Rattle.claims.specs.ClaimBeginning.{beginning, Begun, beginning-refused}
 use Rattle.reader.specs.Files.{firstly, readFormed, files}
 

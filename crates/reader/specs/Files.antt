@@ -6,7 +6,7 @@ use Rattle.verdict.specs.Verdict.{Verdict, accepted}
 use Rattle.encoding.specs.File.{Reading, refused, good}
 use Rattle.formula.specs.Claim.{Claim, Derivation}
 use Rattle.conditions.specs.Judge.{judgeTable}
-use Rattle.claims.specs.ReadClaim.{readClaim}
+use Rattle.claim_files.specs.ReadClaim.{readClaim}
 use Rattle.proofs.specs.ReadProof.{readProof}
 
 -- whatever stands first, and then a reading

@@ -9,11 +9,11 @@ use Rattle.formula.specs.Claim.{Claim}
 use Rattle.conditions.specs.Judge.{judgeTable}
 use Rattle.conditions.specs.Formed.{Formed, Earns}
 use Rattle.conditions.specs.JudgeExact.{judge-accepts, judge-refuses}
-use Rattle.claims.specs.ReadClaim.{readClaim}
-use Rattle.claims.specs.ClaimFile.{ClaimFile}
-use Rattle.claims.specs.ClaimDocument.{ClaimEarns}
-use Rattle.claims.specs.ClaimExact.{claim-good, good-claim}
-use Rattle.claims.specs.ClaimFaults.{claim-refused, claim-earned}
+use Rattle.claim_files.specs.ReadClaim.{readClaim}
+use Rattle.claim_files.specs.ClaimFile.{ClaimFile}
+use Rattle.claim_files.specs.ClaimDocument.{ClaimEarns}
+use Rattle.claim_files.specs.ClaimExact.{claim-good, good-claim}
+use Rattle.claim_files.specs.ClaimFaults.{claim-refused, claim-earned}
 use Rattle.proofs.specs.ProofFile.{ProofFile}
 use Rattle.proofs.specs.ProofDocument.{ProofEarns}
 use Rattle.proofs.specs.ProofExact.{proof-good, good-proof}

@@ -13,7 +13,7 @@ use Rattle.formula.specs.Claim.{Claim, Derivation}
 use Rattle.formula.specs.Plain.{tableOf, tableOf-length, tableOf-kind}
 use Rattle.formula.specs.Held.{heldClaim}
 use Rattle.conditions.specs.Judge.{judgeTable}
-use Rattle.claims.specs.ReadClaim.{readClaim}
+use Rattle.claim_files.specs.ReadClaim.{readClaim}
 use Rattle.claims.specs.ClaimWalk.{ClaimGot}
 use Rattle.proofs.specs.ReadProof.{readProof}
 use Rattle.proofs.specs.ProofParts.{kindClaim}

@@ -3,8 +3,8 @@ use mathlib.Core.List.{List}
 use Prim.Native.Nat.{ℕ}
 use Rattle.formula.specs.Claim.{Claim, Derivation}
 use Rattle.conditions.specs.Formed.{Formed, Earns}
-use Rattle.claims.specs.ClaimFile.{ClaimFile}
-use Rattle.claims.specs.ClaimDocument.{ClaimEarns}
+use Rattle.claim_files.specs.ClaimFile.{ClaimFile}
+use Rattle.claim_files.specs.ClaimDocument.{ClaimEarns}
 use Rattle.proofs.specs.ProofFile.{ProofFile}
 use Rattle.proofs.specs.ProofDocument.{ProofEarns}
 use Rattle.reader.specs.Files.{Files}

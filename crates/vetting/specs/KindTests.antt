@@ -12,7 +12,7 @@ use Rattle.formula.specs.Codes.{Formula}
 use Rattle.formula.specs.Members.{isFormula, formula-tells}
 use Rattle.formula.specs.Plain.{tableOf, tableOf-length, tableOf-kind}
 use Rattle.encoding.specs.Parse.{fits-from}
-use Rattle.claims.specs.ClaimMembers.{plainFormula, mayFollow}
+use Rattle.claim_members.specs.ClaimMembers.{plainFormula, mayFollow}
 use Rattle.proofs.specs.ProofParts.{kindTable}
 use Rattle.writing.specs.Ends.{goOn}
 use Rattle.writing.specs.FieldEnds.{countEnd, risingEnd}

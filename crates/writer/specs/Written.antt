@@ -14,7 +14,7 @@ use Rattle.formula.specs.Table.{Table}
 use Rattle.formula.specs.Records.{NodeRecord}
 use Rattle.formula.specs.Plain.{tableOf}
 use Rattle.encoding.specs.File.{Reading, refused}
-use Rattle.claims.specs.ClaimFile.{encodeClaim}
+use Rattle.claim_files.specs.ClaimFile.{encodeClaim}
 use Rattle.proofs.specs.ProofFile.{encodeProof}
 use Rattle.proofs.specs.ProofParts.{kindTable}
 use Rattle.writing.specs.Writing.{ClaimRecords, ProofRecords, writingClaim, writingProof, fileNumber, laidInto}

@@ -18,7 +18,7 @@ use Rattle.formula.specs.Records.{NodeRecord}
 use Rattle.formula.specs.Plain.{tableOf, tableOf-length, tableOf-kind}
 use Rattle.encoding.specs.Parse.{pick}
 use Rattle.encoding.specs.File.{Reading, refused, good}
-use Rattle.claims.specs.ClaimFile.{encodeClaim}
+use Rattle.claim_files.specs.ClaimFile.{encodeClaim}
 use Rattle.proofs.specs.ProofFile.{encodeProof}
 use Rattle.proofs.specs.ReadProof.{readProof}
 use Rattle.proofs.specs.ProofParts.{kindTable, kindClaim}

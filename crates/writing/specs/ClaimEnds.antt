@@ -18,8 +18,8 @@ use Rattle.encoding.specs.File.{Reading, ending}
 use Rattle.encoding.specs.Parse.{Got, fault, got, pick, bind, guard, via, two, in-range, fits-from, times}
 use Rattle.encoding.specs.Opening.{opens}
 use Rattle.encoding.specs.Walk.{file-opens}
-use Rattle.claims.specs.ClaimFile.{claimOpening, encodeEntry}
-use Rattle.claims.specs.ReadClaim.{early, kind-fits, fields, made, entry, entries, members, claimOf, body, readClaim}
+use Rattle.claim_files.specs.ClaimFile.{claimOpening, encodeEntry}
+use Rattle.claim_files.specs.ReadClaim.{early, kind-fits, fields, made, entry, entries, members, claimOf, body, readClaim}
 use Rattle.writing.specs.RecordBytes.{stands, clipped, entryBytes, claimBytes}
 use Rattle.writing.specs.Ends.{End, next, stop, goOn, walk, gotBy, readBy, stop-not-next, passed, went, next-same, Meets, times-walk, walk-past}
 use Rattle.writing.specs.FieldEnds.{field-meets, field-long, mayHold, held-stands, itself, stands-over, nothing-over, countEnd, in-range-tells, count-meets, map-same, risingEnd, rising-met, rising-past}

@@ -23,9 +23,9 @@ use Rattle.encoding.specs.Encode.{Bytes, FitField, encodeTwo, encodeField, enco
 use Rattle.encoding.specs.File.{Reading, refused, good}
 use Rattle.encoding.specs.FileLaws.{good-same, refused-not-good}
 use Rattle.encoding.specs.Parse.{pick}
-use Rattle.claims.specs.ClaimFile.{encodeEntry, FitEntry, ClaimFile}
-use Rattle.claims.specs.ReadClaim.{readClaim}
-use Rattle.claims.specs.ClaimExact.{good-claim}
+use Rattle.claim_files.specs.ClaimFile.{encodeEntry, FitEntry, ClaimFile}
+use Rattle.claim_files.specs.ReadClaim.{readClaim}
+use Rattle.claim_files.specs.ClaimExact.{good-claim}
 use Rattle.reader.specs.Files.{firstly, andThen, formed, readFormed}
 use Rattle.writing.specs.RecordBytes.{stands, clipped, entryBytes, claimBytes}
 use Rattle.writing.specs.Writing.{ClaimRecords, claimFile, shortClaim, ifRoom, ifLong, writingClaim}

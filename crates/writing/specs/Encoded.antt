@@ -15,7 +15,7 @@ use Rattle.formula.specs.Fields.{linkWidth}
 use Rattle.conditions.specs.Judge.{judgeTable}
 use Rattle.encoding.specs.Encode.{encodeAll}
 use Rattle.encoding.specs.File.{Reading, refused, good}
-use Rattle.claims.specs.ClaimFile.{encodeEntry, encodeClaim}
+use Rattle.claim_files.specs.ClaimFile.{encodeEntry, encodeClaim}
 use Rattle.proofs.specs.ProofFile.{encodeNode, encodeProof}
 use Rattle.tree.specs.Owners.{tree-judged}
 use Rattle.reader.specs.Files.{firstly, andThen, formed, readFormed}

@@ -10,7 +10,7 @@ use Rattle.formula.specs.Table.{Entry, Table}
 use Rattle.formula.specs.Records.{NodeRecord}
 use Rattle.formula.specs.Fields.{hasA, hasB, hasPrincipal, hasFirst, hasSecond, hasBack}
 use Rattle.encoding.specs.Encode.{encodeTwo, encodePart, encodeField, encodeAll}
-use Rattle.claims.specs.ClaimFile.{claimOpening}
+use Rattle.claim_files.specs.ClaimFile.{claimOpening}
 use Rattle.proofs.specs.ProofFile.{proofOpening}
 
 -- a field stands where the kind or rule has it, and where it holds a value other than 0: then the map is unfit

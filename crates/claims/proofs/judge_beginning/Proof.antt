@@ -1,8 +1,8 @@
 -- One law for each way to be refused: opening, count, first entry.
 use native.Mathlib.Omega.{arith}
 use borrow.Author.Needs.{needs}
-use Rattle.claims.specs.Numbers.{number-read, number-refused}
-use Rattle.claims.specs.ClaimEntry.{entry-refused, entry-read}
+use Rattle.file_parts.specs.Numbers.{number-read, number-refused}
+use Rattle.claim_entries.specs.ClaimEntry.{entry-refused, entry-read}
 use Rattle.claims.specs.ClaimWalk.{claim-long}
 use Rattle.claims.specs.ClaimBeginning.{first-place, begun-closed, begun-uncounted, begun-cut, begun-passed}
 use Rattle.claims.proofs.judge_beginning.Statement.{statement}

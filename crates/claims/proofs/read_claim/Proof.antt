@@ -1,7 +1,7 @@
 -- One law for each way to end: opening, entries, members, bytes that follow, acceptance.
 use native.Mathlib.Omega.{arith}
 use borrow.Author.Needs.{needs}
-use Rattle.claims.specs.ClaimEntries.{part-read, part-refused}
+use Rattle.file_parts.specs.Parts.{part-read, part-refused}
 use Rattle.claims.specs.ClaimWalk.{claim-refused, claim-closed, claim-long, claim-no-entries, claim-no-members, claim-follows, claim-got}
 use Rattle.claims.proofs.read_claim.Statement.{statement}
 use Rattle.claims.proofs.read_claim.Tie as tie

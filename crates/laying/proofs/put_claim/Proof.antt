@@ -5,7 +5,7 @@ use mathlib.Core.List.{List, _++_}
 use Prim.Native.Nat.{ℕ, _+_, _≤_}
 use lib.ListN.{length}
 use Rattle.encoding.specs.Encode.{encodeTwo}
-use Rattle.claims.specs.ClaimFile.{claimOpening}
+use Rattle.claim_files.specs.ClaimFile.{claimOpening}
 use Rattle.laying.specs.Laying.{Left, numbersLeft, entriesLeft, memberParts, claimParts, claim-parts, parts-fit, numbers-length}
 use Rattle.laying.specs.Laying.{all-left, less-left, room-left, left-fits, last-left, put-long, file-put}
 use borrow.Author.Needs.{needs}

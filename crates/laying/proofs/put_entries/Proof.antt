@@ -4,7 +4,7 @@ use mathlib.Core.List.{List, _++_}
 use Prim.Native.Nat.{ℕ, _+_, _-_, _≤_}
 use Rattle.formula.specs.Table.{Entry}
 use Rattle.formula.specs.Plain.{plainEntry}
-use Rattle.claims.specs.ClaimFile.{encodeEntry}
+use Rattle.claim_files.specs.ClaimFile.{encodeEntry}
 use Rattle.laying.specs.Laying.{Left, entriesLeft, entries-begin, entries-step, entries-end, less-left, none-left, room-left}
 use borrow.Author.Needs.{needs}
 use Rattle.laying.proofs.put_entries.Statement.{statement}

@@ -8,7 +8,7 @@ use lib.ListN.{set, length-set}
 use Rattle.formula.specs.Table.{Entry}
 use Rattle.formula.specs.Fields.{hasA, hasB, mapOf}
 use Rattle.encoding.specs.Encode.{encodeField}
-use Rattle.claims.specs.ClaimFile.{encodeEntry}
+use Rattle.claim_files.specs.ClaimFile.{encodeEntry}
 use Rattle.laying.specs.Laying.{Put, Left, entryAt, all-left, less-left, room-left, left-fits, last-left, head-put, put-as, put-long}
 use borrow.Author.Needs.{needs}
 use Rattle.laying.proofs.put_entry.Statement.{statement}

@@ -6,7 +6,7 @@ use borrow.Author.Needs.{needs}
 use Rattle.verdict.specs.Shown.{shown}
 use Rattle.verdict.specs.Verdict as verdicts
 use Rattle.encoding.specs.File.{refused}
-use Rattle.claims.specs.ReadClaim.{readClaim}
+use Rattle.claim_files.specs.ReadClaim.{readClaim}
 use Rattle.claims.specs.ClaimBeginning.{beginning-refused}
 use Rattle.reader.specs.Begins.{claim-refuses}
 use Rattle.demands.specs.Check.{answer, verdict}

@@ -6,7 +6,7 @@ use Prim.Native.Nat.{ℕ, _≤_}
 use lib.ListN.{length}
 use Rattle.formula.specs.Table.{Table}
 use Rattle.formula.specs.Plain.{tableOf, tableOf-length}
-use Rattle.claims.specs.ClaimFile.{encodeClaim}
+use Rattle.claim_files.specs.ClaimFile.{encodeClaim}
 use Rattle.writing.specs.Ends.{End, next}
 use Rattle.writing.specs.Encoded.{claimJudged, ClaimPasses, claim-passes}
 use Rattle.writing.specs.Held.{ClaimWritten}

@@ -1,0 +1,2 @@
+pub mod ClaimEntry
+pub mod ClaimEntries
