@@ -23,6 +23,7 @@ use Rattle.calculus.specs.Judge.{ax1-kept, ax2-kept, or-kept, and-kept, box-kep
 use Rattle.calculus.specs.Steps.{keeps-ax1, keeps-ax2, keeps-or, keeps-and, keeps-box, keeps-mu, keeps-nu, keeps-w, keeps-f, keeps-u, keeps-d}
 use Rattle.sequents.specs.Placed.{family, Placed, Entries, Coded}
 use Rattle.operand_rules.specs.Fixpoint.{fixpoint-kept}
+use Rattle.side_rules.specs.Tested.{tested, tested-mu, tested-nu, tested-w, tested-f, tested-u}
 
 pub record Judged (ks xs ys : List ℕ) (n : ℕ) (rs ls ss cs : List ℕ) (m : ℕ) : Type 0 where
   pub entries : n ≤ 256
@@ -139,31 +140,31 @@ module _ {ks xs ys : List ℕ} {n : ℕ} {rs ls ss cs : List ℕ} {m : ℕ} (J :
         let f = first-codes (omega arith) (omega arith) in
         sym (keeps-box t (plain (proofOf rs ls ss cs m)) v (rule-is J v real ∙ e) ∙ cc (principal-is, codes-is, f))
 
-    pub keeps-mu-here : getD rs v 0 ≡ Rule.MU → fixpoint-kept t (around ls ss cs v []) Kind.MU 0 0 ≡ step-kept t (plain (proofOf rs ls ss cs m)) v
+    keeps-mu-here : getD rs v 0 ≡ Rule.MU → fixpoint-kept t (around ls ss cs v []) Kind.MU 0 0 ≡ step-kept t (plain (proofOf rs ls ss cs m)) v
     unfolding mu-kept of-kind belongs sides
     keeps-mu-here e =
         let f = first-codes (omega arith) (omega arith) in
         sym (keeps-mu t (plain (proofOf rs ls ss cs m)) v (rule-is J v real ∙ e) ∙ cc (principal-is, codes-is, f))
 
-    pub keeps-nu-here : getD rs v 0 ≡ Rule.NU → fixpoint-kept t (around ls ss cs v []) Kind.NU (focusOf (getD ls (4 * v) 0)) 0 ≡ step-kept t (plain (proofOf rs ls ss cs m)) v
+    keeps-nu-here : getD rs v 0 ≡ Rule.NU → fixpoint-kept t (around ls ss cs v []) Kind.NU (focusOf (getD ls (4 * v) 0)) 0 ≡ step-kept t (plain (proofOf rs ls ss cs m)) v
     unfolding nu-kept of-kind belongs sides
     keeps-nu-here e =
         let f = first-codes (omega arith) (omega arith) in
         sym (keeps-nu t (plain (proofOf rs ls ss cs m)) v (rule-is J v real ∙ e) ∙ cc (principal-is, codes-is, f))
 
-    pub keeps-w-here : getD rs v 0 ≡ Rule.W → weaken-kept t (around ls ss cs v []) 0 ≡ step-kept t (plain (proofOf rs ls ss cs m)) v
+    keeps-w-here : getD rs v 0 ≡ Rule.W → weaken-kept t (around ls ss cs v []) 0 ≡ step-kept t (plain (proofOf rs ls ss cs m)) v
     unfolding weaken-kept belongs sides
     keeps-w-here e =
         let f = first-codes (omega arith) (omega arith) in
         sym (keeps-w t (plain (proofOf rs ls ss cs m)) v (rule-is J v real ∙ e) ∙ cc (principal-is, codes-is, f))
 
-    pub keeps-f-here : getD rs v 0 ≡ Rule.F → focus-kept t (around ls ss cs v []) 0 1 0 ≡ step-kept t (plain (proofOf rs ls ss cs m)) v
+    keeps-f-here : getD rs v 0 ≡ Rule.F → focus-kept t (around ls ss cs v []) 0 1 0 ≡ step-kept t (plain (proofOf rs ls ss cs m)) v
     unfolding focus-kept belongs sides
     keeps-f-here e =
         let f = first-codes (omega arith) (omega arith) in
         sym (keeps-f t (plain (proofOf rs ls ss cs m)) v (rule-is J v real ∙ e) ∙ cc (principal-is, codes-is, f))
 
-    pub keeps-u-here : getD rs v 0 ≡ Rule.U → focus-kept t (around ls ss cs v []) 1 0 0 ≡ step-kept t (plain (proofOf rs ls ss cs m)) v
+    keeps-u-here : getD rs v 0 ≡ Rule.U → focus-kept t (around ls ss cs v []) 1 0 0 ≡ step-kept t (plain (proofOf rs ls ss cs m)) v
     unfolding focus-kept belongs sides
     keeps-u-here e =
         let f = first-codes (omega arith) (omega arith) in
@@ -174,6 +175,15 @@ module _ {ks xs ys : List ℕ} {n : ℕ} {rs ls ss cs : List ℕ} {m : ℕ} (J :
     keeps-d-here e =
         let f = first-codes (omega arith) (omega arith) in
         sym (keeps-d t (plain (proofOf rs ls ss cs m)) v (rule-is J v real ∙ e) ∙ cc (codes-is, f))
+
+    -- 5 to 9, by their number
+    pub keeps-side-here : Rule.MU ≤ getD rs v 0 → getD rs v 0 ≤ Rule.U → tested t (getD rs v 0) (around ls ss cs v []) ≡ step-kept t (plain (proofOf rs ls ss cs m)) v
+    keeps-side-here low high =
+        either Rule.MU low (λ e. sym (tested-mu t (around ls ss cs v []) e) ∙ keeps-mu-here e) (λ low.
+        either Rule.NU low (λ e. sym (tested-nu t (around ls ss cs v []) e) ∙ keeps-nu-here e) (λ low.
+        either Rule.W low (λ e. sym (tested-w t (around ls ss cs v []) e) ∙ keeps-w-here e) (λ low.
+        either Rule.F low (λ e. sym (tested-f t (around ls ss cs v []) e) ∙ keeps-f-here e) (λ low.
+        either Rule.U low (λ e. sym (tested-u t (around ls ss cs v []) e) ∙ keeps-u-here e) (λ low. absurd (omega arith))))))
 
     -- a rule with a principal that does not belong is not kept
     pub keeps-alien : Rule.OR ≤ getD rs v 0 → getD rs v 0 ≤ Rule.U → member (codesAt ss cs v) (getD ls (4 * v) 0) ≡ false → false ≡ step-kept t (plain (proofOf rs ls ss cs m)) v

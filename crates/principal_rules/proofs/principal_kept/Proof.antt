@@ -1,21 +1,16 @@
 -- `principal_kept` meets its contract: where the principal belongs, each arm is the test that the rule names.
-use mathlib.Core.Path.{_≡_, refl, _∙_}
-use mathlib.Core.Logic.{inl, inr}
-use mathlib.Core.List.{[]}
-use Prim.Native.Nat.{_+_, _*_}
-use native.Mathlib.Nat.{lt-irrefl, lt-of-lt-of-le}
+use mathlib.Core.Path.{_≡_, _∙_}
+use Prim.Native.Nat.{ℕ, _+_, _*_, _≤_}
 use native.Mathlib.Omega.{arith}
 use lib.ListN.{getD}
 use borrow.Author.Needs.{needs}
 use Rattle.verdict.specs.Tests.{member}
 use Rattle.formula.specs.Rule
-use Rattle.formula.specs.Plain.{tableOf}
 use Rattle.formula.specs.PlainNodes.{codesAt}
-use Rattle.calculus.specs.Judge.{belongs, sides, weaken-kept}
 use Rattle.sequents.specs.CodeSet.{Holds, holds-none}
 use Rattle.sequents.specs.Placed.{Side, Coded}
 use Rattle.sequents.specs.KeptLaws.{was-false, was-true}
-use Rattle.principal_rules.specs.Judged.{placed, first-placed, second-placed, coded, around, keeps-or-here, keeps-and-here, keeps-box-here, keeps-mu-here, keeps-nu-here, keeps-w-here, keeps-f-here, keeps-u-here, keeps-alien, past}
+use Rattle.principal_rules.specs.Judged.{placed, first-placed, second-placed, coded, keeps-or-here, keeps-and-here, keeps-box-here, keeps-side-here, keeps-alien, past}
 use Rattle.principal_rules.proofs.principal_kept.Statement.{statement}
 use Rattle.principal_rules.proofs.principal_kept.Tie as tie
 
@@ -49,6 +44,10 @@ sided c = record { belongs = was-true (belonging (c .before .before .before)) (c
 -- the first child's set
 first : (c : tie.After-put-sequent) → let a = belonged (passed c) .args in Holds (c .put-sequent .last .0) (codesAt (a .starts .now) (a .codes .now) (getD (a .links .now) (4 * a .v + 1) 0))
 first c = rw (c .before .wide3 .ensures) at (c .put-sequent .ensures)
+
+-- a rule with a principal that is none of 2, 3 and 4
+beyond : {r : ℕ} → Rule.OR ≤ r → (r ≡ Rule.OR → ⊥) → (r ≡ Rule.AND → ⊥) → (r ≡ Rule.BOX → ⊥) → Rule.MU ≤ r
+beyond low a b c = past Rule.BOX (past Rule.AND (past Rule.OR low a) b) c
 
 shared-slice-read-rule : tie.Need-shared-slice-read-rule
 shared-slice-read-rule c = search needs
@@ -150,20 +149,11 @@ box-kept-requires c κs =
     let p = c .before .before .before .before .before .before .before .before .before .before .before .before .before .before .before .before .before .before .before .before .before .before .before .pre in
     rw (c .before .before .before .before .before .before .before .before .before .before .before .before .before .before .before .wide .ensures, c .before .before .before .before .before .before .before .before .before .before .before .before .before .wide2 .ensures) (principal (passed (c .before .before)), placed (p .0) _ (p .1) .span, p .0 .members _ (p .1))
 
-fixpoint-kept-requires : tie.Need-fixpoint-kept-requires
-fixpoint-kept-requires c κs = (principal (passed (c .before .before .before)), inl refl, omega arith)
-
-fixpoint-kept-requires-2 : tie.Need-fixpoint-kept-requires-2
-fixpoint-kept-requires-2 c κs = (principal (passed (c .before .before .before)), inr refl, omega arith)
-
-same-requires : tie.Need-same-requires
-same-requires c κs = search needs
-
-focus-kept-requires : tie.Need-focus-kept-requires
-focus-kept-requires c κs = let C = principal (passed (c .before .before .before)) in (omega (arith, C .inside, C .small), omega arith)
-
-focus-kept-requires-2 : tie.Need-focus-kept-requires-2
-focus-kept-requires-2 c κs = let C = principal (passed (c .before .before .before)) in (omega (arith, C .inside, C .small), omega arith)
+side-kept-requires : tie.Need-side-kept-requires
+side-kept-requires c κs =
+    let p = belonged (passed (c .before .before .before)) .pre in
+    let n = c .before .before .match .rest in
+    (principal (passed (c .before .before .before)), beyond (p .2) (n .0 .0 .1) (n .0 .1) (n .1), p .3)
 
 returns-2 : tie.Need-returns-2
 returns-2 c =
@@ -187,42 +177,8 @@ returns-5 : tie.Need-returns-5
 returns-5 c =
     let f = c .before .before .before .before in
     let p = belonged (passed f) .pre in
-    c .fixpoint-kept .ensures _ _ (sided (f .before .before .before .before)) (first f) ∙ keeps-mu-here (p .0) _ (p .1) _ (c .before .before .before .match .keys4)
-
-returns-6 : tie.Need-returns-6
-returns-6 c =
-    let f = c .before .before .before .before in
-    let p = belonged (passed f) .pre in
-    c .fixpoint-kept2 .ensures _ _ (sided (f .before .before .before .before)) (first f) ∙ keeps-nu-here (p .0) _ (p .1) _ (c .before .before .before .match .keys5)
-
-returns-7 : tie.Need-returns-7
-unfolding weaken-kept belongs sides
-returns-7 c =
-    let f = c .before .before .before .before in
-    let p = belonged (passed f) .pre in
-    let a = belonged (passed f) .args in
-    let s = sided (f .before .before .before .before) in
-    let w : c .same .result ≡ weaken-kept (tableOf (a .kinds .now) (a .a .now) (a .b .now) (a .size)) (around (a .links .now) (a .starts .now) (a .codes .now) (a .v) []) 0 = rw (s .belongs) (c .same .ensures _ _ (first f) (s .holds)) in
-    w ∙ keeps-w-here (p .0) _ (p .1) _ (c .before .before .before .match .keys6)
-
-returns-8 : tie.Need-returns-8
-returns-8 c =
-    let f = c .before .before .before .before in
-    let p = belonged (passed f) .pre in
-    c .focus-kept .ensures _ _ _ (sided (f .before .before .before .before)) (first f) ∙ keeps-f-here (p .0) _ (p .1) _ (c .before .before .before .match .keys7)
-
-returns-9 : tie.Need-returns-9
-returns-9 c =
-    let f = c .before .before .before .before in
-    let p = belonged (passed f) .pre in
-    c .focus-kept2 .ensures _ _ _ (sided (f .before .before .before .before)) (first f) ∙ keeps-u-here (p .0) _ (p .1) _ (c .before .before .before .match .keys8)
-
-returns-10 : tie.Need-returns-10
-returns-10 c =
-    let p = belonged (passed (c .before)) .pre in
-    let n = c .match .rest in
-    let beyond = past Rule.U (past Rule.F (past Rule.W (past Rule.NU (past Rule.MU (past Rule.BOX (past Rule.AND (past Rule.OR (p .2) (n .0 .0 .0 .0 .0 .0 .0 .1)) (n .0 .0 .0 .0 .0 .0 .1)) (n .0 .0 .0 .0 .0 .1)) (n .0 .0 .0 .0 .1)) (n .0 .0 .0 .1)) (n .0 .0 .1)) (n .0 .1)) (n .1) in
-    absurd (lt-irrefl _ (lt-of-lt-of-le beyond (p .3)))
+    let n = c .before .before .before .match .rest in
+    c .side-kept .ensures _ _ (sided (f .before .before .before .before)) (first f) ∙ keeps-side-here (p .0) _ (p .1) _ (beyond (p .2) (n .0 .0 .1) (n .0 .1) (n .1)) (p .3)
 
 pub principal-kept-spec : {M : Type 1} → statement M
 principal-kept-spec =
@@ -258,17 +214,8 @@ principal-kept-spec =
     put-sequent-requires-2
     and-kept-requires
     box-kept-requires
-    fixpoint-kept-requires
-    fixpoint-kept-requires-2
-    same-requires
-    focus-kept-requires
-    focus-kept-requires-2
+    side-kept-requires
     returns-2
     returns-3
     returns-4
-    returns-5
-    returns-6
-    returns-7
-    returns-8
-    returns-9
-    returns-10)
+    returns-5)

@@ -4,8 +4,8 @@ use native.Mathlib.Omega.{arith}
 use borrow.Author.Tests.{eq-eqb, ne-eqb}
 use borrow.Author.Needs.{needs}
 use Rattle.calculus.specs.Judge.{belongs, sides, focus-kept as FocusKept}
-use Rattle.principal_rules.proofs.focus_kept.Statement.{statement}
-use Rattle.principal_rules.proofs.focus_kept.Tie as tie
+use Rattle.side_rules.proofs.focus_kept.Statement.{statement}
+use Rattle.side_rules.proofs.focus_kept.Tie as tie
 
 returns : tie.Need-returns
 unfolding FocusKept belongs
