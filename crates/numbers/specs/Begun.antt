@@ -30,7 +30,7 @@ use Rattle.thinning.specs.Columns.{Prepared}
 use Rattle.one_level.specs.Kinds.{kindOf, firstOf, secondOf, kind-back, first-back, second-back, kind-two}
 use Rattle.rounds.specs.Stand.{left, left-is, left-place, none-stand}
 use Rattle.rounds.specs.Rounds.{Fixed, Between}
-use Rattle.numbers.specs.Numbered.{Sound}
+use Rattle.numbers.specs.Numbered.{Numberable}
 
 marks-alike : (g g' h h' : ℕ → Bool) (m i : ℕ) → ((x : ℕ) → x < i + m → g x ≡ g' x) → ((x : ℕ) → x < i + m → h x ≡ h' x)
     → marks g (only h (range i m)) ≡ marks g' (only h' (range i m))
@@ -44,7 +44,7 @@ marks-alike g g' h h' (suc m) i G H =
     go true z = rw (G i (omega arith)) (ap (λ (l : List Bool). g' i ∷ l) z)
     go false z = z
 
-module _ {ks xs ys : List ℕ} {n : ℕ} {fs ts us vs bs : List ℕ} (given : Sound ks xs ys n) (P : Prepared xs ys n fs ts bs us vs n)
+module _ {ks xs ys : List ℕ} {n : ℕ} {fs ts us vs bs : List ℕ} (given : Numberable ks xs ys n) (P : Prepared xs ys n fs ts bs us vs n)
     (rows : RowsBelow (rowOf fs) (freeSet (tableOf ks xs ys n)) n) (room : 4 * n ≤ length fs) where
   abbrev T : Table
   T = tableOf ks xs ys n

@@ -14,7 +14,7 @@ use Rattle.operands.specs.OperandBounds.{outOf}
 use Rattle.written.specs.Canon.{canon}
 
 -- a table of known kinds that earns none of 20 to 23
-pub record Sound (ks xs ys : List ℕ) (n : ℕ) : Type 0 where
+pub record Numberable (ks xs ys : List ℕ) (n : ℕ) : Type 0 where
   pub small : n ≤ 256
   pub known : (e : ℕ) → e < n → getD ks e 0 ≤ Kind.NAME
   pub placed : (w : ℕ) → w < n → outOf (tableOf ks xs ys n) w ≡ false

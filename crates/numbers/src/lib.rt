@@ -5,7 +5,7 @@ ghost use Prim.Native.Nat.{_<_, _≤_};
 ghost use lib.ListN.{length};
 ghost use Rattle.formula.specs.Plain.{tableOf};
 ghost use Rattle.numbers.specs.First.{Told, Firsts, FirstEach};
-ghost use Rattle.numbers.specs.Numbered.{Sound, RoomFor, Numbered};
+ghost use Rattle.numbers.specs.Numbered.{Numberable, RoomFor, Numbered};
 use formula::Kind;
 use rounds::fill;
 use scopes::fill_free_rows;
@@ -57,7 +57,7 @@ fn fill_numbers(
     numbers: &mut [u8],
     marks: &mut [u64],
 )
-    requires { ⌜ Sound (now kinds) (now a) (now b) count × RoomFor count (now free) (now firsts) (now seconds) (now numbers) (now marks) ⌝ }
+    requires { ⌜ Numberable (now kinds) (now a) (now b) count × RoomFor count (now free) (now firsts) (now seconds) (now numbers) (now marks) ⌝ }
     ensures { λ _. ⌜ Told (now (kinds .entry)) (tableOf (now (kinds .entry)) (now (a .entry)) (now (b .entry)) count) count (now (numbers .exit)) ⌝ }
 {
     let mut totals = [0u16; 256];
@@ -92,7 +92,7 @@ fn number_in(
     marks: &mut [u64],
     canon: &mut [u16; 256],
 )
-    requires { ⌜ Sound (now kinds) (now a) (now b) count × RoomFor count (now free) (now firsts) (now seconds) (now numbers) (now marks) ×
+    requires { ⌜ Numberable (now kinds) (now a) (now b) count × RoomFor count (now free) (now firsts) (now seconds) (now numbers) (now marks) ×
         (length (now canon) ≡ 256) ⌝ }
     ensures { λ _. ⌜ Numbered (tableOf (now (kinds .entry)) (now (a .entry)) (now (b .entry)) count) (now (canon .exit)) ×
         (length (now (canon .exit)) ≡ 256) ⌝ }
@@ -114,7 +114,7 @@ fn number_many(
     canon: &mut [u16; 256],
     again: bool,
 )
-    requires { ⌜ Sound (now kinds) (now a) (now b) count × (length (now canon) ≡ 256) ⌝ }
+    requires { ⌜ Numberable (now kinds) (now a) (now b) count × (length (now canon) ≡ 256) ⌝ }
     ensures { λ _. ⌜ Numbered (tableOf (now (kinds .entry)) (now (a .entry)) (now (b .entry)) count) (now (canon .exit)) ×
         (length (now (canon .exit)) ≡ 256) ⌝ }
 {
@@ -150,7 +150,7 @@ pub fn number_formulas(
     count: usize,
     canon: &mut [u16; 256],
 )
-    requires { ⌜ Sound (now kinds) (now a) (now b) count × (length (now canon) ≡ 256) ⌝ }
+    requires { ⌜ Numberable (now kinds) (now a) (now b) count × (length (now canon) ≡ 256) ⌝ }
     ensures { λ _. ⌜ Numbered (tableOf (now (kinds .entry)) (now (a .entry)) (now (b .entry)) count) (now (canon .exit)) ⌝ }
 {
     if 32 < count {
