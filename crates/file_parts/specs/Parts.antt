@@ -30,7 +30,14 @@ module _ {A : Type 0} (s : List ℕ) (limit top : ℕ) {g : Got (List A)} (Store
   part-refused e = rw e at t
 
 -- said of the whole of which a part was read, up to a wider limit
-pub part-as : {A : Type 0} (s : List ℕ) (top : ℕ) {limit wide : ℕ} {g whole : Got (List A)} (Stored : List A → Type 0) (r : Part) → limit ≤ wide → whole ≡ g → PartTells s limit top g Stored r → PartTells s wide top whole Stored r
+pub part-as : {A : Type 0} (s : List ℕ) (top : ℕ) {limit wide : ℕ} {g whole : Got (List A)} (Stored : List A → Type 0) (r : Part)
+    → limit ≤ wide → whole ≡ g → PartTells s limit top g Stored r → PartTells s wide top whole Stored r
 part-as s top Stored (Read n o) l e t =
-    record { list = t .list; many = t .many; few = t .few; reached = record { found = e ∙ t .reached .found; inside = t .reached .inside; near = omega (arith, t .reached .near) }; stored = t .stored }
+    record {
+      list = t .list;
+      many = t .many;
+      few = t .few;
+      reached = record { found = e ∙ t .reached .found; inside = t .reached .inside; near = omega (arith, t .reached .near) };
+      stored = t .stored;
+    }
 part-as s top Stored (Refused n q) l e t = e ∙ t

@@ -64,7 +64,10 @@ returns-4 : tie.Need-returns-4
 returns-4 c = lowest-found _ 3 _ (c .lowest-bit4 .ensures .small) (c .lowest-bit4 .ensures .stands) (omega arith) _ (omega arith)
 
 returns-5 : tie.Need-returns-5
-returns-5 c = lowest-none _ (c .before .before .before .before .before .before .before .before .pre) (c .before .before .before .before .before .before .if1 .left) (c .before .before .before .before .if2 .left) (c .before .before .if3 .left) (c .if4 .left)
+returns-5 c =
+    let first = c .before .before .before .before .before .before in
+    let second = c .before .before .before .before in
+    lowest-none _ (first .before .before .pre) (first .if1 .left) (second .if2 .left) (c .before .before .if3 .left) (c .if4 .left)
 
 pub lowest-spec : {M : Type 1} → statement M
 lowest-spec =
