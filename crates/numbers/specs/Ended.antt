@@ -6,16 +6,17 @@ use Prim.Native.Nat.{ℕ, _*_, _+_, _-_, _<_}
 use native.Mathlib.Omega.{arith}
 use lib.ListN.{length, getD}
 use Rattle.formula.specs.Table.{Table}
+use Rattle.conditions.specs.WellFormed.{WellFormed}
 use Rattle.formula.specs.Plain.{tableOf, tableOf-length, tableOf-kind}
-use Rattle.written.specs.Canon.{least}
-use Rattle.written.specs.CanonLaws.{least-local}
+use Rattle.written.specs.Canon.{least, canon}
+use Rattle.written.specs.CanonLaws.{least-local, canon-inside}
 use Rattle.numbering.specs.Forms.{Fits}
 use Rattle.numbering.specs.Count.{tally, length-tally}
 use Rattle.numbering.specs.FilledCanon.{free-test, has-number, table-canon}
 use Rattle.one_level.specs.Fit.{cell}
 use Rattle.rounds.specs.Stand.{On}
 use Rattle.rounds.specs.Rounds.{Between}
-use Rattle.numbers.specs.First.{numbered, Told, Firsts, FirstEach}
+use Rattle.numbers.specs.First.{numbered, numbered-as, numbered-says, least-found, Told, Firsts, FirstEach}
 use Rattle.numbers.specs.Numbered.{Numbered}
 
 module _ {ks xs ys : List ℕ} {n : ℕ} {fs ts us vs rs bs ss : List ℕ} (B : Between ks xs ys n fs ts us vs rs bs ss 0) where
@@ -49,10 +50,16 @@ module _ {ks xs ys : List ℕ} {n : ℕ} {fs ts us vs rs bs ss : List ℕ} (B : 
           let b : 256 * 0 + f ≡ f = omega arith in
           rw (a, b, tableOf-kind ks xs ys n f l) refl
 
--- so the least of each number is the number of each formula
-pub numbered-each : {ks : List ℕ} (xs ys : List ℕ) {n : ℕ} {rs ls cs : List ℕ} → Told ks (tableOf ks xs ys n) n rs → Firsts ks rs n ls 0
-    → FirstEach rs ls cs n → Numbered (tableOf ks xs ys n) cs
-numbered-each {ks} xs ys {n} {rs} {ls} {cs} t F C e f =
-    let inside : e < n = omega (arith, f .inside, tableOf-length ks xs ys n) in
-    C .each e inside ∙ F .firsts e (omega arith) inside (λ q. f .no-name (tableOf-kind ks xs ys n e inside ∙ q))
-    ∙ ap (λ (m : ℕ). least (numbered ks rs e) m 0) (omega arith) ∙ t e inside
+-- so the least of each number is the number of each formula: some entry, no name, has it
+pub numbered-each : {ks : List ℕ} (xs ys : List ℕ) {n : ℕ} {rs ls cs : List ℕ} → WellFormed (tableOf ks xs ys n) → Told ks (tableOf ks xs ys n) n rs
+    → Firsts ks rs n ls 0 → FirstEach rs ls cs n → Numbered (tableOf ks xs ys n) cs
+numbered-each {ks} xs ys {n} {rs} {ls} {cs} wf t F C e h =
+    let inside : e < n = omega (arith, h, tableOf-length ks xs ys n) in
+    let found : canon T e < n = omega (arith, canon-inside T wf e h, tableOf-length ks xs ys n) in
+    let at : least (numbered ks rs e) n 0 ≡ canon T e = t e inside in
+    let (real, same) = numbered-says ks rs e (canon T e) .says (ap (numbered ks rs e) (sym at) ∙ least-found (numbered ks rs e) n 0 (omega arith)) in
+    C .each e inside ∙ ap (λ (m : ℕ). getD ls m 0) same ∙ F .firsts (canon T e) (omega arith) found real
+    ∙ ap (λ (m : ℕ). least (numbered ks rs (canon T e)) m 0) (omega arith) ∙ numbered-as ks rs e (canon T e) same n ∙ at
+  where
+    T : Table
+    T = tableOf ks xs ys n

@@ -10,17 +10,40 @@ use lib.Dec.{eqb}
 use lib.ListN.{length, getD, set, length-set}
 use lib.Seq.{getD-set-same, getD-set-other}
 use borrow.Author.Tests.{eq-eqb, ne-eqb}
+use Rattle.verdict.specs.Tests.{choose}
+use Rattle.verdict.specs.Tells.{Tells, and-tells, not-tells, eqb-tells}
 use Rattle.formula.specs.Kind
 use Rattle.formula.specs.Table.{Table}
 use Rattle.written.specs.Canon.{least, canon}
+use Rattle.written.specs.CanonLaws.{least-local}
 
 -- entry f is no name and has the number of e
 unfoldable pub numbered : List ℕ → List ℕ → ℕ → ℕ → Bool
 numbered ks rs e f = not (eqb (getD ks f 0) Kind.NAME) && eqb (getD rs e 0) (getD rs f 0)
 
+-- whatever entry has the number
+pub numbered-as : (ks rs : List ℕ) (e f : ℕ) → getD rs e 0 ≡ getD rs f 0 → (n : ℕ) → least (numbered ks rs f) n 0 ≡ least (numbered ks rs e) n 0
+unfolding numbered
+numbered-as ks rs e f q n = least-local (numbered ks rs f) (numbered ks rs e) n 0 (λ d _. rw q refl)
+
+pub numbered-says : (ks rs : List ℕ) (e f : ℕ) → Tells (numbered ks rs e f) ((getD ks f 0 ≢ Kind.NAME) × (getD rs e 0 ≡ getD rs f 0))
+unfolding numbered
+numbered-says ks rs e f = and-tells (not-tells (eqb-tells (getD ks f 0) Kind.NAME)) (eqb-tells (getD rs e 0) (getD rs f 0))
+
 -- the numbers tell the formulas of the first n entries apart
 abbrev pub Told : List ℕ → Table → ℕ → List ℕ → Type 0
 Told ks t n rs = (e : ℕ) → e < n → least (numbered ks rs e) n 0 ≡ canon t e
+
+-- what is found passes
+pub least-found : (ok : ℕ → Bool) (n i : ℕ) → least ok n i < i + n → ok (least ok n i) ≡ true
+unfolding least
+least-found ok zero i h = absurd (omega arith)
+least-found ok (suc n) i h = go (ok i) refl h (least-found ok n (suc i))
+  where
+    go : (b : Bool) → ok i ≡ b → choose b i (least ok n (suc i)) < i + suc n → (least ok n (suc i) < suc i + n → ok (least ok n (suc i)) ≡ true)
+        → ok (choose b i (least ok n (suc i))) ≡ true
+    go true q l ih = q
+    go false q l ih = ih (omega arith)
 
 -- of the entries from e on, ls has the least of each number
 pub record Firsts (ks rs : List ℕ) (n : ℕ) (ls : List ℕ) (e : ℕ) : Type 0 where

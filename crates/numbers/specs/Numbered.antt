@@ -7,7 +7,6 @@ use native.Mathlib.Omega.{arith}
 use lib.ListN.{length, getD}
 use Rattle.formula.specs.Kind
 use Rattle.formula.specs.Table.{Table}
-use Rattle.formula.specs.Codes.{Formula}
 use Rattle.formula.specs.Plain.{tableOf}
 use Rattle.conditions.specs.WellFormed.{WellFormed}
 use Rattle.operands.specs.OperandBounds.{outOf}
@@ -37,6 +36,6 @@ pub room-few : {n : ℕ} {fs us vs rs ss : List ℕ} → n ≤ 32 → length fs 
     → length ss ≡ 256 → RoomFor n fs us vs rs ss
 room-few h f u v r s = record { free = omega arith; firsts = omega arith; seconds = omega arith; cells = omega arith; marks = omega arith }
 
--- each entry that is no name has the number of its formula
+-- each entry has the number of its formula, a name that of its fixpoint's
 abbrev pub Numbered : Table → List ℕ → Type 0
-Numbered t cs = (e : ℕ) → Formula t e → getD cs e 0 ≡ canon t e
+Numbered t cs = (e : ℕ) → e < length t → getD cs e 0 ≡ canon t e

@@ -10,8 +10,15 @@ use Rattle.verdict.specs.Tells.{Tells, eqb-tells, and-tells, not-tells}
 use Rattle.formula.specs.Kind
 use Rattle.formula.specs.Table.{Table, kind}
 use Rattle.formula.specs.Codes.{Formula}
+use Rattle.formula.specs.Shape.{shape, NoName}
+use Rattle.formula.specs.ShapeLaws.{name-shape}
+use Rattle.formula.specs.Target.{target}
+use Rattle.formula.specs.TableLaws.{fix-in, target-by}
+use Rattle.conditions.specs.WellFormed.{WellFormed}
+use Rattle.conditions.specs.WellFormedLaws.{name-fix}
 use Rattle.written.specs.Form.{Form, same-form}
 use Rattle.written.specs.Written.{written, SameFormula}
+use Rattle.written.specs.WrittenLaws.{written-target}
 use Rattle.written.specs.Canon.{least, has-form, canon}
 
 least-passes : (ok : ℕ → Bool) (n i e : ℕ) → i ≤ e → e < i + n → ok e ≡ true → (least ok n i < i + n) × (ok (least ok n i) ≡ true)
@@ -64,3 +71,12 @@ module _ (t : Table) where
   pub canon-holds : (e f : ℕ) → SameFormula t e f → canon t e ≡ canon t f
   unfolding canon
   canon-holds e f q = ap (λ (F : Form). least (has-form t F) (length t) 0) q
+
+  real : (e : ℕ) → e < length t → NoName (shape t e) → Formula t e
+  real e h n = record { inside = h; no-name = λ q. absurd (rw (name-shape t e q) at n) }
+
+  -- a name has the number of its fixpoint
+  pub canon-inside : WellFormed t → (e : ℕ) → e < length t → canon t e < length t
+  canon-inside wf e h =
+      let F = target-by t e (Formula t) (real e h) (λ x q. let (σ, a, s) = name-fix t wf e x q in real x (fix-in t x a σ s) (rw s tt)) in
+      omega (arith, canon-holds e (target t e) (written-target t wf e), canon-formula (target t e) F .inside)

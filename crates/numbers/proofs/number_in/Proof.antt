@@ -32,7 +32,8 @@ returns : tie.Need-returns
 returns c =
     let found = c .before .before .before .before in
     let filled = found .before .before .before .before .before .before .before .before .before .before .before .before .before in
-    (numbered-each _ _ (filled .fill-numbers .ensures) (found .find-firsts .ensures) (c .take-firsts .ensures), c .take-firsts .ensures .count)
+    let given = filled .before .before .before .before .before .before .before .before .before .before .before in
+    (numbered-each _ _ (given .pre .0 .wf) (filled .fill-numbers .ensures) (found .find-firsts .ensures) (c .take-firsts .ensures), c .take-firsts .ensures .count)
 
 pub number-in-spec : {M : Type 1} → statement M
 number-in-spec =
