@@ -51,15 +51,22 @@ module _ {ks xs ys : List ℕ} {n : ℕ} {fs ts us vs rs bs ss : List ℕ} (B : 
           rw (a, b, tableOf-kind ks xs ys n f l) refl
 
 -- so the least of each number is the number of each formula: some entry, no name, has it
-pub numbered-each : {ks : List ℕ} (xs ys : List ℕ) {n : ℕ} {rs ls cs : List ℕ} → WellFormed (tableOf ks xs ys n) → Told ks (tableOf ks xs ys n) n rs
-    → Firsts ks rs n ls 0 → FirstEach rs ls cs n → Numbered (tableOf ks xs ys n) cs
-numbered-each {ks} xs ys {n} {rs} {ls} {cs} wf t F C e h =
-    let inside : e < n = omega (arith, h, tableOf-length ks xs ys n) in
-    let found : canon T e < n = omega (arith, canon-inside T wf e h, tableOf-length ks xs ys n) in
-    let at : least (numbered ks rs e) n 0 ≡ canon T e = t e inside in
-    let (real, same) = numbered-says ks rs e (canon T e) .says (ap (numbered ks rs e) (sym at) ∙ least-found (numbered ks rs e) n 0 (omega arith)) in
-    C .each e inside ∙ ap (λ (m : ℕ). getD ls m 0) same ∙ F .firsts (canon T e) (omega arith) found real
-    ∙ ap (λ (m : ℕ). least (numbered ks rs (canon T e)) m 0) (omega arith) ∙ numbered-as ks rs e (canon T e) same n ∙ at
-  where
-    T : Table
-    T = tableOf ks xs ys n
+module _ {ks : List ℕ} (xs ys : List ℕ) {n : ℕ} {rs ls : List ℕ} (wf : WellFormed (tableOf ks xs ys n)) (t : Told ks (tableOf ks xs ys n) n rs)
+    (F : Firsts ks rs n ls 0) where
+  abbrev table : Table
+  table = tableOf ks xs ys n
+
+  first-is : (e : ℕ) → e < n → getD ls (getD rs e 0) 0 ≡ canon table e
+  first-is e h =
+      let c = canon table e in
+      let found : c < n = omega (arith, canon-inside table wf e (omega (arith, tableOf-length ks xs ys n)), tableOf-length ks xs ys n) in
+      let at : least (numbered ks rs e) n 0 ≡ c = t e h in
+      let (real, same) = numbered-says ks rs e c .says (ap (numbered ks rs e) (sym at) ∙ least-found (numbered ks rs e) n 0 (omega arith)) in
+      ap (λ (m : ℕ). getD ls m 0) same ∙ F .firsts c (omega arith) found real
+      ∙ ap (λ (m : ℕ). least (numbered ks rs c) m 0) (omega arith) ∙ numbered-as ks rs e c same n ∙ at
+
+  pub numbered-each : {old cs : List ℕ} → FirstEach rs ls old cs n → Numbered table old cs
+  numbered-each C = record {
+    each = λ e h. let inside : e < n = omega (arith, h, tableOf-length ks xs ys n) in C .each e inside ∙ first-is e inside;
+    beyond = λ e h. C .beyond e (omega (arith, h, tableOf-length ks xs ys n));
+  }

@@ -100,14 +100,19 @@ module _ {ks rs : List ℕ} {n : ℕ} {ls : List ℕ} {e : ℕ} (inside : e < n)
           later (yes w) = absurd (z (rw w refl))
           later (no w) = omega arith
 
--- so for the first n entries
-pub record FirstEach (rs ls cs : List ℕ) (n : ℕ) : Type 0 where
+-- so for the first n entries of a column that was old
+pub record FirstEach (rs ls old cs : List ℕ) (n : ℕ) : Type 0 where
   pub count : length cs ≡ 256
   pub each : (e : ℕ) → e < n → getD cs e 0 ≡ getD ls (getD rs e 0) 0
+  pub beyond : (e : ℕ) → n ≤ e → getD cs e 0 ≡ getD old e 0
 
-pub first-more : {rs ls cs : List ℕ} {e : ℕ} → e < 256 → FirstEach rs ls cs e → (x : ℕ) → x ≡ getD ls (getD rs e 0) 0
-    → FirstEach rs ls (set cs e x) (e + 1)
-first-more {rs} {ls} {cs} {e} h F x q = record { count = length-set cs e x ∙ F .count; each = λ d l. go d l (ℕ-discrete d e) }
+pub first-more : {rs ls old cs : List ℕ} {e : ℕ} → e < 256 → FirstEach rs ls old cs e → (x : ℕ) → x ≡ getD ls (getD rs e 0) 0
+    → FirstEach rs ls old (set cs e x) (e + 1)
+first-more {rs} {ls} {old} {cs} {e} h F x q = record {
+  count = length-set cs e x ∙ F .count;
+  each = λ d l. go d l (ℕ-discrete d e);
+  beyond = λ d l. getD-set-other cs e d x 0 (λ z. omega arith) ∙ F .beyond d (omega arith);
+}
   where
     go : (d : ℕ) → d < e + 1 → Dec (d ≡ e) → getD (set cs e x) d 0 ≡ getD ls (getD rs d 0) 0
     go d l (yes z) = rw z (getD-set-same cs e x 0 (omega (arith, F .count)) ∙ q)

@@ -1,5 +1,5 @@
 -- What the numbering asks of a table in plain numbers, and what it says.
-use mathlib.Core.Path.{_≡_}
+use mathlib.Core.Path.{_≡_, _∙_}
 use mathlib.Core.Bool.{false}
 use mathlib.Core.List.{List}
 use Prim.Native.Nat.{ℕ, _*_, _<_, _≤_}
@@ -36,6 +36,11 @@ pub room-few : {n : ℕ} {fs us vs rs ss : List ℕ} → n ≤ 32 → length fs 
     → length ss ≡ 256 → RoomFor n fs us vs rs ss
 room-few h f u v r s = record { free = omega arith; firsts = omega arith; seconds = omega arith; cells = omega arith; marks = omega arith }
 
--- each entry has the number of its formula, a name that of its fixpoint's
-abbrev pub Numbered : Table → List ℕ → Type 0
-Numbered t cs = (e : ℕ) → e < length t → getD cs e 0 ≡ canon t e
+-- each entry has the number of its formula, a name that of its fixpoint's; beyond the table everything is as it was
+pub record Numbered (t : Table) (old cs : List ℕ) : Type 0 where
+  pub each : (e : ℕ) → e < length t → getD cs e 0 ≡ canon t e
+  pub beyond : (e : ℕ) → length t ≤ e → getD cs e 0 ≡ getD old e 0
+
+-- twice
+pub numbered-again : {t : Table} {old cs ds : List ℕ} → Numbered t old cs → Numbered t cs ds → Numbered t old ds
+numbered-again a b = record { each = b .each; beyond = λ e h. b .beyond e h ∙ a .beyond e h }

@@ -35,7 +35,7 @@ fn find_firsts(kinds: &[u8; 256], numbers: &[u8], count: usize, least: &mut [u16
 // And so for each entry: the least that has its number.
 fn take_firsts(numbers: &[u8], count: usize, least: &[u16; 256], canon: &mut [u16; 256])
     requires { ⌜ (count ≤ 256) × (count ≤ length (now numbers)) × (length (now canon) ≡ 256) ⌝ }
-    ensures { λ _. ⌜ FirstEach (now (numbers .entry)) (now (least .entry)) (now (canon .exit)) count ⌝ }
+    ensures { λ _. ⌜ FirstEach (now (numbers .entry)) (now (least .entry)) (now (canon .entry)) (now (canon .exit)) count ⌝ }
 {
     let mut e: usize = 0;
     while e < count {
@@ -94,8 +94,8 @@ fn number_in(
 )
     requires { ⌜ Numberable (now kinds) (now a) (now b) count × RoomFor count (now free) (now firsts) (now seconds) (now numbers) (now marks) ×
         (length (now canon) ≡ 256) ⌝ }
-    ensures { λ _. ⌜ Numbered (tableOf (now (kinds .entry)) (now (a .entry)) (now (b .entry)) count) (now (canon .exit)) ×
-        (length (now (canon .exit)) ≡ 256) ⌝ }
+    ensures { λ _. ⌜ Numbered (tableOf (now (kinds .entry)) (now (a .entry)) (now (b .entry)) count) (now (canon .entry))
+        (now (canon .exit)) × (length (now (canon .exit)) ≡ 256) ⌝ }
 {
     fill_numbers(kinds, a, b, count, free, firsts, seconds, numbers, marks);
     let mut least = [0u16; 256];
@@ -115,8 +115,8 @@ fn number_many(
     again: bool,
 )
     requires { ⌜ Numberable (now kinds) (now a) (now b) count × (length (now canon) ≡ 256) ⌝ }
-    ensures { λ _. ⌜ Numbered (tableOf (now (kinds .entry)) (now (a .entry)) (now (b .entry)) count) (now (canon .exit)) ×
-        (length (now (canon .exit)) ≡ 256) ⌝ }
+    ensures { λ _. ⌜ Numbered (tableOf (now (kinds .entry)) (now (a .entry)) (now (b .entry)) count) (now (canon .entry))
+        (now (canon .exit)) × (length (now (canon .exit)) ≡ 256) ⌝ }
 {
     if again {
         number_many(kinds, a, b, count, canon, false);
@@ -151,7 +151,8 @@ pub fn number_formulas(
     canon: &mut [u16; 256],
 )
     requires { ⌜ Numberable (now kinds) (now a) (now b) count × (length (now canon) ≡ 256) ⌝ }
-    ensures { λ _. ⌜ Numbered (tableOf (now (kinds .entry)) (now (a .entry)) (now (b .entry)) count) (now (canon .exit)) ⌝ }
+    ensures { λ _. ⌜ Numbered (tableOf (now (kinds .entry)) (now (a .entry)) (now (b .entry)) count) (now (canon .entry))
+        (now (canon .exit)) ⌝ }
 {
     if 32 < count {
         number_many(kinds, a, b, count, canon, 256 < count);

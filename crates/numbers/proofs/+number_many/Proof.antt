@@ -5,7 +5,7 @@ use native.Mathlib.Omega.{arith}
 use borrow.Fn.Kinds.{In}
 use borrow.Fn.PlainCycle.{Measures, is, falls, and}
 use Rattle.bits.specs.IfSet.{ifSet}
-use Rattle.numbers.specs.Numbered.{room-many}
+use Rattle.numbers.specs.Numbered.{numbered-again, room-many}
 use Rattle.numbers.proofs.number_in.Reads as number-in
 use Rattle.numbers.proofs.number_many.Reads as number-many
 use Rattle.numbers.proofs.number_many.Kinds as kinds
@@ -38,7 +38,7 @@ module _ (t : ℕ) where
       (omega (arith, rw (asked .if1 .taken) at (given .0)), (given .1 .0, c .before .number-many .ensures .1))
 
   returns : lts.Need-returns claims here number-many.Post
-  returns c = c .number-many2 .ensures
+  returns c = (numbered-again (c .before .before .number-many .ensures .0) (c .number-many2 .ensures .0), c .number-many2 .ensures .1)
 
   free-room : lts.Need-slice-aggregate-number-in claims here number-many.Post
   free-room c = refl

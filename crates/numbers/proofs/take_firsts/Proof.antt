@@ -1,5 +1,5 @@
 -- The invariant: the entries passed have the least of their numbers.
-use mathlib.Core.Path.{_≡_, ap}
+use mathlib.Core.Path.{_≡_, refl, ap}
 use Prim.Native.Nat.{ℕ, _-_, _<_, _≤_}
 use native.Mathlib.Omega.{arith}
 use lib.ListN.{getD}
@@ -8,13 +8,13 @@ use Rattle.numbers.proofs.take_firsts.Statement.{statement}
 use Rattle.numbers.proofs.take_firsts.Tie as tie
 
 abbrev Inv-loop : tie.InvT-loop
-Inv-loop numbers count least canon₀ e₀ canon e = (e ≤ count) × FirstEach numbers least canon e
+Inv-loop numbers count least canon₀ e₀ canon e = (e ≤ count) × FirstEach numbers least canon₀ canon e
 
 abbrev μ-loop : tie.MeasureT-loop
 μ-loop numbers count least canon₀ e₀ canon e = count - e
 
 loop-holds : tie.Need-loop-holds Inv-loop μ-loop
-loop-holds c = (omega arith, record { count = c .before .pre .2; each = λ e h. absurd (omega arith) })
+loop-holds c = (omega arith, record { count = c .before .pre .2; each = λ e h. absurd (omega arith); beyond = λ e h. refl })
 
 -- the entry of the turn is one of the table
 module _ (c : tie.In-loop Inv-loop μ-loop) where
