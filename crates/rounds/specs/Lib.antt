@@ -1,3 +1,4 @@
 pub mod Stand
+pub mod NumberMore
 pub mod Marked
 pub mod Rounds

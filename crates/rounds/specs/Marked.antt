@@ -21,7 +21,8 @@ use Rattle.one_level.specs.Kinds.{kindOf, firstOf, secondOf, kind-two, kind-ste
 use Rattle.one_level.specs.Fit.{cell, Fit}
 use Rattle.one_level.specs.LevelTest.{Columns, Index, kind-at, first-at, second-at, fit-says, alike-index}
 use Rattle.searching.specs.Search.{markIn, markOf, mark-constant, mark-letter, mark-one, mark-two}
-use Rattle.rounds.specs.Stand.{On, left, fits, Turn, inside, k-few, kids, index, cell-old, from}
+use Rattle.rounds.specs.Stand.{On, left, fits, Turn, inside, k-few, kids, index}
+use Rattle.rounds.specs.NumberMore.{cell-old, from}
 
 -- a mark goes by what the one-level test compares
 mark-same : (k x n m y p q : ℕ) → (Kind.LETTER ≤ k → k < Kind.OR → x ≡ y) → (Kind.OR ≤ k → n ≡ p) → (Kind.OR ≤ k → k ≤ Kind.AND → m ≡ q)

@@ -34,7 +34,8 @@ use Rattle.one_level.specs.Fit.{cell, Fit}
 use Rattle.one_level.specs.LevelTest.{Columns, kind-at}
 use Rattle.searching.specs.Search.{Room, Candidate, Searched, Chosen, markOf}
 use Rattle.rounds.specs.Stand.{On, due, left, left-is, left-skip, left-place, due-late, few}
-use Rattle.rounds.specs.Stand.{Stand, Turn, name-stands, taken-stands, fresh-stands}
+use Rattle.rounds.specs.Stand.{Stand, Turn}
+use Rattle.rounds.specs.NumberMore.{name-stands, taken-stands, fresh-stands}
 use Rattle.rounds.specs.Marked.{Marked, fit-marked, name-marked, formula-marked}
 
 -- one number more for e: with one name fewer bound than bs had
