@@ -9,7 +9,7 @@ use Rattle.formula.specs.Table.{Table, Entry}
 use Rattle.formula.specs.Shape.{or, box, nu}
 use Rattle.written.specs.Form.{Form, pair, modal, bind, bound, same-form}
 use Rattle.written.specs.Written.{written, SameFormula}
-use Rattle.written.specs.Canon.{canon}
+use Rattle.written.specs.Canon.{canon, key}
 
 -- an entry with field A, and with both
 abbrev one : ℕ → ℕ → Entry
@@ -72,6 +72,11 @@ nu-and-mu = differ _ _ refl
 twin-numbers : numbers twins (0 ∷ 1 ∷ 2 ∷ 3 ∷ 4 ∷ 5 ∷ 6 ∷ 7 ∷ 8 ∷ []) ≡ 2 ∷ 1 ∷ 2 ∷ 2 ∷ 1 ∷ 2 ∷ 1 ∷ 7 ∷ 8 ∷ []
 unfolding numbers canon ℕ-discrete
 twin-numbers = refl
+
+-- codes 10 and 11, entry 5 out of focus and in it, are compared as 4 and 5, entry 2 with the same focus
+twin-keys : (key twins 10 ≡ 4) × (key twins 11 ≡ 5)
+unfolding canon ℕ-discrete
+twin-keys = (refl, refl)
 
 -- 6: nu x. nu y. (box x or box y), and 13: nu x. nu y. (box y or box x); 5: the inner fixpoint of 6 by itself
 abbrev nested : Table
