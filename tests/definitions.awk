@@ -51,8 +51,8 @@ rust {
     column = RLENGTH
     text = substr($0, column + 1)
 }
-# what is derived of a type is a theorem, and the kit's
-text ~ /^deriving / { next }
+# what is derived of a type is a theorem, and the kit's: its name stands for the type
+text ~ /^deriving / { sub(/^deriving .* as /, "", text); named("name", text, ""); next }
 # a module's parameters may take more lines
 header { say("line", text); if (text ~ /where$/) header = 0; next }
 { while (depth && column < body[depth]) { depth--; block = 0 } }

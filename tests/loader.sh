@@ -84,6 +84,8 @@ pair loop-without-box
 denied 'loop without a box' 'refuse 39 at 1' "${files[@]}"
 pair letter-unfocused
 granted 'focus left inside the loop' 7 "${files[@]}"
+pair twins
+granted 'one formula under two entry numbers' 7 "${files[@]}"
 
 # Damaged copies of the good pair, each in one thing.
 pair nu-of-box

@@ -5,7 +5,7 @@ set -euo pipefail
 cd "$(dirname "$0")/.."
 
 archive=target/staticlib/libgate.a
-corpora=(tests/vectors/{base/eval,t01/write,base/check,t02/check}.bin)
+corpora=(tests/vectors/{base/eval,t01/write,base/check,t02/check,t03/check}.bin)
 if [ ! -f "$archive" ]; then
     echo "memory: $archive is not there: build it first" >&2
     exit 1

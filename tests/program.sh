@@ -103,6 +103,7 @@ for claim in "$samples"/*/claim.bin; do
         mu-of-box-refocused) line='refuse 39 at 4' ;;
         loop-without-box) line='refuse 39 at 1' ;;
         letter-unfocused) line='accept' ;;
+        twins) line='accept' ;;
         *) line='(no line is written down for this sample)' ;;
     esac
     fresh "$sample"

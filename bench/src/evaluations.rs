@@ -80,36 +80,40 @@ pub fn growing() -> Vec<Family<Evaluation>> {
 /// What a mount's claim is like: whatever is asked for (letter 0) is reached on
 /// every way (letter 1), rest (letter 2) can be reached, and the stop (letter 3)
 /// is never met.
+pub const TYPICAL: [(Kind, u16, u16); 24] = [
+    (Kind::Name, 13, 0),
+    (Kind::Name, 9, 0),
+    (Kind::Negated, 0, 0),
+    (Kind::Letter, 1, 0),
+    (Kind::True, 0, 0),
+    (Kind::Diamond, 4, 0),
+    (Kind::Box, 1, 0),
+    (Kind::And, 5, 6),
+    (Kind::Or, 3, 7),
+    (Kind::Mu, 8, 0),
+    (Kind::Or, 2, 9),
+    (Kind::Box, 0, 0),
+    (Kind::And, 10, 11),
+    (Kind::Nu, 12, 0),
+    (Kind::Name, 18, 0),
+    (Kind::Letter, 2, 0),
+    (Kind::Diamond, 14, 0),
+    (Kind::Or, 15, 16),
+    (Kind::Mu, 17, 0),
+    (Kind::Name, 23, 0),
+    (Kind::Negated, 3, 0),
+    (Kind::Box, 19, 0),
+    (Kind::And, 20, 21),
+    (Kind::Nu, 22, 0),
+];
+
+pub const TYPICAL_MEMBERS: [u16; 3] = [13, 18, 23];
+
 fn typical(name: &str, model: &[u8]) -> Evaluation {
-    let entries = [
-        Entry::new(Kind::Name, 13, 0),
-        Entry::new(Kind::Name, 9, 0),
-        Entry::new(Kind::Negated, 0, 0),
-        Entry::new(Kind::Letter, 1, 0),
-        Entry::new(Kind::True, 0, 0),
-        Entry::new(Kind::Diamond, 4, 0),
-        Entry::new(Kind::Box, 1, 0),
-        Entry::new(Kind::And, 5, 6),
-        Entry::new(Kind::Or, 3, 7),
-        Entry::new(Kind::Mu, 8, 0),
-        Entry::new(Kind::Or, 2, 9),
-        Entry::new(Kind::Box, 0, 0),
-        Entry::new(Kind::And, 10, 11),
-        Entry::new(Kind::Nu, 12, 0),
-        Entry::new(Kind::Name, 18, 0),
-        Entry::new(Kind::Letter, 2, 0),
-        Entry::new(Kind::Diamond, 14, 0),
-        Entry::new(Kind::Or, 15, 16),
-        Entry::new(Kind::Mu, 17, 0),
-        Entry::new(Kind::Name, 23, 0),
-        Entry::new(Kind::Negated, 3, 0),
-        Entry::new(Kind::Box, 19, 0),
-        Entry::new(Kind::And, 20, 21),
-        Entry::new(Kind::Nu, 22, 0),
-    ];
+    let entries = TYPICAL.map(|(kind, a, b)| Entry::new(kind, a, b));
     Evaluation {
         name: name.to_string(),
-        claim: draft::claim(&entries, &[13, 18, 23]).bytes,
+        claim: draft::claim(&entries, &TYPICAL_MEMBERS).bytes,
         model: model.to_vec(),
     }
 }

@@ -6,6 +6,7 @@
 mod cases;
 mod evaluations;
 mod growth;
+mod numbering;
 mod size;
 mod stack;
 mod timing;
@@ -15,6 +16,7 @@ use cases::Case;
 use evaluations::Evaluation;
 use gate_tests::lent::{Lengths, Lent, LentRecords, LentWords, RecordSlices, Slices, PROOF_BYTES};
 use gate_tests::{Gate, Records};
+use numbering::Numbering;
 use reference::Refusal;
 use std::hint::black_box;
 use timing::Row;
@@ -46,9 +48,20 @@ fn print_all() {
     for case in writings::all() {
         println!("{:<34} {}", case.name, written(&case));
     }
+    head("number formulas, by check");
+    for case in numbering::all() {
+        let (whole, numbered) = numbered(&case);
+        println!("{:<34} {whole}", case.name);
+        let limit = format!("  numbering, limit {} µs", case.limit);
+        println!("{limit:<34} {numbered}");
+    }
     for family in cases::growing() {
         head(&format!("growth, {}", family.name));
         family.print(checked);
+    }
+    for family in numbering::growing() {
+        head(&format!("growth, {}", family.name));
+        family.print(|case| numbered(case).1);
     }
     for family in evaluations::growing() {
         head(&format!("growth, {}", family.name));
@@ -72,6 +85,21 @@ fn checked(case: &Case) -> Row {
         || gate_tests::check(&case.claim, &case.proof),
         || reference::check(&case.claim, &case.proof),
     )
+}
+
+/// The check of a claim whose formulas are numbered, and the numbering alone.
+fn numbered(case: &Numbering) -> (Row, Row) {
+    let Numbering { claim, proof, .. } = case;
+    let whole = timing::side_by_side(
+        || gate_tests::check(claim, proof),
+        || reference::check(claim, proof),
+    );
+    let before = timing::side_by_side(
+        || gate_tests::check(claim, b""),
+        || reference::check(claim, b""),
+    );
+    let numbered = whole.less(&before);
+    (whole, numbered)
 }
 
 /// An open gate for each call: a gate that holds a permit would refuse at once. It is
@@ -143,6 +171,12 @@ fn written(case: &Writing) -> Row {
 
 fn stacks() {
     for case in cases::checks() {
+        let bytes = stack::deepest(|| {
+            gate_tests::check(&case.claim, &case.proof);
+        });
+        print_stack("check", case.name, bytes);
+    }
+    for case in numbering::all() {
         let bytes = stack::deepest(|| {
             gate_tests::check(&case.claim, &case.proof);
         });

@@ -19,6 +19,14 @@ impl fmt::Display for Row {
 }
 
 impl Row {
+    /// What is left of both times without another's.
+    pub fn less(&self, other: &Row) -> Row {
+        Row {
+            gate: self.gate - other.gate,
+            reference: self.reference - other.reference,
+        }
+    }
+
     /// By which power of the size both have grown, where the size has grown that many times.
     pub fn exponents(&self, first: &Row, times: f64) -> (f64, f64) {
         let power = |last: f64, first: f64| (last / first).ln() / times.ln();

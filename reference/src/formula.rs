@@ -1,5 +1,5 @@
 //! Entries as formulas: bounds, free names, alternation and guardedness
-//! (refusals 20 to 23), and the target of an operand.
+//! (refusals 20 to 23).
 
 use crate::bits::Bits;
 use crate::claim::{Entry, Kind};
@@ -100,16 +100,4 @@ pub fn free_names(entries: &[Entry]) -> Vec<Bits> {
         below.push(names);
     }
     below.into_iter().map(|names| names.free).collect()
-}
-
-/// "The target of an operand is the operand, or its fixpoint if it is a name."
-pub fn target(entries: &[Entry], operand: u16) -> u16 {
-    match entries[usize::from(operand)] {
-        Entry {
-            kind: Kind::Name,
-            a,
-            ..
-        } => a,
-        _ => operand,
-    }
 }

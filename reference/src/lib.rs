@@ -6,7 +6,7 @@
 //! The layers, from the bytes up:
 //! * `bytes`, `claim`, `proof`, `model` read files (refusals 10–14, 30–34, 60–64);
 //! * `formula` judges entries (20–23), `tree` child numbers (35);
-//! * `alike` tells which entries are the same formula (no verdict asks it yet);
+//! * `alike` tells which entries are the same formula, `sequent` reads codes by it;
 //! * `rules` and `loops` judge a decoded proof (36–39);
 //! * `evaluate` gives each entry its meaning in a model;
 //! * `write` judges records by the same numbers and lays files down (70);

@@ -2,16 +2,25 @@
 
 use crate::proof::{Proof, Rule};
 use crate::refusal::Refusal;
-use crate::sequent::in_focus;
+use crate::sequent::{in_focus, Sequents};
 
 pub struct Loops<'a> {
     proof: &'a Proof,
+    sequents: &'a Sequents,
     parents: &'a [Option<usize>],
 }
 
 impl<'a> Loops<'a> {
-    pub fn new(proof: &'a Proof, parents: &'a [Option<usize>]) -> Loops<'a> {
-        Loops { proof, parents }
+    pub fn new(
+        proof: &'a Proof,
+        sequents: &'a Sequents,
+        parents: &'a [Option<usize>],
+    ) -> Loops<'a> {
+        Loops {
+            proof,
+            sequents,
+            parents,
+        }
     }
 
     /// "linked to a proper ancestor of rule 10 with the same sequent". The link
@@ -20,7 +29,7 @@ impl<'a> Loops<'a> {
         let link = usize::from(self.proof.nodes[leaf].back);
         self.is_proper_ancestor(link, leaf)
             && self.proof.nodes[link].rule == Rule::D
-            && self.proof.sequent(link) == self.proof.sequent(leaf)
+            && self.sequents.of(link) == self.sequents.of(leaf)
     }
 
     fn is_proper_ancestor(&self, link: usize, leaf: usize) -> bool {
@@ -42,7 +51,7 @@ impl<'a> Loops<'a> {
 
     fn nodes_with_focus(&self) -> Vec<bool> {
         (0..self.proof.nodes.len())
-            .map(|node| self.proof.sequent(node).iter().any(|&code| in_focus(code)))
+            .map(|node| self.sequents.of(node).iter().any(|&code| in_focus(code)))
             .collect()
     }
 

@@ -1,23 +1,29 @@
 //! The root and the rules, judged on a decoded proof (refusals 36 and 37, with
-//! the loops' 38 and 39 in their order).
+//! the loops' 38 and 39 in their order). Everything here goes by members, which
+//! are compared by formula; the codes of the file are not looked at again.
 
-use crate::claim::{Claim, Entry, Kind};
-use crate::formula::target;
+use crate::alike::least_alike;
+use crate::claim::{may_be_member, Claim, Entry, Kind};
 use crate::loops::Loops;
 use crate::proof::{Node, Proof, Rule};
 use crate::refusal::Refusal;
-use crate::sequent::{entry_of, focused, in_focus, insert, remove, unfocused, with_focus_of};
+use crate::sequent::{
+    entry_of, focused, in_focus, insert, member, members, remove, unfocused, with_focus_of,
+    Sequents,
+};
 use crate::tree;
 
 /// "35 by rising parent ..., then by rising orphan; 36; 37 or 38 by rising
 /// node; 39 by rising leaf." The entries have passed 20 to 23.
 pub fn judge(claim: &Claim, proof: &Proof) -> Result<(), Refusal> {
     let parents = tree::parents(&proof.nodes)?;
-    if !root_is_claim(claim, proof) {
+    let least = least_alike(&claim.entries);
+    let sequents = Sequents::read(proof, &least);
+    if !root_is_claim(claim, &least, &sequents) {
         return Err(Refusal::new(36, 0));
     }
-    let loops = Loops::new(proof, &parents);
-    let mut rules = Rules::new(&claim.entries, proof);
+    let loops = Loops::new(proof, &sequents, &parents);
+    let mut rules = Rules::new(&claim.entries, &least, &sequents);
     for (number, node) in proof.nodes.iter().enumerate() {
         if node.rule == Rule::Back {
             if !loops.has_companion(number) {
@@ -31,38 +37,45 @@ pub fn judge(claim: &Claim, proof: &Proof) -> Result<(), Refusal> {
 }
 
 /// "The root's members are the claim's, all in focus."
-fn root_is_claim(claim: &Claim, proof: &Proof) -> bool {
-    let members = claim.members.iter().map(|&member| focused(member));
-    proof.sequent(0).iter().copied().eq(members)
+fn root_is_claim(claim: &Claim, least: &[u16], sequents: &Sequents) -> bool {
+    let mut claimed = Vec::with_capacity(24);
+    let codes = claim.members.iter().map(|&entry| focused(entry));
+    members(least, codes, &mut claimed);
+    sequents.of(0) == claimed
 }
 
 struct Rules<'a> {
     entries: &'a [Entry],
-    proof: &'a Proof,
+    /// For each entry the least that is the same formula.
+    least: &'a [u16],
+    sequents: &'a Sequents,
     /// The sequent a child must have, kept to spare an allocation per node.
     wanted: Vec<u16>,
 }
 
 impl<'a> Rules<'a> {
-    fn new(entries: &'a [Entry], proof: &'a Proof) -> Rules<'a> {
+    fn new(entries: &'a [Entry], least: &'a [u16], sequents: &'a Sequents) -> Rules<'a> {
         Rules {
             entries,
-            proof,
+            least,
+            sequents,
             wanted: Vec::with_capacity(32),
         }
     }
 
-    fn entry(&self, code: u16) -> Entry {
-        self.entries[entry_of(code)]
+    fn entry(&self, member: u16) -> Entry {
+        self.entries[entry_of(member)]
     }
 
     fn kept(&mut self, number: usize, node: &Node) -> bool {
-        let sequent = self.proof.sequent(number);
+        let sequent = self.sequents.of(number);
         match node.rule {
             Rule::Ax1 => self.is_ax1(sequent),
-            Rule::Ax2 => matches!(sequent, [code] if self.entry(*code).kind == Kind::True),
+            Rule::Ax2 => matches!(sequent, [only] if self.entry(*only).kind == Kind::True),
             Rule::D => self.child_of(node.first) == sequent,
-            _ => self.principal_fits(node, sequent) && self.step_kept(node, sequent),
+            _ => self
+                .principal(node, sequent)
+                .is_some_and(|principal| self.step_kept(node, sequent, principal)),
         }
     }
 
@@ -78,17 +91,19 @@ impl<'a> Rules<'a> {
     }
 
     /// The principal "must belong to it and, for rules 2 to 6, be of the kind
-    /// the rule names". Being a member, it is in range and no name.
-    fn principal_fits(&self, node: &Node, sequent: &[u16]) -> bool {
-        sequent.binary_search(&node.principal).is_ok()
-            && node
-                .rule
-                .kind()
-                .is_none_or(|kind| self.entry(node.principal).kind == kind)
+    /// the rule names". "A principal that is a name or out of range still gets
+    /// 37", though a name is the same formula as its fixpoint.
+    fn principal(&self, node: &Node, sequent: &[u16]) -> Option<u16> {
+        if !may_be_member(self.entries, node.principal / 2) {
+            return None;
+        }
+        let principal = member(self.least, node.principal);
+        let fits = |kind| self.entry(principal).kind == kind;
+        (sequent.binary_search(&principal).is_ok() && node.rule.kind().is_none_or(fits))
+            .then_some(principal)
     }
 
-    fn step_kept(&mut self, node: &Node, sequent: &[u16]) -> bool {
-        let principal = node.principal;
+    fn step_kept(&mut self, node: &Node, sequent: &[u16], principal: u16) -> bool {
         let Entry { a, b, .. } = self.entry(principal);
         match node.rule {
             Rule::Or => {
@@ -100,9 +115,9 @@ impl<'a> Rules<'a> {
                 self.side_plus(node.first, sequent, principal, &[a])
                     && self.side_plus(node.second, sequent, principal, &[b])
             }
-            Rule::Box => self.box_kept(node, sequent),
+            Rule::Box => self.box_kept(node, sequent, principal),
             Rule::Mu => {
-                let body = unfocused(target(self.entries, a));
+                let body = unfocused(self.target(a));
                 self.side_plus(node.first, sequent, principal, &[body])
             }
             Rule::Nu => {
@@ -124,39 +139,45 @@ impl<'a> Rules<'a> {
 
     /// "the principal is a box, all others are diamonds; the child has the
     /// targets of the principal and of those diamonds, each with its focus"
-    fn box_kept(&mut self, node: &Node, sequent: &[u16]) -> bool {
+    fn box_kept(&mut self, node: &Node, sequent: &[u16], principal: u16) -> bool {
         self.wanted.clear();
-        for &code in sequent {
-            let entry = self.entry(code);
-            if code != node.principal && entry.kind != Kind::Diamond {
+        for &member in sequent {
+            let entry = self.entry(member);
+            if member != principal && entry.kind != Kind::Diamond {
                 return false;
             }
-            let code = self.kept_focus(entry.a, code);
-            insert(&mut self.wanted, code);
+            let target = self.kept_focus(entry.a, member);
+            insert(&mut self.wanted, target);
         }
         self.child_of(node.first) == self.wanted
     }
 
-    /// The code of an operand's target, with the focus of `code`.
-    fn kept_focus(&self, operand: u16, code: u16) -> u16 {
-        with_focus_of(target(self.entries, operand), code)
+    /// "The target of an operand is the operand, or its fixpoint if it is a
+    /// name." The two are one formula then.
+    fn target(&self, operand: u16) -> u16 {
+        self.least[usize::from(operand)]
+    }
+
+    /// An operand's target, with the focus of a member.
+    fn kept_focus(&self, operand: u16, member: u16) -> u16 {
+        with_focus_of(self.target(operand), member)
     }
 
     /// Whether the child is the side together with `added`, as a set. "The side
-    /// is the sequent without the principal": the same entry in the other focus
-    /// stays.
+    /// is the sequent without the principal": the same formula in the other
+    /// focus stays.
     fn side_plus(&mut self, child: u16, sequent: &[u16], principal: u16, added: &[u16]) -> bool {
         self.wanted.clear();
         self.wanted.extend_from_slice(sequent);
         remove(&mut self.wanted, principal);
-        for &code in added {
-            insert(&mut self.wanted, code);
+        for &member in added {
+            insert(&mut self.wanted, member);
         }
         self.child_of(child) == self.wanted
     }
 
     /// A child's sequent; the tree is known to be good.
     fn child_of(&self, child: u16) -> &'a [u16] {
-        self.proof.sequent(usize::from(child))
+        self.sequents.of(usize::from(child))
     }
 }

@@ -1,11 +1,9 @@
 //! What the generator promises: the same inputs for the same seed, every
 //! outcome, proofs that are accepted, and claims that hold.
 
+use reference::corpus::CheckRecord;
 use reference::generate::{self, Tally};
-use reference::{
-    check, corpus, describe, evaluate, judge, least_alike, Claim, Decoded, Kind, Proof, Rule,
-};
-use std::collections::BTreeSet;
+use reference::{check, corpus, describe, evaluate, judge, Claim, Kind, Proof, Rule};
 
 #[test]
 fn the_same_seed_gives_the_same_inputs() {
@@ -143,48 +141,43 @@ fn loops_that_leave_focus_are_good_and_bad() {
     );
 }
 
-/// The pairs of entries that are the same formula and both stand in a node's
-/// sequent or as its principal.
-fn twins_used(Decoded { claim, proof }: &Decoded) -> Vec<(u16, u16)> {
-    let least = least_alike(&claim.entries);
-    let with_principal = |rule: Rule| rule.low_bits() & 1 == 1;
-    let nodes = proof.nodes.iter().filter(|node| with_principal(node.rule));
-    let codes = proof.codes.iter().copied();
-    let used: BTreeSet<u16> = codes
-        .chain(nodes.map(|node| node.principal))
-        .map(|code| code / 2)
-        .filter(|&entry| usize::from(entry) < least.len())
-        .filter(|&entry| claim.entries[usize::from(entry)].kind != Kind::Name)
-        .collect();
-    let below = |entry: u16| used.range(..entry).map(move |&other| (other, entry));
-    used.iter()
-        .flat_map(|&entry| below(entry))
-        .filter(|&(one, other)| least[usize::from(one)] == least[usize::from(other)])
+/// The kinds of the twins in a proof; none if it is not decoded.
+fn kinds_of_twins(record: &CheckRecord) -> Vec<Kind> {
+    let Some(decoded) = judge(&record.claim, &record.proof).decoded else {
+        return Vec::new();
+    };
+    let entries = &decoded.claim.entries;
+    let twins = generate::twins_used(&decoded).into_iter();
+    twins
+        .map(|(entry, _)| entries[usize::from(entry)].kind)
         .collect()
 }
 
 #[test]
 fn files_with_twins_use_them() {
     let records = || generate::twins(3).take(5_000);
-    let (mut used, mut compound, mut fixpoints) = (0, 0, 0);
+    let (mut compound, mut fixpoints) = (0, 0);
     for record in records() {
-        let Some(decoded) = judge(&record.claim, &record.proof).decoded else {
-            continue;
-        };
-        let kinds = twins_used(&decoded)
-            .into_iter()
-            .map(|(entry, _)| decoded.claim.entries[usize::from(entry)].kind);
-        let kinds: Vec<Kind> = kinds.collect();
-        used += usize::from(!kinds.is_empty());
+        let kinds = kinds_of_twins(&record);
+        assert!(!kinds.is_empty());
         compound += usize::from(kinds.iter().any(|&kind| kind as u8 >= Kind::Or as u8));
         fixpoints += usize::from(kinds.iter().any(|kind| matches!(kind, Kind::Mu | Kind::Nu)));
     }
     let tally = Tally::of(records().map(|record| record.answer));
-    println!("{used} of 5000 use twins, {compound} compound ones, {fixpoints} fixpoints\n{tally}");
-    assert!(used * 3 > 5_000 && compound * 3 > 5_000 && fixpoints * 6 > 5_000);
+    println!("of 5000 {compound} have compound twins, {fixpoints} fixpoints\n{tally}");
+    assert!(compound * 3 > 5_000 && fixpoints * 6 > 5_000);
     assert_occur(&tally, [36, 37, 38, 39]);
     assert!(
         tally.count(0) * 100 >= tally.total() * 25,
         "few accepted in\n{tally}"
     );
+}
+
+#[test]
+fn a_third_of_all_files_use_twins() {
+    let records = generate::checks(1).take(20_000);
+    let used = records.filter(|record| !kinds_of_twins(record).is_empty());
+    let used = used.count();
+    println!("{used} of 20000 files use twins");
+    assert!(used * 3 > 20_000);
 }

@@ -93,7 +93,7 @@ fn members_24_and_25() {
         describe(check(&claim.bytes, &proof.bytes))
     };
     assert_eq!(verdict(24), "accept");
-    assert_eq!(verdict(25), "refuse 12 at 56");
+    assert_eq!(verdict(25), "refuse 12 at 104");
 }
 
 #[test]

@@ -10,7 +10,11 @@ fn vectors(file: &str) -> Vec<u8> {
 
 #[test]
 fn every_check_agrees() {
-    let files = [("base/check.bin", 3551), ("t02/check.bin", 1527)];
+    let files = [
+        ("base/check.bin", 3551),
+        ("t02/check.bin", 1527),
+        ("t03/check.bin", 1534),
+    ];
     for (file, count) in files {
         let checks = corpus::read_checks(&vectors(file)).expect("whole records");
         assert_eq!(checks.len(), count, "{file}");
@@ -19,7 +23,7 @@ fn every_check_agrees() {
             let (got, expected) = (describe(got), describe(record.answer));
             assert_eq!(got, expected, "{file}, record {index}");
         }
-        println!("vectors: {count} check records agree");
+        println!("vectors: {count} check records of {file} agree");
     }
 }
 

@@ -1,18 +1,23 @@
--- the tests of the two axioms are exact on strictly rising codes
-use mathlib.Core.Path.{_≡_, refl, sym, _∙_}
-use mathlib.Core.Logic.{_≢_, _⊎_, inl, inr}
-use mathlib.Core.List.{List, [], _∷_, List·Memᴰ·head, List·Memᴰ·tail, List·Memᴰ·not-nil, List·Memᴰ·eq-of-singleton}
-use mathlib.Core.Bool.{false≢true}
-use Prim.Native.Nat.{ℕ, _<_}
+-- the tests of the two axioms are exact on a list of keys that stands for the sequent
+use mathlib.Core.Path.{_≡_, refl, sym, ap, subst, _∙_}
+use mathlib.Core.Logic.{_⊎_, inl, inr}
+use mathlib.Core.List.{List}
+use Prim.Native.Nat.{ℕ}
 use native.Mathlib.Omega.{arith}
 use Rattle.formula.specs.Kind
-use Rattle.verdict.specs.Sets.{Set, Same, none, elements, _plus_}
+use Rattle.verdict.specs.Sets.{Set, Same, _⊆_, none, elements, _plus_}
 use Rattle.formula.specs.Table.{Table, entry, kind}
 use Rattle.formula.specs.Codes.{entryOf}
+use Rattle.formula.specs.Members.{kind-formula}
+use Rattle.conditions.specs.WellFormed.{WellFormed}
+use Rattle.written.specs.Written.{SameFormula}
+use Rattle.written.specs.Canon.{key}
+use Rattle.written.specs.SameKind.{true-like, letter-like, negated-like}
+use Rattle.calculus.specs.Sequents.{Member, read}
 use Rattle.calculus.specs.Judge.{opposite, clash, truth}
-use Rattle.verdict.specs.Lists.{Rising}
 use Rattle.verdict.specs.Tells.{Tells, tells-as, eqb-tells, and-tells, or-tells}
-use Rattle.verdict.specs.SetTells.{lists-plus, Lists}
+use Rattle.verdict.specs.SetTells.{any-tells, all-tells}
+use Rattle.calculus.specs.KeyLaws.{Good, Keys, key-good, key-read, key-holds, keys-self, keys-out}
 
 -- c is a letter and d its negation
 pub record Opposite (t : Table) (c d : ℕ) : Type 0 where
@@ -20,38 +25,18 @@ pub record Opposite (t : Table) (c d : ℕ) : Type 0 where
   pub negated-kind : kind t (entryOf d) ≡ Kind.NEGATED
   pub one-letter : entry t (entryOf c) .a ≡ entry t (entryOf d) .a
 
-pub record Two (t : Table) (S : Set ℕ) : Type 0 where
+pub record Two (t : Table) (S : Set Member) : Type 0 where
   pub plain : ℕ
   pub negated : ℕ
   pub opposed : Opposite t plain negated
-  pub exactly : Same S (none plus plain plus negated)
+  pub exactly : Same S (none plus read t plain plus read t negated)
 
-pub record One (t : Table) (S : Set ℕ) : Type 0 where
-  pub member : ℕ
-  pub of-kind : kind t (entryOf member) ≡ Kind.TRUE
-  pub exactly : Same S (none plus member)
+pub record One (t : Table) (S : Set Member) : Type 0 where
+  pub only : ℕ
+  pub of-kind : kind t (entryOf only) ≡ Kind.TRUE
+  pub exactly : Same S (none plus read t only)
 
-nothing : Lists [] none
-nothing = record { into = λ c m. List·Memᴰ·not-nil m; from = λ c m. absurd m }
-
-either : {c x y : ℕ} → (none plus x plus y) c → (c ≡ x) ⊎ (c ≡ y)
-either (inl (inl z)) = absurd z
-either (inl (inr e)) = inl e
-either (inr e) = inr e
-
-only : {c x : ℕ} → (none plus x) c → c ≡ x
-only (inl z) = absurd z
-only (inr e) = e
-
-three : {c d e x y : ℕ} → c < d → d < e → (c ≡ x) ⊎ (c ≡ y) → (d ≡ x) ⊎ (d ≡ y) → (e ≡ x) ⊎ (e ≡ y) → ⊥
-three h k (inl a) (inl b) z = omega arith
-three h k (inr a) (inr b) z = omega arith
-three h k (inl a) (inr b) (inl c) = omega arith
-three h k (inl a) (inr b) (inr c) = omega arith
-three h k (inr a) (inl b) (inl c) = omega arith
-three h k (inr a) (inl b) (inr c) = omega arith
-
-module _ (t : Table) where
+module _ (t : Table) (wf : WellFormed t) {l : List ℕ} {S : Set Member} (K : Keys t l S) where
   opposite-tells : (c d : ℕ) → Tells (opposite t c d) (Opposite t c d)
   unfolding opposite
   opposite-tells c d = tells-as
@@ -59,62 +44,89 @@ module _ (t : Table) where
       (λ z. (z .plain-kind, (z .negated-kind, z .one-letter)))
       (and-tells (eqb-tells _ _) (and-tells (eqb-tells _ _) (eqb-tells _ _)))
 
-  distinct : {c d : ℕ} → Opposite t c d → c ≢ d
-  distinct {c} {d} z e = let q : kind t (entryOf c) ≡ Kind.NEGATED = rw e (z .negated-kind) in omega (arith, z .plain-kind)
+  -- the entry of a key has the formula of the code's
+  key-same : (c : ℕ) → Good t c → SameFormula t (entryOf c) (entryOf (key t c))
+  key-same c C = ap (λ (m : Member). m .0) (sym (key-read t c C))
 
-  pair-two : {c d : ℕ} → Opposite t c d ⊎ Opposite t d c → Two t (elements (c ∷ d ∷ []))
-  pair-two {c} {d} (inl z) = record { plain = c; negated = d; opposed = z; exactly = swap (lists-plus c (lists-plus d nothing)) }
+  -- so the keys of a letter and its negation are a letter and its negation
+  opposite-keys : (c d : ℕ) → Opposite t c d → Opposite t (key t c) (key t d)
+  opposite-keys c d z =
+      let C = kind-formula t (entryOf c) (omega (arith, z .plain-kind)) (omega (arith, z .plain-kind)) in
+      let D = kind-formula t (entryOf d) (omega (arith, z .negated-kind)) (omega (arith, z .negated-kind)) in
+      let (p, a) = letter-like t wf (entryOf c) (entryOf (key t c)) (z .plain-kind) (key-good t c C) (key-same c C) in
+      let (q, b) = negated-like t wf (entryOf d) (entryOf (key t d)) (z .negated-kind) (key-good t d D) (key-same d D) in
+      record { plain-kind = p; negated-kind = q; one-letter = a ∙ z .one-letter ∙ sym b }
+
+  true-key : (c : ℕ) → kind t (entryOf c) ≡ Kind.TRUE → kind t (entryOf (key t c)) ≡ Kind.TRUE
+  true-key c k =
+      let C = kind-formula t (entryOf c) (omega arith) (omega arith) in
+      true-like t wf (entryOf c) (entryOf (key t c)) k (key-good t c C) (key-same c C)
+
+  -- a member whose key is c
+  at-key : (m : Member) (e c : ℕ) → Good t e → m ≡ read t e → key t e ≡ c → m ≡ read t c
+  at-key m e c E q r = q ∙ sym (key-read t e E) ∙ ap (read t) r
+
+  abbrev Pair : Type 0
+  Pair = (c : ℕ) × elements l c × ((d : ℕ) × elements l d × (Opposite t c d × (elements l ⊆ (λ x. (x ≡ c) ⊎ (x ≡ d)))))
+
+  pair-two : Pair → Two t S
+  pair-two (c, m, (d, n, (z, f))) = record { plain = c; negated = d; opposed = z; exactly = record { into = into; from = from } }
     where
-      swap : Same (elements (c ∷ d ∷ [])) (none plus d plus c) → Same (elements (c ∷ d ∷ [])) (none plus c plus d)
-      swap s = record { into = λ x m. turn (s .into x m); from = λ x m. s .from x (turn m) }
-        where
-          turn : {x y z : ℕ} → (none plus y plus z) x → (none plus z plus y) x
-          turn (inl (inl e)) = absurd e
-          turn (inl (inr e)) = inr e
-          turn (inr e) = inl (inr e)
-  pair-two {c} {d} (inr z) = record { plain = d; negated = c; opposed = z; exactly = lists-plus c (lists-plus d nothing) }
+      turn : (x : Member) (e : ℕ) → Good t e → x ≡ read t e → (key t e ≡ c) ⊎ (key t e ≡ d) → (none plus read t c plus read t d) x
+      turn x e E q (inl r) = inl (inr (at-key x e c E q r))
+      turn x e E q (inr r) = inr (at-key x e d E q r)
 
-  two-pair : (c d : ℕ) → (z : Two t (elements (c ∷ d ∷ []))) → Opposite t c d ⊎ Opposite t d c
-  two-pair c d z = go (either (z .exactly .into c (List·Memᴰ·head refl))) (either (z .exactly .into d (List·Memᴰ·tail (List·Memᴰ·head refl))))
-      (in-pair (z .exactly .from (z .plain) (inl (inr refl)))) (in-pair (z .exactly .from (z .negated) (inr refl)))
+      into : S ⊆ (none plus read t c plus read t d)
+      into x s = let (e, E, q, k) = K .from x s in turn x e E q (f (key t e) k)
+
+      from : (none plus read t c plus read t d) ⊆ S
+      from x (inl (inl e)) = absurd e
+      from x (inl (inr e)) = subst S (sym e) (keys-self t K c m)
+      from x (inr e) = subst S (sym e) (keys-self t K d n)
+
+  two-pair : Two t S → Pair
+  two-pair z =
+      let a = keys-out t K (z .plain) (z .exactly .from (read t (z .plain)) (inl (inr refl))) in
+      let b = keys-out t K (z .negated) (z .exactly .from (read t (z .negated)) (inr refl)) in
+      (key t (z .plain), a, (key t (z .negated), b, (opposite-keys (z .plain) (z .negated) (z .opposed), others)))
     where
-      in-pair : {x : ℕ} → elements (c ∷ d ∷ []) x → (x ≡ c) ⊎ (x ≡ d)
-      in-pair (List·Memᴰ·head e) = inl e
-      in-pair (List·Memᴰ·tail m) = inr (List·Memᴰ·eq-of-singleton m)
+      turn : (x e : ℕ) → x ≡ key t e → (none plus read t (z .plain) plus read t (z .negated)) (read t e) → (x ≡ key t (z .plain)) ⊎ (x ≡ key t (z .negated))
+      turn x e q (inl (inl w)) = absurd w
+      turn x e q (inl (inr w)) = inl (q ∙ key-holds t e (z .plain) w)
+      turn x e q (inr w) = inr (q ∙ key-holds t e (z .negated) w)
 
-      go : (c ≡ z .plain) ⊎ (c ≡ z .negated) → (d ≡ z .plain) ⊎ (d ≡ z .negated) → (z .plain ≡ c) ⊎ (z .plain ≡ d) → (z .negated ≡ c) ⊎ (z .negated ≡ d) → Opposite t c d ⊎ Opposite t d c
-      go _ _ (inl a) (inl b) = absurd (distinct (z .opposed) (a ∙ sym b))
-      go _ _ (inl a) (inr b) = inl (rw (a, b) at (z .opposed))
-      go _ _ (inr a) (inl b) = inr (rw (a, b) at (z .opposed))
-      go _ _ (inr a) (inr b) = absurd (distinct (z .opposed) (a ∙ sym b))
+      others : elements l ⊆ (λ x. (x ≡ key t (z .plain)) ⊎ (x ≡ key t (z .negated)))
+      others x k = let (e, E, q, s) = K .into x k in turn x e q (z .exactly .into (read t e) s)
 
-  pub clash-tells : (l : List ℕ) → Rising l → Tells (clash t l) (Two t (elements l))
+  pub clash-tells : Tells (clash t l) (Two t S)
   unfolding clash
-  clash-tells [] r = record { says = λ h. absurd (false≢true h); holds = λ z. absurd (List·Memᴰ·not-nil (z .exactly .from (z .negated) (inr refl))) }
-  clash-tells (c ∷ []) r = record {
-    says = λ h. absurd (false≢true h);
-    holds = λ z. absurd (distinct (z .opposed)
-        (List·Memᴰ·eq-of-singleton (z .exactly .from (z .plain) (inl (inr refl))) ∙ sym (List·Memᴰ·eq-of-singleton (z .exactly .from (z .negated) (inr refl)))));
-  }
-  clash-tells (c ∷ d ∷ []) r = tells-as pair-two (two-pair c d) (or-tells (opposite-tells c d) (opposite-tells d c))
-  clash-tells (c ∷ d ∷ e ∷ l) r = record {
-    says = λ h. absurd (false≢true h);
-    holds = λ z. absurd (three (r 0 (omega arith)) (r 1 (omega arith))
-        (either (z .exactly .into c (List·Memᴰ·head refl)))
-        (either (z .exactly .into d (List·Memᴰ·tail (List·Memᴰ·head refl))))
-        (either (z .exactly .into e (List·Memᴰ·tail (List·Memᴰ·tail (List·Memᴰ·head refl))))));
-  }
+  clash-tells = tells-as pair-two two-pair
+      (any-tells (λ c. any-tells (λ d. and-tells (opposite-tells c d) (all-tells (λ x. or-tells (eqb-tells x c) (eqb-tells x d)) l)) l) l)
 
-  pub truth-tells : (l : List ℕ) → Rising l → Tells (truth t l) (One t (elements l))
+  abbrev Single : Type 0
+  Single = (c : ℕ) × elements l c × ((kind t (entryOf c) ≡ Kind.TRUE) × (elements l ⊆ (λ x. x ≡ c)))
+
+  single-one : Single → One t S
+  single-one (c, m, (k, f)) = record { only = c; of-kind = k; exactly = record { into = into; from = from } }
+    where
+      into : S ⊆ (none plus read t c)
+      into x s = let (e, E, q, n) = K .from x s in inr (at-key x e c E q (f (key t e) n))
+
+      from : (none plus read t c) ⊆ S
+      from x (inl e) = absurd e
+      from x (inr e) = subst S (sym e) (keys-self t K c m)
+
+  one-single : One t S → Single
+  one-single z = (key t (z .only), keys-out t K (z .only) (z .exactly .from (read t (z .only)) (inr refl)), (true-key (z .only) (z .of-kind), others))
+    where
+      turn : (x e : ℕ) → x ≡ key t e → (none plus read t (z .only)) (read t e) → x ≡ key t (z .only)
+      turn x e q (inl w) = absurd w
+      turn x e q (inr w) = q ∙ key-holds t e (z .only) w
+
+      others : elements l ⊆ (λ x. x ≡ key t (z .only))
+      others x k = let (e, E, q, s) = K .into x k in turn x e q (z .exactly .into (read t e) s)
+
+  pub truth-tells : Tells (truth t l) (One t S)
   unfolding truth
-  truth-tells [] r = record { says = λ h. absurd (false≢true h); holds = λ z. absurd (List·Memᴰ·not-nil (z .exactly .from (z .member) (inr refl))) }
-  truth-tells (c ∷ []) r = tells-as
-      (λ e. record { member = c; of-kind = e; exactly = lists-plus c nothing })
-      (λ z. rw (only (z .exactly .into c (List·Memᴰ·head refl))) (z .of-kind))
-      (eqb-tells (kind t (entryOf c)) Kind.TRUE)
-  truth-tells (c ∷ d ∷ l) r = record {
-    says = λ h. absurd (false≢true h);
-    holds = λ z. let a = only (z .exactly .into c (List·Memᴰ·head refl)) in
-        let b = only (z .exactly .into d (List·Memᴰ·tail (List·Memᴰ·head refl))) in
-        absurd (omega (arith, r 0 (omega arith)));
-  }
+  truth-tells = tells-as single-one one-single
+      (any-tells (λ c. and-tells (eqb-tells (kind t (entryOf c)) Kind.TRUE) (all-tells (λ x. eqb-tells x c) l)) l)

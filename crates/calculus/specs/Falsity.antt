@@ -8,6 +8,7 @@ use Rattle.formula.specs.Kind
 use Rattle.formula.specs.Table.{Table, entry, kind}
 use Rattle.formula.specs.Codes.{Formula}
 use Rattle.formula.specs.Target.{targetA, targetB}
+use Rattle.written.specs.Written.{SameFormula}
 
 -- a property of entries and states
 abbrev pub Family : Type 1
@@ -38,3 +39,7 @@ pub record Falsity (t : Table) (m : Model) : Type 1 where
   pub refuted-false : (j e s : ℕ) → s < m .size → Refuted j e s → false-at e s
   pub more-steps : (j e s : ℕ) → Refuted j e s → Refuted (suc j) e s
   pub complete : (e s : ℕ) → s < m .size → Formula t e → false-at e s → (j : ℕ) × Refuted j e s
+  -- both go by the formula, and so does what a box is about
+  pub false-like : (e f s : ℕ) → s < m .size → SameFormula t e f → false-at e s → false-at f s
+  pub refuted-like : (j e f s : ℕ) → s < m .size → Formula t f → SameFormula t e f → Refuted j e s → Refuted j f s
+  pub box-like : (e f : ℕ) → kind t e ≡ Kind.BOX → Formula t f → SameFormula t e f → SameFormula t (targetA t e) (targetA t f)

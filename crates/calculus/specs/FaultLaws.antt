@@ -116,8 +116,8 @@ module _ (c : Claim) (d : Derivation) (G : Given c d) where
     claim-earn {k} {q} h = go (pick-refuses (root c (plain p)) (rules-stage c d) h)
       where
         go : ((root c (plain p) ≡ false) × (36 ≡ k) × (0 ≡ q)) ⊎ ((root c (plain p) ≡ true) × (rules-stage c d ≡ refused k q)) → Earns c d k q
-        go (inl (f, e, z)) = rw (← e, ← z) (other-root T (fails (root-tells c d) f))
-        go (inr (r, h)) = rules-earn (root-tells c d .says r) h
+        go (inl (f, e, z)) = rw (← e, ← z) (other-root T (fails (root-tells c d G) f))
+        go (inr (r, h)) = rules-earn (root-tells c d G .says r) h
 
   -- no number lies
   pub refused-earned : {k q : ℕ} → judge c d ≡ refused k q → Earns c d k q
@@ -139,7 +139,7 @@ module _ (c : Claim) (d : Derivation) (G : Given c d) where
   tree-passes T = children-pass (tree-children p T) ∙ all-scanned (λ _. 35) (length p) adopted-told (claim-stage c d) (tree-adopted p T)
 
   claim-passes : Tree p → Claimed c d → judge c d ≡ rules-stage c d
-  claim-passes T C = tree-passes T ∙ rw (root-tells c d .holds C) refl
+  claim-passes T C = tree-passes T ∙ rw (root-tells c d G .holds C) refl
 
   pub earned-refused : {k q : ℕ} → Earns c d k q → judge c d ≡ refused k q
   earned-refused (bad-child i b n) =
@@ -150,7 +150,7 @@ module _ (c : Claim) (d : Derivation) (G : Given c d) where
       none : Adopted p q → ⊥
       none (inl e) = z e
       none (inr (v, _, e)) = n v e
-  earned-refused (other-root T n) = tree-passes T ∙ rw (fails-holds (root-tells c d) n) refl
+  earned-refused (other-root T n) = tree-passes T ∙ rw (fails-holds (root-tells c d G) n) refl
   earned-refused (rule-broken {q = q} T C i b n k) =
       claim-passes T C
       ∙ first-scanned (rule-number (plain p)) (length p) (keeps-told T) (loops-stage c d) (record { inside = i; before = b; lacks = k })

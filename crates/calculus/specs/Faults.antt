@@ -9,7 +9,7 @@ use Rattle.formula.specs.Codes.{code}
 use Rattle.formula.specs.Nodes.{Proof, node}
 use Rattle.formula.specs.Claim.{Claim, Derivation}
 use Rattle.calculus.specs.Tree.{Child, Tree}
-use Rattle.calculus.specs.Sequents.{rule, sequent}
+use Rattle.calculus.specs.Sequents.{read, rule, sequent}
 use Rattle.calculus.specs.Paths.{Path}
 use Rattle.calculus.specs.Rules.{Keeps, BackLeaf}
 use Rattle.calculus.specs.Loops.{GoodLoop}
@@ -38,7 +38,7 @@ module _ (p : Proof) where
 
 -- the root's members are the claim's, all in focus
 abbrev pub Claimed : Claim → Derivation → Type 0
-Claimed c d = Same (sequent (d .nodes) 0) (image (λ e. code e 1) (elements (c .members)))
+Claimed c d = Same (sequent (c .entries) (d .nodes) 0) (image (λ e. read (c .entries) (code e 1)) (elements (c .members)))
 
 -- all numbers before q
 abbrev pub Before : ℕ → (ℕ → Type 0) → Type 0

@@ -3,7 +3,7 @@ use mathlib.Core.List.{List, [], _∷_}
 use mathlib.Core.Bool.{Bool, true, false, not, _&&_, _||_}
 use Prim.Native.Nat.{ℕ, zero, suc, _-_}
 use lib.Dec.{eqb, ltb, leb}
-use lib.ListN.{getD}
+use lib.ListN.{length, getD}
 use Rattle.formula.specs.Kind
 use Rattle.formula.specs.Rule
 use Rattle.formula.specs.Table.{Table, entry, kind}
@@ -12,6 +12,7 @@ use Rattle.formula.specs.Codes.{code, entryOf, focusOf}
 use Rattle.verdict.specs.Tests.{choose, all, any, member, remove, each}
 use Rattle.formula.specs.Fields.{hasFirst, hasSecond}
 use Rattle.formula.specs.Claim.{Claim, Derivation}
+use Rattle.written.specs.Canon.{canon, key}
 use Rattle.calculus.specs.Rules.{stepped}
 use Rattle.calculus.specs.View.{View, quick}
 use Rattle.verdict.specs.Verdict.{Verdict, accepted, refused, pick, scan}
@@ -55,17 +56,15 @@ module _ (q : View) where
 unfoldable pub opposite : Table → ℕ → ℕ → Bool
 opposite t c d = eqb (kind t (entryOf c)) Kind.LETTER && (eqb (kind t (entryOf d)) Kind.NEGATED && eqb (entry t (entryOf c) .a) (entry t (entryOf d) .a))
 
+-- exactly a letter and its negation
 unfoldable pub clash : Table → List ℕ → Bool
-unfolding opposite
-clash t [] = false
-clash t (c ∷ []) = false
-clash t (c ∷ d ∷ []) = opposite t c d || opposite t d c
-clash t (c ∷ d ∷ e ∷ l) = false
+unfolding opposite any all
+clash t l = any (λ c. any (λ d. opposite t c d && all (λ x. eqb x c || eqb x d) l) l) l
 
+-- exactly one member, true
 unfoldable pub truth : Table → List ℕ → Bool
-truth t [] = false
-truth t (c ∷ []) = eqb (kind t (entryOf c)) Kind.TRUE
-truth t (c ∷ d ∷ l) = false
+unfolding any all
+truth t l = any (λ c. eqb (kind t (entryOf c)) Kind.TRUE && all (λ x. eqb x c) l) l
 
 module _ (q : View) where
   abbrev rule : ℕ → ℕ
@@ -83,79 +82,88 @@ module _ (q : View) where
   abbrev pub codes : ℕ → List ℕ
   codes v = q .node v .codes
 
-  abbrev pub firstCodes : ℕ → List ℕ
-  firstCodes v = codes (q .node v .first)
+module _ (t : Table) (q : View) where
+  -- the list of a node by the numbers of its formulas, with focus: a list that stands for its sequent
+  unfoldable pub keys : ℕ → List ℕ
+  unfolding each canon
+  keys v = each (key t) (codes q v)
 
-  abbrev pub secondCodes : ℕ → List ℕ
-  secondCodes v = codes (q .node v .second)
+  abbrev pub firstKeys : ℕ → List ℕ
+  firstKeys v = keys (q .node v .first)
+
+  abbrev pub secondKeys : ℕ → List ℕ
+  secondKeys v = keys (q .node v .second)
 
   unfoldable pub sides : ℕ → List ℕ
-  unfolding remove
-  sides v = remove (principal v) (codes v)
+  unfolding remove keys canon
+  sides v = remove (key t (principal q v)) (keys v)
 
+  -- the principal is an entry, no name, and its formula with its focus is listed
   unfoldable pub belongs : ℕ → Bool
-  unfolding member
-  belongs v = member (codes v) (principal v)
+  unfolding member keys canon
+  belongs v = (ltb (formula q v) (length t) && not (eqb (kind t (formula q v)) Kind.NAME)) && member (keys v) (key t (principal q v))
 
-module _ (t : Table) (q : View) where
   unfoldable pub of-kind : ℕ → ℕ → Bool
   unfolding belongs
-  of-kind k v = belongs q v && eqb (kind t (formula q v)) k
+  of-kind k v = belongs v && eqb (kind t (formula q v)) k
 
-  -- the code of the target of the principal's operand
-  abbrev pub codeA : ℕ → ℕ → ℕ
-  codeA v f = code (targetA t (formula q v)) f
+  -- the target of the principal's operand, by its number, with a focus
+  abbrev pub keyA : ℕ → ℕ → ℕ
+  keyA v f = key t (code (targetA t (formula q v)) f)
 
-  abbrev pub codeB : ℕ → ℕ → ℕ
-  codeB v f = code (targetB t (formula q v)) f
+  abbrev pub keyB : ℕ → ℕ → ℕ
+  keyB v f = key t (code (targetB t (formula q v)) f)
 
   unfoldable pub ax1-kept : ℕ → Bool
-  unfolding clash
-  ax1-kept v = clash t (codes q v)
+  unfolding clash keys
+  ax1-kept v = clash t (keys v)
 
   unfoldable pub ax2-kept : ℕ → Bool
-  unfolding truth
-  ax2-kept v = truth t (codes q v)
+  unfolding truth keys
+  ax2-kept v = truth t (keys v)
 
   unfoldable pub or-kept : ℕ → Bool
-  unfolding of-kind sides target
-  or-kept v = of-kind Kind.OR v && q .same (firstCodes q v) (codeB v (focus q v) ∷ codeA v (focus q v) ∷ sides q v)
+  unfolding of-kind sides target keys canon
+  or-kept v = of-kind Kind.OR v && q .same (firstKeys v) (keyB v (focus q v) ∷ keyA v (focus q v) ∷ sides v)
 
   unfoldable pub and-kept : ℕ → Bool
-  unfolding of-kind sides target
+  unfolding of-kind sides target keys canon
   and-kept v =
       of-kind Kind.AND v
-      && (q .same (firstCodes q v) (codeA v (focus q v) ∷ sides q v) && q .same (secondCodes q v) (codeB v (focus q v) ∷ sides q v))
+      && (q .same (firstKeys v) (keyA v (focus q v) ∷ sides v) && q .same (secondKeys v) (keyB v (focus q v) ∷ sides v))
 
+  -- of two boxes that are the same formula with the same focus, the other is the principal too
   unfoldable pub box-kept : ℕ → Bool
-  unfolding of-kind all sides each target
+  unfolding of-kind all each target keys canon
   box-kept v =
       of-kind Kind.BOX v
-      && (all (λ c. eqb (kind t (entryOf c)) Kind.DIAMOND) (sides q v) && q .same (firstCodes q v) (each (stepped t) (codes q v)))
+      && (all (λ c. eqb (key t c) (key t (principal q v)) || eqb (kind t (entryOf c)) Kind.DIAMOND) (codes q v)
+      && q .same (firstKeys v) (each (λ c. key t (stepped t c)) (codes q v)))
 
   unfoldable pub mu-kept : ℕ → Bool
-  unfolding of-kind sides target
-  mu-kept v = of-kind Kind.MU v && q .same (firstCodes q v) (codeA v 0 ∷ sides q v)
+  unfolding of-kind sides target keys canon
+  mu-kept v = of-kind Kind.MU v && q .same (firstKeys v) (keyA v 0 ∷ sides v)
 
   unfoldable pub nu-kept : ℕ → Bool
-  unfolding of-kind sides target
-  nu-kept v = of-kind Kind.NU v && q .same (firstCodes q v) (codeA v (focus q v) ∷ sides q v)
+  unfolding of-kind sides target keys canon
+  nu-kept v = of-kind Kind.NU v && q .same (firstKeys v) (keyA v (focus q v) ∷ sides v)
 
   unfoldable pub weaken-kept : ℕ → Bool
-  unfolding belongs sides
-  weaken-kept v = belongs q v && q .same (firstCodes q v) (sides q v)
+  unfolding belongs sides keys canon
+  weaken-kept v = belongs v && q .same (firstKeys v) (sides v)
 
   -- F and U: the principal's focus goes from f to g
   unfoldable pub focus-kept : ℕ → ℕ → ℕ → Bool
-  unfolding belongs sides
-  focus-kept f g v = belongs q v && (eqb (focus q v) f && q .same (firstCodes q v) (code (formula q v) g ∷ sides q v))
+  unfolding belongs sides keys canon
+  focus-kept f g v = belongs v && (eqb (focus q v) f && q .same (firstKeys v) (key t (code (formula q v) g) ∷ sides v))
 
   unfoldable pub discharge-kept : ℕ → Bool
-  discharge-kept v = q .same (firstCodes q v) (codes q v)
+  unfolding keys
+  discharge-kept v = q .same (firstKeys v) (keys v)
 
   unfoldable pub back-kept : ℕ → Bool
-  unfolding ancestor
-  back-kept v = ancestor q (q .node v .back) v && (eqb (rule q (q .node v .back)) Rule.D && q .same (codes q v) (codes q (q .node v .back)))
+  unfolding ancestor keys
+  back-kept v = ancestor q (q .node v .back) v && (eqb (rule q (q .node v .back)) Rule.D && q .same (keys v) (keys (q .node v .back)))
 
   -- the test of each rule that speaks of children, in the order of their numbers
   unfoldable pub tests : List (ℕ → Bool)
@@ -203,8 +211,8 @@ module _ (q : View) where
 
 -- the claim's members, all in focus
 unfoldable pub root : Claim → View → Bool
-unfolding each
-root c q = q .same (codes q 0) (each (λ e. code e 1) (c .members))
+unfolding each keys canon
+root c q = q .same (keys (c .entries) q 0) (each (λ e. key (c .entries) (code e 1)) (c .members))
 
 -- what a view earns
 unfoldable pub judgeView : Claim → View → Verdict

@@ -16,14 +16,15 @@ use Rattle.calculus.specs.CorrectNodes.{CorrectNodes}
 use Rattle.verdict.specs.Verdict.{Verdict, accepted, refused, pick, scan}
 use Rattle.calculus.specs.View.{plain}
 use Rattle.calculus.specs.ViewLaws.{quick-plain}
-use Rattle.calculus.specs.Judge.{codes, children-fit, adopted, root, keeps, loop, rule-number, judgeView, judge}
+use Rattle.calculus.specs.Judge.{children-fit, adopted, root, keeps, loop, rule-number, judgeView, judge}
 use Rattle.calculus.specs.Faults.{Claimed, GoodLeaf}
 use Rattle.calculus.specs.Given.{Given}
 use Rattle.verdict.specs.Tells.{Tells}
-use Rattle.verdict.specs.SetTells.{same-tells, lists-each}
 use Rattle.verdict.specs.VerdictLaws.{scan-says, scan-holds, accepted-not-refused}
 use Rattle.calculus.specs.TreeLaws.{children-fit-tells, adopted-tells, to-tree, tree-children, tree-adopted}
 use Rattle.calculus.specs.ClimbLaws.{ancestor-path}
+use Rattle.calculus.specs.KeyLaws.{keys-image, same-keys}
+use Rattle.calculus.specs.PrincipalLaws.{code-good, sequent-keys}
 use Rattle.calculus.specs.RuleLaws.{keeps-tells}
 use Rattle.calculus.specs.LoopLaws.{loop-tells, path-good, good-path-of}
 
@@ -48,9 +49,12 @@ module _ (c : Claim) (d : Derivation) where
   unfolding judge judgeView
   judge-is = ap (judgeView c) (quick-plain p)
 
-pub root-tells : (c : Claim) (d : Derivation) → Tells (root c (plain (d .nodes))) (Claimed c d)
+pub root-tells : (c : Claim) (d : Derivation) → Given c d → Tells (root c (plain (d .nodes))) (Claimed c d)
 unfolding root
-root-tells c d = same-tells (codes (plain (d .nodes)) 0) (lists-each (λ e. code e 1) (c .members))
+root-tells c d G =
+    same-keys (c .entries)
+    (sequent-keys c d G 0 (G .some))
+    (keys-image (c .entries) (λ e. code e 1) (c .members) (λ e n. code-good (c .entries) e 1 (omega arith) (G .claimed e n)))
 
 -- no rule that speaks of children is a leaf's
 step-no-leaf : {c : Claim} {d : Derivation} {v : ℕ} → rule (d .nodes) v ≡ Rule.BACK → Step c d v → ⊥
@@ -97,7 +101,7 @@ module _ (c : Claim) (d : Derivation) (G : Given c d) where
           keeps = K;
           loops = λ l k. leaf-tells c d T l (K l k) .says (loops l (omega arith) (omega arith));
         },
-        root-tells c d .says r,
+        root-tells c d G .says r,
       )
 
   pub correct-accepted : CorrectNodes c d → Claimed c d → judge c d ≡ accepted
@@ -110,7 +114,7 @@ module _ (c : Claim) (d : Derivation) (G : Given c d) where
       ∙ scan-holds (loop (plain (d .nodes))) (λ _. 39) (length (d .nodes)) 0 accepted (λ w _ k. leaf-tells c d (C .tree) w (C .keeps w (omega arith)) .holds (C .loops w (omega arith)))
     where
       picked : claim-stage c d ≡ rules-stage c d
-      picked = rw (root-tells c d .holds R) refl
+      picked = rw (root-tells c d G .holds R) refl
 
   pub exact : (judge c d ≡ accepted) ↔ (CorrectNodes c d × Claimed c d)
   exact = (accepted-correct, λ (C, R). correct-accepted C R)

@@ -7,6 +7,7 @@ use Rattle.formula.specs.Kind
 use Rattle.formula.specs.Table.{Table, entry}
 use Rattle.formula.specs.Shape.{Shape, shape, or, and, diamond, box}
 use Rattle.formula.specs.ShapeLaws.{true-shape, letter-shape, negated-shape, or-shape, and-shape, diamond-shape, box-shape, mu-shape, nu-shape, target-other}
+use Rattle.formula.specs.Members.{formula-shape}
 use Rattle.conditions.specs.WellFormed.{WellFormed}
 use Rattle.meaning.specs.States.{Model, leafSet}
 use Rattle.rank.specs.FalseSets.{two-false, step-false}
@@ -15,6 +16,8 @@ use Rattle.meaning.specs.OwnLaws.{closed, own-law}
 use Rattle.rank.specs.Rank.{Refuted, refuted-as, refuted-more, refuted-false, or-refuted, and-refuted, diamond-refuted, box-refuted, nu-refuted}
 use Rattle.rank.specs.Stages.{rank}
 use Rattle.rank.specs.Complete.{false-refuted}
+use Rattle.written.specs.SameRank.{refuted-like, false-like}
+use Rattle.written.specs.SameKind.{box-like}
 use Rattle.calculus.specs.Falsity.{Falsity, Family, Passes, OneLess}
 
 module _ (t : Table) (wf : WellFormed t) (M : Model) where
@@ -58,4 +61,7 @@ module _ (t : Table) (wf : WellFormed t) (M : Model) where
     refuted-false = λ j e s l r. refuted-false M t wf refl r l;
     more-steps = λ j e s r. refuted-more M t r;
     complete = λ e s l F f. (rank M t, rw (target-other t e (F .no-name)) at (false-refuted M t wf e s l f));
+    false-like = λ e f s l q h. false-like M t wf e f s l q h;
+    refuted-like = λ j e f s l F q r. refuted-like M t wf j e f s l (formula-shape t f F) q r;
+    box-like = λ e f k F q. box-like t wf e f k F q .1;
   }

@@ -13,13 +13,20 @@ pub mod View
 pub mod ViewLaws
 pub mod Judge
 pub mod Steps
+-- the judge compares keys where the rules compare members
+pub mod MemberLaws
+pub mod KeyLaws
+-- and its tests are exact
 pub mod TreeLaws
 pub mod ClimbLaws
 pub mod AxiomLaws
+pub mod PrincipalLaws
+pub mod BoxLaws
 pub mod RuleLaws
 pub mod LoopLaws
 pub mod JudgeExact
 pub mod FaultLaws
+pub mod RuleSamples
 -- soundness
 pub mod Falsity
 pub mod Refutes

@@ -27,7 +27,7 @@ pub record RefutedLeaf (c : Claim) {m : Model} (M : Falsity (c .entries) m) (d :
   pub keeps : BackLeaf c d leaf
   pub state : ℕ
   pub rank : ℕ
-  pub refuted : RefutesWithin M rank state (sequent (d .nodes) leaf)
+  pub refuted : RefutesWithin M rank state (sequent (c .entries) (d .nodes) leaf)
 
 abbrev pub companion : {c : Claim} {m : Model} {M : Falsity (c .entries) m} {d : Derivation} → RefutedLeaf c M d → ℕ
 companion {d} l = node (d .nodes) (l .leaf) .back
@@ -44,14 +44,17 @@ pub record Reached (c : Claim) {m : Model} (M : Falsity (c .entries) m) (d : Der
 pub record Again {t : Table} {m : Model} (M : Falsity t m) (p : Proof) (v j : ℕ) : Type 0 where
   pub state : ℕ
   pub rank : ℕ
-  pub refuted : RefutesWithin M rank state (sequent p v)
+  pub refuted : RefutesWithin M rank state (sequent t p v)
   pub fewer : rank < j
 
 module _ (c : Claim) {m : Model} (M : Falsity (c .entries) m) (d : Derivation) where
+  abbrev t : Table
+  t = c .entries
+
   abbrev p : Proof
   p = d .nodes
 
-  leaf-reached : {v j s : ℕ} → v < length p → rule p v ≡ Rule.BACK → BackLeaf c d v → RefutesWithin M j s (sequent p v) → Reached c M d v j
+  leaf-reached : {v j s : ℕ} → v < length p → rule p v ≡ Rule.BACK → BackLeaf c d v → RefutesWithin M j s (sequent t p v) → Reached c M d v j
   leaf-reached {v} {j} {s} real e k r = record {
     to = record { leaf = v; inside = real; is-back = e; keeps = k; state = s; rank = j; refuted = r };
     above = k .companion;
@@ -70,7 +73,7 @@ module _ (c : Claim) {m : Model} (M : Falsity (c .entries) m) (d : Derivation) w
   }
 
   -- with a leaf its companion is refuted
-  pub companion-refuted : (l : RefutedLeaf c M d) → RefutesWithin M (l .rank) (l .state) (sequent p (companion l))
+  pub companion-refuted : (l : RefutedLeaf c M d) → RefutesWithin M (l .rank) (l .state) (sequent t p (companion l))
   companion-refuted l = record { inside = l .refuted .inside; all = ⊆-trans (l .keeps .same .from) (l .refuted .all) }
 
   -- from a child's leaf to the node's own
@@ -110,7 +113,7 @@ module _ (c : Claim) {m : Model} (M : Falsity (c .entries) m) (d : Derivation) w
         record {
           state = l .state;
           rank = l .rank;
-          refuted = subst (λ (c : ℕ). RefutesWithin M (l .rank) (l .state) (sequent p c)) (at-v (companion l) (on-start up)) (companion-refuted l);
+          refuted = subst (λ (c : ℕ). RefutesWithin M (l .rank) (l .state) (sequent t p c)) (at-v (companion l) (on-start up)) (companion-refuted l);
           fewer = ⊎-elim (λ n. whole-falls v (on-start whole) (ap (rule p) (sym (at-v x n)) ∙ b)) (λ n. whole-falls x n b) (on-join up whole x o);
         }
 
@@ -123,7 +126,7 @@ module _ (c : Claim) {m : Model} (M : Falsity (c .entries) m) (d : Derivation) w
   module _ (ok : CorrectNodes c d) where
     -- for every node, from the last one down
     abbrev pub Statement : ℕ → Type 0
-    Statement v = (j s : ℕ) → RefutesWithin M j s (sequent p v) → Reached c M d v j
+    Statement v = (j s : ℕ) → RefutesWithin M j s (sequent t p v) → Reached c M d v j
 
     child-leaf : {v j : ℕ} → ((w : ℕ) → v < w → w < length p → Statement w) → Stepped M p v j → Again M p v j ⊎ Reached c M d v j
     child-leaf below σ =
@@ -131,12 +134,12 @@ module _ (c : Claim) {m : Model} (M : Falsity (c .entries) m) (d : Derivation) w
 
     module _ (v : ℕ) (real : v < length p) (below : (w : ℕ) → v < w → w < length p → Statement w) where
       -- induction on the rank at one node
-      at-node : (b j s : ℕ) → j < b → RefutesWithin M j s (sequent p v) → Reached c M d v j
+      at-node : (b j s : ℕ) → j < b → RefutesWithin M j s (sequent t p v) → Reached c M d v j
       at-node zero j s h r = absurd (omega arith)
       at-node (suc b) j s h r =
           let lower : Again M p v j → Reached c M d v j = λ a. more (omega (arith, a .fewer)) (at-node b (a .rank) (a .state) (omega (arith, a .fewer)) (a .refuted)) in
           let by-rule : Keeps c d v → Reached c M d v j = elim [
-            | by-children k ↦ ⊎-elim lower (λ ρ. ρ) (child-leaf below (node-step c M d v real r (λ x n. ok .members v x real n) k))
+            | by-children k ↦ ⊎-elim lower (λ ρ. ρ) (child-leaf below (node-step c M d v real (λ x n. ok .members v x real n) r k))
             | by-tree (back e k) ↦ leaf-reached real e k r
           ] in
           by-rule (ok .keeps v real)

@@ -1,18 +1,20 @@
 -- what it means that a state refutes a sequent, plainly and within a number of modal steps
-use mathlib.Core.Path.{_≡_, refl}
+use mathlib.Core.Path.{_≡_, refl, sym}
 use mathlib.Core.Logic.{⊎-elim}
 use mathlib.Core.List.{List, [], _∷_, List·Memᴰ, List·Memᴰ·head, List·Memᴰ·tail, List·Memᴰ·cases-cons, List·Memᴰ·not-nil}
 use Prim.Native.Nat.{ℕ, zero, suc, pred, _+_, _-_, _<_, _≤_}
 use native.Mathlib.Nat.{zero-add, suc-add}
 use native.Mathlib.Omega.{arith}
-use Rattle.verdict.specs.Sets.{Set, _⊆_, elements}
+use Rattle.verdict.specs.Sets.{Set, _⊆_, elements, image, image-⊆}
 use Rattle.formula.specs.Table.{Table}
-use Rattle.formula.specs.Codes.{Formula, code, entryOf, focusOf, code-entry, code-focus}
+use Rattle.formula.specs.Codes.{Formula, entryOf, focusOf}
+use Rattle.written.specs.Written.{written}
 use Rattle.meaning.specs.States.{Model}
+use Rattle.calculus.specs.Sequents.{Member, member, read}
 use Rattle.calculus.specs.Falsity.{Falsity, Family, Passes, OneLess}
 
 module _ {t : Table} {m : Model} (M : Falsity t m) where
-  -- each member, by itself, is false at s
+  -- each listed entry, by itself, is false at s
   pub record Refutes (s : ℕ) (S : Set ℕ) : Type 0 where
     pub inside : s < m .size
     pub all : S ⊆ (λ c. M .false-at (entryOf c) s)
@@ -27,10 +29,11 @@ module _ {t : Table} {m : Model} (M : Falsity t m) where
   OwedNext j zero = M .false-at
   OwedNext j (suc f) = OneLess (M .Refuted) j
 
-  abbrev pub Fails : ℕ → ℕ → Set ℕ
-  Fails j s c = Owed j (focusOf c) (entryOf c) s
+  -- a member fails by every entry of its formula
+  abbrev pub Fails : ℕ → ℕ → Set Member
+  Fails j s (F, f) = (e : ℕ) → Formula t e → written t e ≡ F → Owed j f e s
 
-  pub record RefutesWithin (j s : ℕ) (S : Set ℕ) : Type 0 where
+  pub record RefutesWithin (j s : ℕ) (S : Set Member) : Type 0 where
     pub inside : s < m .size
     pub all : S ⊆ Fails j s
 
@@ -52,8 +55,10 @@ module _ {t : Table} {m : Model} (M : Falsity t m) where
   focused-next j zero e s h o = absurd (omega arith)
   focused-next j (suc f) e s h (i, q, o) = omega arith
 
-  pub fails-code : (j s e f : ℕ) → f < 2 → Owed j f e s → Fails j s (code e f)
-  fails-code j s e f h o = rw (code-focus e f h, code-entry e f h) o
+  -- one entry that owes will do: what is owed goes by the formula
+  pub fails-member : (j s e f : ℕ) → s < m .size → Owed j f e s → Fails j s (member t e f)
+  fails-member j s e zero h o g F q = M .false-like e g s h (sym q) o
+  fails-member j s e (suc f) h o g F q = M .refuted-like j e g s h F (sym q) o
 
   -- more steps do as well
   add-steps : (k j e s : ℕ) → M .Refuted j e s → M .Refuted (k + j) e s
@@ -67,6 +72,9 @@ module _ {t : Table} {m : Model} (M : Falsity t m) where
   owed-more i j zero e s h o = o
   owed-more i j (suc f) e s h o = refuted-more i j e s h o
 
+  pub fails-more : (i j s : ℕ) → i ≤ j → Fails i s ⊆ Fails j s
+  fails-more i j s h (F, f) o e G q = owed-more i j f e s h (o e G q)
+
   -- what is false is owed within some number of steps, whatever the focus
   pub owed-some : (f e s : ℕ) → s < m .size → Formula t e → M .false-at e s → (j : ℕ) × Owed j f e s
   owed-some zero e s h r o = (0, o)
@@ -78,7 +86,7 @@ module _ {t : Table} {m : Model} (M : Falsity t m) where
       → (l : List ℕ)
       → elements l ⊆ (λ c. Formula t (entryOf c))
       → elements l ⊆ (λ c. M .false-at (entryOf c) s)
-      → (j : ℕ) × (elements l ⊆ Fails j s)
+      → (j : ℕ) × (elements l ⊆ (λ c. Owed j (focusOf c) (entryOf c) s))
   all-within s h [] r o = (0, λ c n. absurd (List·Memᴰ·not-nil n))
   all-within s h (x ∷ l) r o =
       let (i, f) = all-within s h l (λ c n. r c (List·Memᴰ·tail n)) (λ c n. o c (List·Memᴰ·tail n)) in
@@ -89,3 +97,7 @@ module _ {t : Table} {m : Model} (M : Falsity t m) where
             (λ (q : List·Memᴰ c l). owed-more i (k + i) (focusOf c) (entryOf c) s (omega arith) (f c q))
             (List·Memᴰ·cases-cons n),
       )
+
+  -- then the sequent that is listed fails
+  pub listed-fails : (j s : ℕ) → s < m .size → {S : Set ℕ} → S ⊆ (λ c. Owed j (focusOf c) (entryOf c) s) → image (read t) S ⊆ Fails j s
+  listed-fails j s h o = image-⊆ (Fails j s) (read t) (λ c n. fails-member j s (entryOf c) (focusOf c) h (o c n))

@@ -1,15 +1,16 @@
 -- each rule of document 01, as a relation between a node's sequent and its children's
 use mathlib.Core.Path.{_≡_}
+use mathlib.Core.Logic.{_≢_}
 use Prim.Native.Nat.{ℕ}
 use Rattle.formula.specs.Kind
 use Rattle.formula.specs.Rule
-use Rattle.verdict.specs.Sets.{Same, _⊆_, none, image, _plus_}
+use Rattle.verdict.specs.Sets.{Same, none, image, _plus_}
 use Rattle.formula.specs.Table.{Table, entry, kind}
 use Rattle.formula.specs.Target.{targetA, targetB}
 use Rattle.formula.specs.Codes.{code, entryOf, focusOf}
 use Rattle.formula.specs.Nodes.{Proof, node}
 use Rattle.formula.specs.Claim.{Claim, Derivation}
-use Rattle.calculus.specs.Sequents.{rule, sequent, firstSequent, secondSequent, formula, focus, side, Belongs}
+use Rattle.calculus.specs.Sequents.{member, read, rule, listed, sequent, firstSequent, secondSequent, principal, formula, focus, side, Belongs}
 use Rattle.calculus.specs.Paths.{Ancestor}
 
 -- the target of a modal member, with the member's focus
@@ -31,7 +32,7 @@ module _ (c : Claim) (d : Derivation) (v : ℕ) where
   B = targetB t (formula p v)
 
   pub record Principal (k : ℕ) : Type 0 where
-    pub belongs : Belongs p v
+    pub belongs : Belongs t p v
     pub of-kind : kind t (formula p v) ≡ k
 
   -- exactly a letter and its negation, either focus
@@ -41,13 +42,13 @@ module _ (c : Claim) (d : Derivation) (v : ℕ) where
     pub plain-kind : kind t (entryOf plain) ≡ Kind.LETTER
     pub negated-kind : kind t (entryOf negated) ≡ Kind.NEGATED
     pub one-letter : entry t (entryOf plain) .a ≡ entry t (entryOf negated) .a
-    pub exactly : Same (sequent p v) (none plus plain plus negated)
+    pub exactly : Same (sequent t p v) (none plus read t plain plus read t negated)
 
   -- exactly one member, true
   pub record Truth : Type 0 where
-    pub member : ℕ
-    pub of-kind : kind t (entryOf member) ≡ Kind.TRUE
-    pub exactly : Same (sequent p v) (none plus member)
+    pub only : ℕ
+    pub of-kind : kind t (entryOf only) ≡ Kind.TRUE
+    pub exactly : Same (sequent t p v) (none plus read t only)
 
   -- what a node owes its children, by its rule
   pub data Step : Type 0 where
@@ -55,38 +56,38 @@ module _ (c : Claim) (d : Derivation) (v : ℕ) where
     ax2 : rule p v ≡ Rule.AX2 → Truth → Step
     or : rule p v ≡ Rule.OR
         → Principal Kind.OR
-        → Same (firstSequent p v) (side p v plus code A (focus p v) plus code B (focus p v))
+        → Same (firstSequent t p v) (side t p v plus member t A (focus p v) plus member t B (focus p v))
         → Step
     and : rule p v ≡ Rule.AND
         → Principal Kind.AND
-        → Same (firstSequent p v) (side p v plus code A (focus p v))
-        → Same (secondSequent p v) (side p v plus code B (focus p v))
+        → Same (firstSequent t p v) (side t p v plus member t A (focus p v))
+        → Same (secondSequent t p v) (side t p v plus member t B (focus p v))
         → Step
     box : rule p v ≡ Rule.BOX
         → Principal Kind.BOX
-        → side p v ⊆ (λ x. kind t (entryOf x) ≡ Kind.DIAMOND)
-        → Same (firstSequent p v) (image (stepped t) (sequent p v))
+        → ((x : ℕ) → listed p v x → read t x ≢ read t (principal p v) → kind t (entryOf x) ≡ Kind.DIAMOND)
+        → Same (firstSequent t p v) (image (λ x. read t (stepped t x)) (listed p v))
         → Step
-    mu : rule p v ≡ Rule.MU → Principal Kind.MU → Same (firstSequent p v) (side p v plus code A 0) → Step
-    nu : rule p v ≡ Rule.NU → Principal Kind.NU → Same (firstSequent p v) (side p v plus code A (focus p v)) → Step
-    weaken : rule p v ≡ Rule.W → Belongs p v → Same (firstSequent p v) (side p v) → Step
+    mu : rule p v ≡ Rule.MU → Principal Kind.MU → Same (firstSequent t p v) (side t p v plus member t A 0) → Step
+    nu : rule p v ≡ Rule.NU → Principal Kind.NU → Same (firstSequent t p v) (side t p v plus member t A (focus p v)) → Step
+    weaken : rule p v ≡ Rule.W → Belongs t p v → Same (firstSequent t p v) (side t p v) → Step
     into-focus : rule p v ≡ Rule.F
-        → Belongs p v
+        → Belongs t p v
         → focus p v ≡ 0
-        → Same (firstSequent p v) (side p v plus code (formula p v) 1)
+        → Same (firstSequent t p v) (side t p v plus member t (formula p v) 1)
         → Step
     out-of-focus : rule p v ≡ Rule.U
-        → Belongs p v
+        → Belongs t p v
         → focus p v ≡ 1
-        → Same (firstSequent p v) (side p v plus code (formula p v) 0)
+        → Same (firstSequent t p v) (side t p v plus member t (formula p v) 0)
         → Step
-    discharge : rule p v ≡ Rule.D → Same (firstSequent p v) (sequent p v) → Step
+    discharge : rule p v ≡ Rule.D → Same (firstSequent t p v) (sequent t p v) → Step
 
   -- linked to a proper ancestor of rule 10 with the same sequent
   pub record BackLeaf : Type 0 where
     pub companion : Ancestor p (node p v .back) v
     pub companion-rule : rule p (node p v .back) ≡ Rule.D
-    pub same : Same (sequent p v) (sequent p (node p v .back))
+    pub same : Same (sequent t p v) (sequent t p (node p v .back))
 
   -- what a leaf owes its tree
   pub data Leaf : Type 0 where

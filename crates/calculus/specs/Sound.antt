@@ -1,21 +1,23 @@
 -- soundness: in a correct proof no state refutes the claim, the root or any other node
-use mathlib.Core.Path.{_≡_, refl, subst, sym}
+use mathlib.Core.Path.{_≡_, refl, subst, sym, ap, _∙_}
 use mathlib.Core.Logic.{_⊎_, inl, inr, ⊎-elim}
 use mathlib.Core.List.{List, [], _∷_, List·Memᴰ, List·Memᴰ·head, List·Memᴰ·tail, List·Memᴰ·cases-cons, List·Memᴰ·not-nil}
 use Prim.Native.Nat.{ℕ, zero, suc, _<_}
 use native.Mathlib.Omega.{arith}
 use lib.ListN.{length}
-use Rattle.verdict.specs.Sets.{Set, _⊆_, elements, image-⊆, ⊆-trans}
-use Rattle.formula.specs.Codes.{code, entryOf, code-entry}
+use Rattle.verdict.specs.Sets.{Set, _⊆_, elements}
+use Rattle.formula.specs.Table.{Table}
+use Rattle.formula.specs.Codes.{entryOf, code-entry}
 use Rattle.formula.specs.Nodes.{Proof, node}
 use Rattle.formula.specs.Claim.{Claim, Derivation}
-use Rattle.calculus.specs.Sequents.{sequent}
+use Rattle.written.specs.Written.{written}
+use Rattle.calculus.specs.Sequents.{Member, read, listed, sequent}
 use Rattle.calculus.specs.Paths.{ancestor-below}
 use Rattle.calculus.specs.CorrectNodes.{CorrectNodes}
 use Rattle.calculus.specs.Faults.{Claimed}
 use Rattle.meaning.specs.States.{Model}
 use Rattle.calculus.specs.Falsity.{Falsity}
-use Rattle.calculus.specs.Refutes.{Refutes, RefutesWithin, all-within}
+use Rattle.calculus.specs.Refutes.{Refutes, RefutesWithin, all-within, listed-fails}
 use Rattle.calculus.specs.Reached.{companion, companion-refuted, every-node}
 
 all-or-some : {P : Set ℕ} → ((c : ℕ) → Dec (P c)) → (l : List ℕ) → (elements l ⊆ P) ⊎ ((c : ℕ) × elements l c × (¬ P c))
@@ -28,11 +30,14 @@ all-or-some {P} d (x ∷ l) = go (d x) (all-or-some d l)
     go (yes q) (inr (c, n, k)) = inr (c, List·Memᴰ·tail n, k)
 
 module _ (c : Claim) {m : Model} (M : Falsity (c .entries) m) (d : Derivation) (ok : CorrectNodes c d) where
+  abbrev t : Table
+  t = c .entries
+
   abbrev p : Proof
   p = d .nodes
 
   -- a refuted node has a refuted companion with a smaller number
-  none-below : (n v : ℕ) → v < n → v < length p → (j s : ℕ) → RefutesWithin M j s (sequent p v) → ⊥
+  none-below : (n v : ℕ) → v < n → v < length p → (j s : ℕ) → RefutesWithin M j s (sequent t p v) → ⊥
   none-below zero v h real j s r = omega arith
   none-below (suc n) v h real j s r =
       let ρ = every-node c M d ok v real j s r in
@@ -40,17 +45,21 @@ module _ (c : Claim) {m : Model} (M : Falsity (c .entries) m) (d : Derivation) (
       none-below n (companion (ρ .to)) (omega arith) (omega arith) (ρ .to .rank) (ρ .to .state) (companion-refuted c M d (ρ .to))
 
   -- not the root alone: no node
-  pub no-node-refuted : (v : ℕ) → v < length p → (s : ℕ) → Refutes M s (sequent p v) → ⊥
+  pub no-node-refuted : (v : ℕ) → v < length p → (s : ℕ) → Refutes M s (listed p v) → ⊥
   no-node-refuted v real s r =
       let (j, f) = all-within M s (r .inside) (node p v .codes) (λ x n. ok .members v x real n) (r .all) in
-      none-below (suc v) v (omega arith) real j s (record { inside = r .inside; all = f })
+      none-below (suc v) v (omega arith) real j s (record { inside = r .inside; all = listed-fails M j s (r .inside) f })
 
-  pub root-not-refuted : 0 < length p → (s : ℕ) → Refutes M s (sequent p 0) → ⊥
+  pub root-not-refuted : 0 < length p → (s : ℕ) → Refutes M s (listed p 0) → ⊥
   root-not-refuted = no-node-refuted 0
 
   -- the root's members are the claim's, all in focus
   pub claim-not-refuted : 0 < length p → Claimed c d → (s : ℕ) → s < m .size → ((e : ℕ) → List·Memᴰ e (c .members) → M .false-at e s) → ⊥
-  claim-not-refuted real same s h f = root-not-refuted real s (record {
-    inside = h;
-    all = ⊆-trans (same .into) (image-⊆ (λ x. M .false-at (entryOf x) s) (λ e. code e 1) (λ e n. rw (code-entry e 1 (omega arith)) (f e n)));
-  })
+  claim-not-refuted real same s h f = root-not-refuted real s (record { inside = h; all = root-false })
+    where
+      -- what the root lists has the formula of one of the claim's members
+      root-false : listed p 0 ⊆ (λ x. M .false-at (entryOf x) s)
+      root-false x n =
+          let (e, k, q) = same .into (read t x) (x, n, refl) in
+          let r : written t e ≡ written t (entryOf x) = sym (ap (λ (z : Member). z .0) q ∙ ap (written t) (code-entry e 1 (omega arith))) in
+          M .false-like e (entryOf x) s h r (f e k)

@@ -12,7 +12,7 @@ use Rattle.formula.specs.Table.{Table}
 use Rattle.formula.specs.Nodes.{Proof, Node, node}
 use Rattle.formula.specs.PlainNodes.{proofOf, proofOf-length, proofOf-node, proofOf-back}
 use Rattle.calculus.specs.View.{plain}
-use Rattle.calculus.specs.Judge.{codes, ancestor, back-kept}
+use Rattle.calculus.specs.Judge.{keys, ancestor, back-kept}
 use Rattle.spans.specs.Spans.{spanned}
 use Rattle.spans.specs.Ancestors.{AncestorsTold, not-below}
 use Rattle.companions.specs.Companions.{companion-fits}
@@ -34,7 +34,8 @@ module _ (rs ls ss cs : List ℕ) (n v : ℕ) (real : v < n) where
     pub some-ancestor : spanned entries exits link v ≡ true → companion-fits (proofOf rs ls ss cs n) v ≡ eqb (getD rs link 0) Rule.D
     some-ancestor e = rw (proofOf-back rs ls ss cs n v real, ← told, e) (ap (λ (x : Node). eqb (x .rule) Rule.D) (proofOf-node rs ls ss cs n link (omega arith)))
 
--- with the sequents this is refusal 38's test
-pub back-kept-is : (t : Table) (p : Proof) (v : ℕ) → back-kept t (plain p) v ≡ (companion-fits p v && same (codes (plain p) v) (codes (plain p) (node p v .back)))
+-- with the sequents, which are compared by formula (T-03), this is refusal 38's test
+pub back-kept-is : (t : Table) (p : Proof) (v : ℕ)
+    → back-kept t (plain p) v ≡ (companion-fits p v && same (keys t (plain p) v) (keys t (plain p) (node p v .back)))
 unfolding back-kept
 back-kept-is t p v = sym (and-assoc (ancestor (plain p) (node p v .back) v) (eqb (node p (node p v .back) .rule) Rule.D) _)

@@ -3,14 +3,15 @@ use mathlib.Core.Path.{_≡_, refl, sym, ap, _∙_}
 use mathlib.Core.Logic.{_↔_}
 use mathlib.Core.List.{List}
 use Prim.Native.Nat.{ℕ}
+use native.Mathlib.Omega.{arith}
 use Rattle.verdict.specs.Verdict as verdicts
 use Rattle.verdict.specs.Verdict.{accepted}
 use Rattle.verdict.specs.VerdictLaws.{accepted-not-refused}
 use Rattle.encoding.specs.Encode.{Bytes}
 use Rattle.encoding.specs.File.{Reading, refused, good}
-use Rattle.formula.specs.Claim.{Claim, Derivation}
-use Rattle.proofs.specs.ProofFile.{ProofFile}
-use Rattle.proofs.specs.ProofRecords.{codes-rise, code-formula}
+use Rattle.formula.specs.Claim.{Derivation}
+use Rattle.claim_files.specs.ClaimRecords.{member-formula}
+use Rattle.proofs.specs.ProofRecords.{node-count, code-formula}
 use Rattle.calculus.specs.Given.{Given}
 use Rattle.calculus.specs.JudgeExact.{accepted-correct, correct-accepted}
 use Rattle.calculus.specs.FaultLaws.{refused-earned, earned-refused}
@@ -21,9 +22,14 @@ use Rattle.demands.specs.Correct.{Correct}
 use Rattle.demands.specs.Check.{answer, verdict}
 use Rattle.demands.specs.Earned.{Earned, by-files, by-rules}
 
--- what the rules are given by a proof file
-pub given : {c : Claim} {proof : List ℕ} {d : Derivation} → ProofFile c proof d → Given c d
-given f = record { rising = λ v l. codes-rise f v; members = λ v x l m. code-formula f v x m }
+-- what the rules are given by well-formed files
+pub given : {claim proof : List ℕ} {f : Files Derivation} → WellFormed claim proof f → Given (f .claim) (f .beside)
+given w = record {
+  well = w .claim-formed .formed .well;
+  claimed = member-formula (w .claim-formed .claim-file);
+  some = omega (arith, node-count (w .beside-formed));
+  members = λ v x l m. code-formula (w .beside-formed) v x m;
+}
 
 module _ (claim proof : List ℕ) (bc : Bytes claim) (bp : Bytes proof) where
   -- the verdict, by what was read
@@ -31,19 +37,16 @@ module _ (claim proof : List ℕ) (bc : Bytes claim) (bp : Bytes proof) where
   unfolding verdict
   by-reading h = ap answer h
 
-  rules-given : {f : Files Derivation} → WellFormed claim proof f → Given (f .claim) (f .beside)
-  rules-given w = given (w .beside-formed)
-
   correct-verdict : Correct claim proof → verdict claim proof ≡ accepted
   correct-verdict k =
       by-reading (files-exactly claim proof bc bp .gives (k .read) (k .formed))
-      ∙ correct-accepted (k .read .claim) (k .read .beside) (rules-given (k .formed))
-      (record { members = rules-given (k .formed) .members; tree = k .tree; keeps = k .keeps; loops = k .loops }) (k .root)
+      ∙ correct-accepted (k .read .claim) (k .read .beside) (given (k .formed))
+      (record { members = given (k .formed) .members; tree = k .tree; keeps = k .keeps; loops = k .loops }) (k .root)
 
   earned-verdict : {n q : ℕ} → Earned claim proof n q → verdict claim proof ≡ verdicts.refused n q
   earned-verdict {n} {q} (by-files e) = by-reading (files-exactly claim proof bc bp .refuses n q e)
   earned-verdict (by-rules f w e) =
-      by-reading (files-exactly claim proof bc bp .gives f w) ∙ earned-refused (f .claim) (f .beside) (rules-given w) e
+      by-reading (files-exactly claim proof bc bp .gives f w) ∙ earned-refused (f .claim) (f .beside) (given w) e
 
   pub verdict-correct : verdict claim proof ≡ accepted → Correct claim proof
   verdict-correct h = go (files claim proof) refl
@@ -52,7 +55,7 @@ module _ (claim proof : List ℕ) (bc : Bytes claim) (bp : Bytes proof) where
       go (refused n q) e = absurd (accepted-not-refused (sym (by-reading e) ∙ h))
       go (good f) e =
           let w = files-exactly claim proof bc bp .given f e in
-          let (k, r) = accepted-correct (f .claim) (f .beside) (rules-given w) (sym (by-reading e) ∙ h) in
+          let (k, r) = accepted-correct (f .claim) (f .beside) (given w) (sym (by-reading e) ∙ h) in
           record { read = f; formed = w; tree = k .tree; root = r; keeps = k .keeps; loops = k .loops }
 
   pub verdict-earned : {n q : ℕ} → verdict claim proof ≡ verdicts.refused n q → Earned claim proof n q
@@ -66,7 +69,7 @@ module _ (claim proof : List ℕ) (bc : Bytes claim) (bp : Bytes proof) where
           rw (← i, ← j) (by-files (files-exactly claim proof bc bp .earned m o e))
       go (good f) e =
           let w = files-exactly claim proof bc bp .given f e in
-          by-rules f w (refused-earned (f .claim) (f .beside) (rules-given w) (sym (by-reading e) ∙ h))
+          by-rules f w (refused-earned (f .claim) (f .beside) (given w) (sym (by-reading e) ∙ h))
 
   -- demand 3, second half
   pub exact : (verdict claim proof ≡ accepted) ↔ Correct claim proof

@@ -16,7 +16,8 @@ use Rattle.calculus.specs.Faults.{Claimed}
 use Rattle.reader.specs.Files.{Files}
 use Rattle.reader.specs.WellFormed.{ClaimFormed, WellFormed}
 
--- the bytes earn none of 10 to 36, and keep every rule: none of 37 to 39 either
+-- the bytes earn none of 10 to 36, and keep every rule: none of 37 to 39 either. In 36 to 38 members are compared by formula (T-03): a list stands
+-- for the set of its formulas, with focus (calculus: Sequents)
 pub record Correct (claim proof : List ℕ) : Type 0 where
   pub read : Files Derivation
   -- 10 to 34

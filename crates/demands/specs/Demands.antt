@@ -1,5 +1,5 @@
 -- the demands on the gate over the definitions, each with its proof; `Bytes s`: the numbers of s are below 256
--- what to read to believe them: `Correct`, `Irrefutable` and `Earned` rest on 678 lines of definitions, all contracts of the calls on 1684 lines;
+-- what to read to believe them: `Correct`, `Irrefutable` and `Earned` rest on 717 lines of definitions, all contracts of the calls on 1740 lines;
 -- tests/believed.sh counts and lists them
 use mathlib.Core.Path.{_≡_}
 use mathlib.Core.Logic.{_↔_, _⊎_}
@@ -33,7 +33,7 @@ use Rattle.proofs.specs.ProofFile.{FitProof, encodeProof}
 use Rattle.proofs.specs.ReadProof.{readProof}
 use Rattle.proofs.specs.ProofExact.{proof-decodes, proof-encodes}
 use Rattle.reader.specs.Files.{Files, readFormed, files}
-use Rattle.calculus.specs.Sequents.{sequent}
+use Rattle.calculus.specs.Sequents.{listed}
 use Rattle.tree.specs.Owners.{tree-judged}
 use Rattle.writing.specs.Writing.{ClaimRecords, ProofRecords, claimFile, proofFile, shortClaim, shortProof, writingClaim, writingProof, laidInto}
 use Rattle.writing.specs.ClaimTrips.{claimOf, ClaimGiven, claim-roomy}
@@ -64,7 +64,7 @@ module _ (claim proof : List ℕ) (bc : Bytes claim) (bp : Bytes proof) where
       → (M : Model) (s : ℕ) → s < M .size → (e : ℕ) × elements (c .members) e × (own M (c .entries) e s ≡ true)
   accepted-true h c f = soundness.irrefutable-true (accepted-sound h) c f
 
-  -- 3, second half: accepted exactly when claim and proof are well formed and keep every rule
+  -- 3, second half: accepted exactly when claim and proof are well formed and keep every rule, members compared by formula (T-03)
   pub accepted-exact : (verdict claim proof ≡ accepted) ↔ Correct claim proof
   accepted-exact = check.exact claim proof bc bp
 
@@ -91,10 +91,10 @@ module _ (claim proof : List ℕ) (bc : Bytes claim) (bp : Bytes proof) where
   pub presented-too-short : (tag : ℕ) (l : Lent) → (LongEnough l → ⊥) → presenting opened tag claim proof l .answer ≡ refused 1 0
   presented-too-short tag l = presented-short tag claim proof l
 
--- every node of a correct proof: in every finite model every state has a true member of its sequent
+-- every node of a correct proof: in every finite model every state has a member of its list that is true there
 pub every-node : {claim proof : List ℕ} (k : Correct claim proof) (M : Model) (s : ℕ) → s < M .size
     → (v : ℕ) → v < length (k .read .beside .nodes)
-    → (x : ℕ) × sequent (k .read .beside .nodes) v x × (own M (k .read .claim .entries) (entryOf x) s ≡ true)
+    → (x : ℕ) × listed (k .read .beside .nodes) v x × (own M (k .read .claim .entries) (entryOf x) s ≡ true)
 every-node k M s h = soundness.node-true k M s h
 
 -- not every claim is irrefutable: mu of box is false at one state with itself as successor, and false alone is false there

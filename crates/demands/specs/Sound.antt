@@ -15,7 +15,7 @@ use Rattle.meaning.specs.Meaning.{own}
 use Rattle.claim_files.specs.ClaimFile.{ClaimFile}
 use Rattle.claim_files.specs.ClaimExact.{one-claim}
 use Rattle.proofs.specs.ProofRecords.{node-count}
-use Rattle.calculus.specs.Sequents.{sequent}
+use Rattle.calculus.specs.Sequents.{listed}
 use Rattle.calculus.specs.CorrectNodes.{CorrectNodes}
 use Rattle.calculus.specs.Falsity.{Falsity}
 use Rattle.calculus.specs.Kripke.{kripke}
@@ -45,7 +45,7 @@ module _ {claim proof : List ℕ} (k : Correct claim proof) where
   d = k .read .beside
 
   tables : CorrectNodes c d
-  tables = record { members = given (k .formed .beside-formed) .members; tree = k .tree; keeps = k .keeps; loops = k .loops }
+  tables = record { members = given (k .formed) .members; tree = k .tree; keeps = k .keeps; loops = k .loops }
 
   module _ (M : Model) (s : ℕ) (state : s < M .size) where
     abbrev F : Falsity (c .entries) M
@@ -56,7 +56,7 @@ module _ {claim proof : List ℕ} (k : Correct claim proof) where
     none-refutes f = claim-not-refuted c F d tables (omega (arith, node-count (k .formed .beside-formed))) (k .root) s state (λ e m. f e m)
 
     -- every node, not only the root
-    pub node-true : (v : ℕ) → v < length (d .nodes) → (x : ℕ) × sequent (d .nodes) v x × (own M (c .entries) (entryOf x) s ≡ true)
+    pub node-true : (v : ℕ) → v < length (d .nodes) → (x : ℕ) × listed (d .nodes) v x × (own M (c .entries) (entryOf x) s ≡ true)
     unfolding kripke
     node-true v real =
         some-true (λ x. own M (c .entries) (entryOf x) s) (node (d .nodes) v .codes)

@@ -18,6 +18,7 @@ pub fn kept(
     kinds: &[u8; 256],
     a: &[u16; 256],
     b: &[u16; 256],
+    canon: &[u16; 256],
     count: usize,
     rules: &[u8],
     links: &[u16],
@@ -26,18 +27,30 @@ pub fn kept(
     nodes: usize,
     v: usize,
 ) -> bool
-    requires { ⌜ Judged (now kinds) (now a) (now b) count (now rules) (now links) (now starts) (now codes) nodes × (v < nodes) ⌝ }
+    requires { ⌜ Judged (now kinds) (now a) (now b) (now canon) count (now rules) (now links) (now starts) (now codes) nodes × (v < nodes) ⌝ }
     ensures { λ r. ⌜ r ≡ step-kept (tableOf (now (kinds .entry)) (now (a .entry)) (now (b .entry)) count)
         (plain (proofOf (now (rules .entry)) (now (links .entry)) (now (starts .entry)) (now (codes .entry)) nodes)) v ⌝ }
 {
     let rule = rules[v];
     match rule {
-        Rule::AX1 => ax1_kept(kinds, a, starts, codes, v),
-        Rule::AX2 => ax2_kept(kinds, starts, codes, v),
+        Rule::AX1 => ax1_kept(kinds, a, canon, starts, codes, v),
+        Rule::AX2 => ax2_kept(kinds, canon, starts, codes, v),
         Rule::OR..=Rule::U => {
-            principal_kept(kinds, a, b, count, rules, links, starts, codes, nodes, v)
+            principal_kept(
+                kinds,
+                a,
+                b,
+                canon,
+                count,
+                rules,
+                links,
+                starts,
+                codes,
+                nodes,
+                v,
+            )
         }
-        Rule::D => same_sequent(starts, codes, wide(links[4 * v + 1]), v),
+        Rule::D => same_sequent(canon, starts, codes, wide(links[4 * v + 1]), v),
         _ => false,
     }
 }

@@ -15,8 +15,7 @@ use Rattle.formula.specs.Held.{heldClaim, heldProof}
 use Rattle.formula.specs.Records.{allCodes}
 use Rattle.formula.specs.NodeColumns.{Columns, start-stands}
 use Rattle.formula.specs.CodeCounts.{few-codes, more-codes}
-use Rattle.conditions.specs.WellFormed.{WellFormed}
-use Rattle.claim_files.specs.ClaimRecords.{member-formula, entry-count}
+use Rattle.claim_files.specs.ClaimRecords.{member-formula}
 use Rattle.proofs.specs.ProofFile.{ProofFile}
 use Rattle.proofs.specs.ProofExact.{proof-good}
 use Rattle.proofs.specs.ProofRecords.{node-count, codes-few, code-formula}
@@ -24,22 +23,23 @@ use Rattle.nodes.specs.ProofDecode.{proofIn, Decodes}
 use Rattle.nodes.specs.ProofGood.{good-decoded}
 use Rattle.nodes.specs.ProofStored.{NodesStored, stored-proof}
 use Rattle.calculus.specs.Judge.{judge}
-use Rattle.sequents.specs.Placed.{Members, Entries}
+use Rattle.sequents.specs.Placed.{Members, Formulas}
+use Rattle.numbers.specs.Numbered.{Numberable}
 use Rattle.rules.specs.JudgeStages.{Laid}
 use Rattle.reader.specs.Files.{files}
 use Rattle.reader.specs.FilesExact.{files-exactly}
 use Rattle.reader.specs.Found.{FilesGot}
 use Rattle.reader.specs.WellFormed as reader
+use Rattle.laid.specs.Numbering.{numberable}
 
 -- the nodes that stand in a proof file
 abbrev pub proofAt : List ℕ → Derivation
 proofAt s = record { nodes = proofIn s }
 
--- the claim is held, its table well formed, and the file is a proof over it, of m nodes
+-- the claim is held, its table well formed, so that its formulas can be numbered, and the file is a proof over it, of m nodes
 pub record Readable (ks xs ys : List ℕ) (n : ℕ) (ms : List ℕ) (k : ℕ) (s : List ℕ) (m : ℕ) : Type 0 where
-  pub entries : n ≤ 256
-  pub members : Members ms k
-  pub well : WellFormed (tableOf ks xs ys n)
+  pub table : Numberable ks xs ys n
+  pub members : Members n ms k
   pub decodes : Decodes s
   pub file : ProofFile (heldClaim ks xs ys n ms k) s (proofAt s)
   pub nodes : m ≡ length (proofIn s)
@@ -57,15 +57,14 @@ module _ (claim proof : List ℕ) (bc : Bytes claim) (bp : Bytes proof) {ks xs y
 
   pub readable : Readable ks xs ys n ms k proof m
   readable = record {
-    entries = g .held .entries;
+    table = numberable (formed .claim-formed) (g .held);
     members = record {
       few = g .held .members;
       long = g .held .listed;
-      small = λ e h.
+      inside = λ e h.
           let inside = member-formula (formed .claim-formed .claim-file) e (subst (λ (c : Claim). elements (c .members) e) (g .held .same) h) .inside in
-          omega (arith, inside, entry-count (formed .claim-formed .claim-file));
+          omega (arith, inside, ap length same-entries, tableOf-length ks xs ys n);
     };
-    well = subst WellFormed same-entries (formed .claim-formed .formed .well);
     decodes = good-decoded (g .files .claim) proof (proof-good (formed .beside-formed)) .decodes;
     file = rw (g .held .same, same-proof) (formed .beside-formed);
     nodes = g .nodes ∙ ap (λ (d : Derivation). length (d .nodes)) (sym same-proof);
@@ -88,13 +87,13 @@ module _ {ks xs ys : List ℕ} {n : ℕ} {ms : List ℕ} {k : ℕ} {s : List ℕ
         let one : length (allCodes (take (suc v) (proofIn s))) ≡ length (allCodes (take (v + 1) (proofIn s))) = ap (λ (k : ℕ). length (allCodes (take k (proofIn s)))) (sym (add-one v)) in
         (omega (arith, here, next, one, more-codes (proofIn s) v), omega (arith, next, few-codes (proofIn s) (codes-few (r .file)) (v + 1), columns .codes))
 
-    inside : (v : ℕ) → v < m → Entries n (codesAt ss cs v)
-    inside v l x h =
+    formulas : (v : ℕ) → v < m → Formulas (tableOf ks xs ys n) (codesAt ss cs v)
+    formulas v l x h =
         let at : node (proofIn s) v .codes ≡ codesAt ss cs v = ap (λ (p : Proof). node p v .codes) (sym same) ∙ ap (λ (y : Node). y .codes) (proofOf-node rs ls ss cs m v l) in
-        omega (arith, code-formula (r .file) v x (rw at h) .inside, tableOf-length ks xs ys n)
+        code-formula (r .file) v x (rw at h)
 
     pub laid : Laid ks xs ys n rs ls ss cs m
-    laid = record { entries = r .entries; some = count .0; columns = columns; rising = rising; well = r .well; members = inside }
+    laid = record { entries = r .table .small; some = count .0; columns = columns; rising = rising; well = r .table .wf; members = formulas }
 
     pub laid-judged : judge (heldClaim ks xs ys n ms k) (proofAt s) ≡ judge (heldClaim ks xs ys n ms k) (heldProof rs ls ss cs m)
     laid-judged = ap (λ (p : Proof). judge (heldClaim ks xs ys n ms k) (record { nodes = p })) (sym same)

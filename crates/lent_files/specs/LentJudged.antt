@@ -24,6 +24,7 @@ use Rattle.reader.specs.Files.{Files, firstly, files}
 use Rattle.reader.specs.Begins.{Begins, refusal}
 use Rattle.reader.specs.Found.{FilesGot, Tells}
 use Rattle.reader.specs.declared.Found.{Found}
+use Rattle.laid.specs.Numbering.{numberable-as}
 use Rattle.laid.specs.Readable.{Readable, proofAt, count, same-proof, same-entries, readable, readable-judged}
 use Rattle.standing.specs.Standing.{RoomFor, JudgedStored}
 use Rattle.standing.specs.StandingLaws.{first-shown, no-shorter}
@@ -114,7 +115,7 @@ module _ (claim proof : List ℕ) (bc : Bytes claim) (bp : Bytes proof) {ks xs y
 
       pub may-judge : Readable ks′ xs′ ys′ n ms k proof m × RoomFor 1024 m vs cs
       may-judge = (
-        record { entries = r .entries; members = r .members; well = rw table-same (r .well); decodes = r .decodes; file = rw claim-same (r .file); nodes = r .nodes },
+        record { table = numberable-as table-same (r .table); members = r .members; decodes = r .decodes; file = rw claim-same (r .file); nodes = r .nodes },
         record { rows = count r .1; nodes = omega (arith, count r .1, long .nodes); codes = omega (arith, count r .1, long .codes) },
       )
 

@@ -1,29 +1,38 @@
 -- the box step in plain numbers: all others are diamonds, and every member is stepped to its target
-use mathlib.Core.Path.{_≡_, refl, ap, _∙_, sym}
+use mathlib.Core.Path.{_≡_, refl, ap, ap₂, _∙_, sym}
 use mathlib.Core.Logic.{_⊎_, inl, inr}
-use mathlib.Core.List.{List}
-use mathlib.Core.Bool.{Bool, true, false, _||_}
+use mathlib.Core.List.{List, [], _∷_, List·Memᴰ·head, List·Memᴰ·tail}
+use mathlib.Core.Bool.{Bool, true, false, _||_, _&&_}
 use Prim.Native.Nat.{ℕ, _+_, _<_, _≤_}
-use native.Mathlib.Decide.{ℕ-discrete}
+use native.Mathlib.Omega.{arith}
 use lib.Dec.{eqb}
 use lib.ListN.{length, getD}
-use Rattle.verdict.specs.Sets.{elements, _⊆_}
-use Rattle.verdict.specs.Tests.{all, remove}
-use Rattle.verdict.specs.Tells.{Tells, tells-as, eqb-tells, or-tells, same-test}
-use Rattle.verdict.specs.SetTells.{all-tells, lists-remove}
+use Rattle.verdict.specs.Sets.{elements}
+use Rattle.verdict.specs.Tests.{all, each}
+use Rattle.verdict.specs.Tells.{eqb-tells, or-tells}
+use Rattle.verdict.specs.SetTells.{all-tells}
 use Rattle.formula.specs.Kind
-use Rattle.formula.specs.Table.{entry, kind}
-use Rattle.formula.specs.Plain.{tableOf, tableOf-kind}
+use Rattle.formula.specs.Table.{Table, entry, kind}
+use Rattle.formula.specs.Plain.{tableOf, tableOf-kind, tableOf-length}
 use Rattle.formula.specs.ShapeLaws.{diamond-shape, box-shape}
-use Rattle.formula.specs.Codes.{entryOf}
-use Rattle.calculus.specs.Judge.{sides}
+use Rattle.formula.specs.Target.{targetA}
+use Rattle.formula.specs.Codes.{Formula, entryOf, focusOf}
+use Rattle.written.specs.SameKind.{box-like}
+use Rattle.written.specs.Canon.{key}
+use Rattle.written.specs.CanonLaws.{canon-says}
+use Rattle.calculus.specs.Rules.{stepped}
 use Rattle.sequents.specs.Part.{part, part-more, part-none}
-use Rattle.sequents.specs.Placed.{family, Entries, Coded}
-use Rattle.sequents.specs.KeptLaws.{Operand-in, a-operand}
+use Rattle.sequents.specs.Keys.{keyAt, keyOf, key-at, key-code, each-same}
+use Rattle.sequents.specs.Placed.{Formulas, Coded}
+use Rattle.sequents.specs.KeptLaws.{Operand-in, a-operand, target-inside}
 
--- a member of a box step: the principal, or a diamond
-abbrev pub boxed : List ℕ → ℕ → ℕ → Bool
-boxed ks p c = eqb c p || eqb (getD ks (entryOf c) 0) Kind.DIAMOND
+-- a member of a box step: the principal, which is given by its key, or a diamond
+abbrev pub boxed : List ℕ → List ℕ → ℕ → ℕ → Bool
+boxed ks ns p c = eqb (keyOf ns c) p || eqb (getD ks (entryOf c) 0) Kind.DIAMOND
+
+-- the target of a modal member, with the member's focus, as a member
+abbrev pub steppedKey : List ℕ → Table → ℕ → ℕ
+steppedKey ns t c = keyAt ns (targetA t (entryOf c)) (focusOf c)
 
 -- a test over a part, at its first element
 module _ (f : ℕ → Bool) (cs : List ℕ) (i j : ℕ) (h : i < j) (k : j ≤ length cs) where
@@ -43,39 +52,51 @@ all-end f cs i j h = rw (part-none cs i j h) refl
 abbrev pub Modal : List ℕ → List ℕ → List ℕ → ℕ → ℕ → Type 0
 Modal ks xs ys n c = Operand-in ks xs xs n (entryOf c) (entry (tableOf ks xs ys n) (entryOf c) .a)
 
-boxed-tells : (ks : List ℕ) (p c : ℕ) → Tells (boxed ks p c) ((c ≡ p) ⊎ (getD ks (entryOf c) 0 ≡ Kind.DIAMOND))
-boxed-tells ks p c = or-tells (eqb-tells c p) (eqb-tells (getD ks (entryOf c) 0) Kind.DIAMOND)
+-- a test made alike of each element
+all-same : {f g : ℕ → Bool} (l : List ℕ) → ((x : ℕ) → elements l x → f x ≡ g x) → all f l ≡ all g l
+unfolding all
+all-same [] h = refl
+all-same (x ∷ l) h = ap₂ {C = Bool} (λ a b. a && b) (h x (List·Memᴰ·head refl)) (all-same l (λ y m. h y (List·Memᴰ·tail m)))
 
--- a principal p, and the codes l of its node, all of entries
-module _ {ks xs ys : List ℕ} {n p : ℕ} (C : Coded ks xs ys n p) (l : List ℕ) (entries : Entries n l) where
-  pub others-boxed : (m k : List ℕ) → all (boxed ks p) l ≡ all (λ c. eqb (kind (tableOf ks xs ys n) (entryOf c)) Kind.DIAMOND) (sides (family p l m k) 0)
-  unfolding sides
-  others-boxed m k = same-test
-      (all-tells (boxed-tells ks p) l)
-      (tells-as into from (all-tells (λ c. eqb-tells (kind (tableOf ks xs ys n) (entryOf c)) Kind.DIAMOND) (remove p l)))
+-- a principal p, and the codes l of its node, all of formulas
+module _ {ks xs ys ns : List ℕ} {n p : ℕ} (C : Coded ks xs ys ns n p) (l : List ℕ) (formulas : Formulas (tableOf ks xs ys n) l) where
+  abbrev T : Table
+  T = tableOf ks xs ys n
+
+  principal : Formula T (entryOf p)
+  principal = record { inside = omega (arith, C .inside, tableOf-length ks xs ys n); no-name = C .no-name }
+
+  entries : (c : ℕ) → elements l c → entryOf c < n
+  entries c m = omega (arith, formulas c m .inside, tableOf-length ks xs ys n)
+
+  key-is : (c : ℕ) → Formula T (entryOf c) → keyOf ns c ≡ key T c
+  key-is c F = key-at (C .numbers) (entryOf c) (focusOf c) (F .inside)
+
+  -- the code's test is the judge's, code by code
+  pub others-boxed : all (boxed ks ns (keyOf ns p)) l ≡ all (λ c. eqb (key T c) (key T p) || eqb (kind T (entryOf c)) Kind.DIAMOND) l
+  others-boxed = all-same l (λ c m. ap₂ {C = Bool} (λ x y. x || y)
+      (ap₂ {C = Bool} eqb (key-is c (formulas c m)) (key-is p principal))
+      (ap (λ (k : ℕ). eqb k Kind.DIAMOND) (sym (tableOf-kind ks xs ys n (entryOf c) (entries c m)))))
+
+  -- and the targets are the judge's
+  pub targets-stepped : ((c : ℕ) → elements l c → Modal ks xs ys n c) → each (steppedKey ns T) l ≡ each (λ c. key T (stepped T c)) l
+  targets-stepped M = each-same l (λ c m.
+      let o = M c m in
+      key-code (C .numbers) (targetA T (entryOf c)) (focusOf c) (omega arith)
+      (omega (arith, target-inside ks xs ys n (C .small) (C .well) _ (rw (← o .is) at (o .inside)), tableOf-length ks xs ys n)))
+
+  -- of one key with the principal: a box like it
+  twin : getD ks (entryOf p) 0 ≡ Kind.BOX → (c : ℕ) → Formula T (entryOf c) → keyOf ns c ≡ keyOf ns p → kind T (entryOf c) ≡ Kind.BOX
+  twin q c F e =
+      let a = C .numbers .each (entryOf p) (principal .inside) in
+      let b = C .numbers .each (entryOf c) (F .inside) in
+      let same = canon-says T (entryOf p) (entryOf c) principal F (omega (arith, a, b, e)) in
+      box-like T (C .well) (entryOf p) (entryOf c) (tableOf-kind ks xs ys n (entryOf p) (C .inside) ∙ q) F same .0
+
+  pub modal : getD ks (entryOf p) 0 ≡ Kind.BOX → all (boxed ks ns (keyOf ns p)) l ≡ true → (c : ℕ) → elements l c → Modal ks xs ys n c
+  modal q h c m = go (all-tells (λ d. or-tells (eqb-tells (keyOf ns d) (keyOf ns p)) (eqb-tells (getD ks (entryOf d) 0) Kind.DIAMOND)) l .says h c m)
     where
-      into : elements (remove p l) ⊆ (λ c. kind (tableOf ks xs ys n) (entryOf c) ≡ Kind.DIAMOND) → elements l ⊆ (λ c. (c ≡ p) ⊎ (getD ks (entryOf c) 0 ≡ Kind.DIAMOND))
-      into f c o = go (ℕ-discrete c p)
-        where
-          go : Dec (c ≡ p) → (c ≡ p) ⊎ (getD ks (entryOf c) 0 ≡ Kind.DIAMOND)
-          go (yes e) = inl e
-          go (no d) = inr (sym (tableOf-kind ks xs ys n (entryOf c) (entries c o)) ∙ f c (lists-remove _ _ .from c (o, d)))
-
-      from : elements l ⊆ (λ c. (c ≡ p) ⊎ (getD ks (entryOf c) 0 ≡ Kind.DIAMOND)) → elements (remove p l) ⊆ (λ c. kind (tableOf ks xs ys n) (entryOf c) ≡ Kind.DIAMOND)
-      from f c r = let (o, d) = lists-remove _ _ .into c r in go o d (f c o)
-        where
-          go : elements l c → (c ≡ p → ⊥) → (c ≡ p) ⊎ (getD ks (entryOf c) 0 ≡ Kind.DIAMOND) → kind (tableOf ks xs ys n) (entryOf c) ≡ Kind.DIAMOND
-          go o d (inl e) = absurd (d e)
-          go o d (inr e) = tableOf-kind ks xs ys n (entryOf c) (entries c o) ∙ e
-
-  pub modal : getD ks (entryOf p) 0 ≡ Kind.BOX → all (boxed ks p) l ≡ true → (c : ℕ) → elements l c → Modal ks xs ys n c
-  modal q h c o = go (all-tells (boxed-tells ks p) l .says h c o)
-    where
-      here : kind (tableOf ks xs ys n) (entryOf c) ≡ getD ks (entryOf c) 0
-      here = tableOf-kind ks xs ys n (entryOf c) (entries c o)
-
-      go : (c ≡ p) ⊎ (getD ks (entryOf c) 0 ≡ Kind.DIAMOND) → Modal ks xs ys n c
-      go (inl e) = a-operand ks xs ys n (C .small) (C .well) (entryOf c) (entries c o)
-          (box-shape (tableOf ks xs ys n) (entryOf c) (here ∙ ap (λ (d : ℕ). getD ks (entryOf d) 0) e ∙ q)) refl
-      go (inr e) = a-operand ks xs ys n (C .small) (C .well) (entryOf c) (entries c o)
-          (diamond-shape (tableOf ks xs ys n) (entryOf c) (here ∙ e)) refl
+      go : (keyOf ns c ≡ keyOf ns p) ⊎ (getD ks (entryOf c) 0 ≡ Kind.DIAMOND) → Modal ks xs ys n c
+      go (inl e) = a-operand ks xs ys n (C .small) (C .well) (entryOf c) (entries c m) (box-shape T (entryOf c) (twin q c (formulas c m) e)) refl
+      go (inr e) = a-operand ks xs ys n (C .small) (C .well) (entryOf c) (entries c m)
+          (diamond-shape T (entryOf c) (tableOf-kind ks xs ys n (entryOf c) (entries c m) ∙ e)) refl

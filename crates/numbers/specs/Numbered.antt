@@ -27,14 +27,10 @@ pub record RoomFor (n : ℕ) (fs us vs rs ss : List ℕ) : Type 0 where
   pub cells : 256 * n ≤ length rs
   pub marks : 8 * n ≤ length ss
 
--- as much as 256 entries need, and as much as 32
-pub room-many : {n : ℕ} {fs us vs rs ss : List ℕ} → n ≤ 256 → length fs ≡ 1024 → length us ≡ 1024 → length vs ≡ 1024 → length rs ≡ 65536
-    → length ss ≡ 2048 → RoomFor n fs us vs rs ss
-room-many h f u v r s = record { free = omega arith; firsts = omega arith; seconds = omega arith; cells = omega arith; marks = omega arith }
-
-pub room-few : {n : ℕ} {fs us vs rs ss : List ℕ} → n ≤ 32 → length fs ≡ 128 → length us ≡ 128 → length vs ≡ 128 → length rs ≡ 8192
-    → length ss ≡ 256 → RoomFor n fs us vs rs ss
-room-few h f u v r s = record { free = omega arith; firsts = omega arith; seconds = omega arith; cells = omega arith; marks = omega arith }
+-- as much as m entries need
+pub room : (m : ℕ) {n : ℕ} {fs us vs rs ss : List ℕ} → n ≤ m → length fs ≡ 4 * m → length us ≡ 4 * m → length vs ≡ 4 * m → length rs ≡ 256 * m
+    → length ss ≡ 8 * m → RoomFor n fs us vs rs ss
+room m h f u v r s = record { free = omega arith; firsts = omega arith; seconds = omega arith; cells = omega arith; marks = omega arith }
 
 -- each entry has the number of its formula, a name that of its fixpoint's; beyond the table everything is as it was
 pub record Numbered (t : Table) (old cs : List ℕ) : Type 0 where

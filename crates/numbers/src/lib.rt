@@ -142,7 +142,45 @@ fn number_many(
     );
 }
 
-// And in little room for a table of few entries: it is cleared first.
+// Likewise for 64: a small claim clears no more.
+fn number_some(
+    kinds: &[u8; 256],
+    a: &[u16; 256],
+    b: &[u16; 256],
+    count: usize,
+    canon: &mut [u16; 256],
+    again: bool,
+)
+    requires { ⌜ Numberable (now kinds) (now a) (now b) count × (length (now canon) ≡ 256) × (count ≤ 64) ⌝ }
+    ensures { λ _. ⌜ Numbered (tableOf (now (kinds .entry)) (now (a .entry)) (now (b .entry)) count) (now (canon .entry))
+        (now (canon .exit)) × (length (now (canon .exit)) ≡ 256) ⌝ }
+{
+    if again {
+        number_some(kinds, a, b, count, canon, false);
+        number_some(kinds, a, b, count, canon, false);
+        return;
+    }
+    let mut free = [0u64; 256];
+    let mut firsts = [0u64; 256];
+    let mut seconds = [0u64; 256];
+    let mut numbers = [0u8; 16384];
+    let mut marks = [0u64; 512];
+    number_in(
+        kinds,
+        a,
+        b,
+        count,
+        &mut free,
+        &mut firsts,
+        &mut seconds,
+        &mut numbers,
+        &mut marks,
+        canon,
+    );
+}
+
+// The number of each formula. A table of 16 entries is numbered in room of the caller's frame. No kind is 255, and what would tell that no call
+// asks `again` must not stand beside the call.
 pub fn number_formulas(
     kinds: &[u8; 256],
     a: &[u16; 256],
@@ -154,15 +192,20 @@ pub fn number_formulas(
     ensures { λ _. ⌜ Numbered (tableOf (now (kinds .entry)) (now (a .entry)) (now (b .entry)) count) (now (canon .entry))
         (now (canon .exit)) ⌝ }
 {
-    if 32 < count {
-        number_many(kinds, a, b, count, canon, 256 < count);
+    let again = kinds[0] == 255;
+    if 64 < count {
+        number_many(kinds, a, b, count, canon, again);
         return;
     }
-    let mut free = [0u64; 128];
-    let mut firsts = [0u64; 128];
-    let mut seconds = [0u64; 128];
-    let mut numbers = [0u8; 8192];
-    let mut marks = [0u64; 256];
+    if 16 < count {
+        number_some(kinds, a, b, count, canon, again);
+        return;
+    }
+    let mut free = [0u64; 64];
+    let mut firsts = [0u64; 64];
+    let mut seconds = [0u64; 64];
+    let mut numbers = [0u8; 4096];
+    let mut marks = [0u64; 128];
     number_in(
         kinds,
         a,

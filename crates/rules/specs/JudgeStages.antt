@@ -1,5 +1,5 @@
 -- the judge stage by stage, as the program runs it: 35, 36, 37 and 38, 39
-use mathlib.Core.Path.{_≡_, refl, sym, ap, _∙_}
+use mathlib.Core.Path.{_≡_, refl, sym, ap, ap₂, _∙_}
 use mathlib.Core.Bool.{Bool, true, false, _&&_}
 use mathlib.Core.List.{List}
 use Prim.Native.Nat.{ℕ, _+_, _*_, _<_, _≤_}
@@ -10,7 +10,7 @@ use borrow.Author.Tests.{eq-eqb, ne-eqb}
 use Rattle.verdict.specs.Verdict.{Verdict, accepted, refused, pick, scan}
 use Rattle.verdict.specs.declared.Verdict.the-variants.{Accepted}
 use Rattle.verdict.specs.VerdictLaws.{scan-says}
-use Rattle.verdict.specs.Tests.{same}
+use Rattle.verdict.specs.Tests.{same, each}
 use Rattle.formula.specs.Rule
 use Rattle.formula.specs.Claim.{Claim, Derivation}
 use Rattle.formula.specs.Plain.{tableOf}
@@ -18,9 +18,10 @@ use Rattle.formula.specs.Nodes.{Proof, node}
 use Rattle.formula.specs.NodeColumns.{Columns}
 use Rattle.formula.specs.PlainNodes.{codesAt, proofOf, proofOf-length, proofOf-rule, proofOf-back}
 use Rattle.conditions.specs.WellFormed.{WellFormed}
+use Rattle.written.specs.Canon.{key}
 use Rattle.calculus.specs.Tree.{Tree}
 use Rattle.calculus.specs.View.{plain}
-use Rattle.calculus.specs.Judge.{codes, step-kept, keeps, rule-number, ancestor, back-kept, root, judge}
+use Rattle.calculus.specs.Judge.{codes, keys, step-kept, keeps, rule-number, ancestor, back-kept, root, judge}
 use Rattle.calculus.specs.Steps.{keeps-leaf, keeps-other}
 use Rattle.calculus.specs.JudgeExact.{judge-is, claim-stage, loops-stage}
 use Rattle.verdict.specs.ScanLaws.{Passed, scan-passes, scan-fails, after, scan-then}
@@ -30,7 +31,8 @@ use Rattle.spans.specs.Ancestors.{AncestorsTold}
 use Rattle.companions.specs.Companions.{Companion, companion-fits}
 use Rattle.companions.specs.CompanionLaws.{back-kept-is}
 use Rattle.loops.specs.Paths.{Linked, loops-judged}
-use Rattle.sequents.specs.Placed.{Entries}
+use Rattle.sequents.specs.Keys.{Numbers}
+use Rattle.sequents.specs.Placed.{Formulas}
 use Rattle.principal_rules.specs.Judged.{Judged, codes-is}
 
 -- 37 or 38 by rising node
@@ -53,12 +55,12 @@ judge-stages c d =
     (scan-then (keeps c (plain (d .nodes))) (rule-number (plain (d .nodes))) (length (d .nodes)) 0 (loops-stage c d))
 
 -- tables that have passed 20 to 35, with the numbers that tell the ancestors
-pub record TreeReady (ks xs ys : List ℕ) (n : ℕ) (rs ls ss cs : List ℕ) (m : ℕ) (entries exits : List ℕ) : Type 0 where
-  pub judged : Judged ks xs ys n rs ls ss cs m
+pub record TreeReady (ks xs ys ns : List ℕ) (n : ℕ) (rs ls ss cs : List ℕ) (m : ℕ) (entries exits : List ℕ) : Type 0 where
+  pub judged : Judged ks xs ys ns n rs ls ss cs m
   pub room : (m ≤ length entries) × (m ≤ length exits)
   pub told : AncestorsTold (proofOf rs ls ss cs m) entries exits
 
-module _ {ks xs ys : List ℕ} {n : ℕ} {rs ls ss cs : List ℕ} {m : ℕ} (J : Judged ks xs ys n rs ls ss cs m) (c : Claim) (v : ℕ) (real : v < m) where
+module _ {ks xs ys ns : List ℕ} {n : ℕ} {rs ls ss cs : List ℕ} {m : ℕ} (J : Judged ks xs ys ns n rs ls ss cs m) (c : Claim) (v : ℕ) (real : v < m) where
   abbrev p : Proof
   p = proofOf rs ls ss cs m
 
@@ -69,17 +71,19 @@ module _ {ks xs ys : List ℕ} {n : ℕ} {rs ls ss cs : List ℕ} {m : ℕ} (J :
   back-is = proofOf-back rs ls ss cs m v real
 
   -- a back leaf keeps its rule when its companion fits and has its sequent
-  pub leaf-keeps : getD rs v 0 ≡ Rule.BACK → keeps c (plain p) v ≡ (companion-fits p v && same (codes (plain p) v) (codes (plain p) (node p v .back)))
+  pub leaf-keeps : getD rs v 0 ≡ Rule.BACK → keeps c (plain p) v ≡ (companion-fits p v && same (keys (c .entries) (plain p) v) (keys (c .entries) (plain p) (node p v .back)))
   leaf-keeps e = keeps-leaf c (plain p) v (rule-is ∙ e) ∙ back-kept-is (c .entries) p v
 
   pub leaf-without : getD rs v 0 ≡ Rule.BACK → companion-fits p v ≡ false → keeps c (plain p) v ≡ false
   leaf-without e h = leaf-keeps e ∙ rw h refl
 
   pub leaf-with : getD rs v 0 ≡ Rule.BACK → companion-fits p v ≡ true → getD ls (4 * v + 3) 0 < m
-      → keeps c (plain p) v ≡ same (codesAt ss cs v) (codesAt ss cs (getD ls (4 * v + 3) 0))
+      → keeps c (plain p) v ≡ same (each (key (c .entries)) (codesAt ss cs v)) (each (key (c .entries)) (codesAt ss cs (getD ls (4 * v + 3) 0)))
+  unfolding keys
   leaf-with e h l =
       leaf-keeps e
-      ∙ rw (h, codes-is J v real) (ap (λ (w : ℕ). same (codesAt ss cs v) (codes (plain p) w)) back-is ∙ ap (same (codesAt ss cs v)) (codes-is J (getD ls (4 * v + 3) 0) l))
+      ∙ rw h (ap₂ {C = Bool} (λ x y. same (each (key (c .entries)) x) (each (key (c .entries)) y))
+      (codes-is J v real) (ap (λ (w : ℕ). codes (plain p) w) back-is ∙ codes-is J (getD ls (4 * v + 3) 0) l))
 
   -- any other node keeps it when it keeps what it owes its children
   pub other-keeps : (getD rs v 0 ≡ Rule.BACK → ⊥) → step-kept (c .entries) (plain p) v ≡ keeps c (plain p) v
@@ -101,7 +105,7 @@ pub record Laid (ks xs ys : List ℕ) (n : ℕ) (rs ls ss cs : List ℕ) (m : �
   pub columns : Columns m rs ls ss cs
   pub rising : (v : ℕ) → v < m → (getD ss v 0 ≤ getD ss (v + 1) 0) × (getD ss (v + 1) 0 ≤ length cs)
   pub well : WellFormed (tableOf ks xs ys n)
-  pub members : (v : ℕ) → v < m → Entries n (codesAt ss cs v)
+  pub members : (v : ℕ) → v < m → Formulas (tableOf ks xs ys n) (codesAt ss cs v)
 
 -- tables of the judge's own, as they are before it begins
 pub record Fresh (m : ℕ) (owners entries exits : List ℕ) : Type 0 where
@@ -110,10 +114,11 @@ pub record Fresh (m : ℕ) (owners entries exits : List ℕ) : Type 0 where
   pub first : getD entries 0 0 ≡ 0
   pub ones : (w : ℕ) → w < m → getD exits w 0 ≡ 1
 
-pub laid-judged : {ks xs ys : List ℕ} {n : ℕ} {rs ls ss cs : List ℕ} {m : ℕ} → Laid ks xs ys n rs ls ss cs m → Tree (proofOf rs ls ss cs m) → Judged ks xs ys n rs ls ss cs m
-laid-judged L T = record { entries = L .entries; columns = L .columns; rising = L .rising; well = L .well; members = L .members; tree = T }
+pub laid-judged : {ks xs ys ns : List ℕ} {n : ℕ} {rs ls ss cs : List ℕ} {m : ℕ}
+    → Laid ks xs ys n rs ls ss cs m → Numbers (tableOf ks xs ys n) ns → Tree (proofOf rs ls ss cs m) → Judged ks xs ys ns n rs ls ss cs m
+laid-judged L N T = record { entries = L .entries; columns = L .columns; rising = L .rising; well = L .well; numbers = N; members = L .members; tree = T }
 
-module _ {ks xs ys : List ℕ} {n : ℕ} {rs ls ss cs : List ℕ} {m : ℕ} {entries exits : List ℕ} (R : TreeReady ks xs ys n rs ls ss cs m entries exits) (c : Claim) (v : ℕ) (real : v < m)
+module _ {ks xs ys ns : List ℕ} {n : ℕ} {rs ls ss cs : List ℕ} {m : ℕ} {entries exits : List ℕ} (R : TreeReady ks xs ys ns n rs ls ss cs m entries exits) (c : Claim) (v : ℕ) (real : v < m)
     (leaf : getD rs v 0 ≡ Rule.BACK) {answer : Bool} (companion : Companion rs ls entries exits v answer) where
   fits-is : answer ≡ companion-fits (proofOf rs ls ss cs m) v
   fits-is = companion .fits ss cs m real (R .told)
@@ -125,11 +130,12 @@ module _ {ks xs ys : List ℕ} {n : ℕ} {rs ls ss cs : List ℕ} {m : ℕ} {ent
   pub companion-inside : answer ≡ true → getD ls (4 * v + 3) 0 < m
   companion-inside h = omega (arith, companion .above h)
 
-  pub leaf-compared : answer ≡ true → keeps c (plain (proofOf rs ls ss cs m)) v ≡ same (codesAt ss cs v) (codesAt ss cs (getD ls (4 * v + 3) 0))
+  pub leaf-compared : answer ≡ true → keeps c (plain (proofOf rs ls ss cs m)) v
+      ≡ same (each (key (c .entries)) (codesAt ss cs v)) (each (key (c .entries)) (codesAt ss cs (getD ls (4 * v + 3) 0)))
   leaf-compared h = leaf-with (R .judged) c v real leaf (sym fits-is ∙ h) (companion-inside h)
 
 -- the scan of 37 and 38 as a loop walks it
-module _ {ks xs ys : List ℕ} {n : ℕ} {rs ls ss cs : List ℕ} {m : ℕ} (J : Judged ks xs ys n rs ls ss cs m) (c : Claim) (v : ℕ) where
+module _ {ks xs ys ns : List ℕ} {n : ℕ} {rs ls ss cs : List ℕ} {m : ℕ} (J : Judged ks xs ys ns n rs ls ss cs m) (c : Claim) (v : ℕ) where
   pub rules-pass : m ≤ v → Passed (keeps c (plain (proofOf rs ls ss cs m))) v → rules-judged c (proofOf rs ls ss cs m) ≡ accepted
   rules-pass h f = scan-passes _ (rule-number (plain (proofOf rs ls ss cs m))) _ accepted (λ w l. f w (omega (arith, proofOf-length rs ls ss cs m)))
 
@@ -184,5 +190,5 @@ module _ {rs ls : List ℕ} {m : ℕ} {owners : List ℕ} (filled : OwnersFilled
   pub filled-tree : (ss cs : List ℕ) → tree-judged (proofOf rs ls ss cs m) ≡ accepted
   filled-tree ss cs = sym (filled .answers ss cs)
 
-  pub filled-judged : {ks xs ys : List ℕ} {n : ℕ} {ss cs : List ℕ} → Laid ks xs ys n rs ls ss cs m → Judged ks xs ys n rs ls ss cs m
-  filled-judged {ss = ss} {cs = cs} L = laid-judged L (accepted-tree (proofOf rs ls ss cs m) (filled-tree ss cs))
+  pub filled-judged : {ks xs ys ns : List ℕ} {n : ℕ} {ss cs : List ℕ} → Laid ks xs ys n rs ls ss cs m → Numbers (tableOf ks xs ys n) ns → Judged ks xs ys ns n rs ls ss cs m
+  filled-judged {ss = ss} {cs = cs} L N = laid-judged L N (accepted-tree (proofOf rs ls ss cs m) (filled-tree ss cs))

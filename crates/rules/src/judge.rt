@@ -5,9 +5,11 @@ ghost use Prim.Native.Nat.{ℕ, _<_, _≤_};
 ghost use Rattle.verdict.specs.Shown.{shown};
 ghost use Rattle.formula.specs.Rule.{BACK};
 ghost use Rattle.formula.specs.Held.{heldClaim, heldProof};
+ghost use Rattle.formula.specs.Plain.{tableOf};
 ghost use Rattle.formula.specs.PlainNodes.{proofOf};
 ghost use Rattle.calculus.specs.View.{plain};
 ghost use Rattle.calculus.specs.Judge.{keeps, judge as judged};
+ghost use Rattle.sequents.specs.Keys.{Numbers};
 ghost use Rattle.sequents.specs.Placed.{Members};
 ghost use Rattle.principal_rules.specs.Judged.{Judged};
 ghost use Rattle.rules.specs.JudgeStages.{TreeReady, Laid, Fresh, rules-judged, nodes-judged, tree-rules-judged};
@@ -29,6 +31,7 @@ fn node_keeps(
     kinds: &[u8; 256],
     a: &[u16; 256],
     b: &[u16; 256],
+    canon: &[u16; 256],
     count: usize,
     rules: &[u8],
     links: &[u16],
@@ -39,18 +42,30 @@ fn node_keeps(
     exits: &[u16],
     v: usize,
 ) -> bool
-    requires { ⌜ TreeReady (now kinds) (now a) (now b) count (now rules) (now links) (now starts) (now codes) nodes (now entries) (now exits) ×
+    requires { ⌜ TreeReady (now kinds) (now a) (now b) (now canon) count (now rules) (now links) (now starts) (now codes) nodes (now entries) (now exits) ×
         (v < nodes) ⌝ }
     ensures { λ r. ⌜ ((ms : List ℕ) (k : ℕ) → r ≡ keeps (heldClaim (now (kinds .entry)) (now (a .entry)) (now (b .entry)) count ms k)
         (plain (proofOf (now (rules .entry)) (now (links .entry)) (now (starts .entry)) (now (codes .entry)) nodes)) v) ⌝ }
 {
     if rules[v] != Rule::BACK {
-        return kept(kinds, a, b, count, rules, links, starts, codes, nodes, v);
+        return kept(
+            kinds,
+            a,
+            b,
+            canon,
+            count,
+            rules,
+            links,
+            starts,
+            codes,
+            nodes,
+            v,
+        );
     }
     if !companion(rules, links, entries, exits, v) {
         return false;
     }
-    same_sequent(starts, codes, v, wide(links[4 * v + 3]))
+    same_sequent(canon, starts, codes, v, wide(links[4 * v + 3]))
 }
 
 // The number that a node earns which does not keep its rule.
@@ -68,6 +83,7 @@ fn judge_nodes(
     kinds: &[u8; 256],
     a: &[u16; 256],
     b: &[u16; 256],
+    canon: &[u16; 256],
     count: usize,
     rules: &[u8],
     links: &[u16],
@@ -77,7 +93,7 @@ fn judge_nodes(
     entries: &[u16],
     exits: &[u16],
 ) -> Verdict
-    requires { ⌜ TreeReady (now kinds) (now a) (now b) count (now rules) (now links) (now starts) (now codes) nodes (now entries) (now exits) ⌝ }
+    requires { ⌜ TreeReady (now kinds) (now a) (now b) (now canon) count (now rules) (now links) (now starts) (now codes) nodes (now entries) (now exits) ⌝ }
     ensures { λ r. ⌜ ((ms : List ℕ) (k : ℕ) → shown r ≡ rules-judged (heldClaim (now (kinds .entry)) (now (a .entry)) (now (b .entry)) count ms k)
         (proofOf (now (rules .entry)) (now (links .entry)) (now (starts .entry)) (now (codes .entry)) nodes)) ⌝ }
 {
@@ -87,6 +103,7 @@ fn judge_nodes(
             kinds,
             a,
             b,
+            canon,
             count,
             rules,
             links,
@@ -113,6 +130,7 @@ fn judge_rules(
     kinds: &[u8; 256],
     a: &[u16; 256],
     b: &[u16; 256],
+    canon: &[u16; 256],
     count: usize,
     rules: &[u8],
     links: &[u16],
@@ -123,7 +141,7 @@ fn judge_rules(
     entries: &mut [u16],
     exits: &mut [u16],
 ) -> Verdict
-    requires { ⌜ Judged (now kinds) (now a) (now b) count (now rules) (now links) (now starts) (now codes) nodes × Upward (now owners) nodes ⌝ }
+    requires { ⌜ Judged (now kinds) (now a) (now b) (now canon) count (now rules) (now links) (now starts) (now codes) nodes × Upward (now owners) nodes ⌝ }
     requires { ⌜ OwnedBy (now rules) (now links) nodes nodes (now owners) × Counted (now owners) nodes nodes (now entries) (now exits) ⌝ }
     ensures { λ r. ⌜ ((ms : List ℕ) (k : ℕ) → shown r ≡ nodes-judged (heldClaim (now (kinds .entry)) (now (a .entry)) (now (b .entry)) count ms k)
         (proofOf (now (rules .entry)) (now (links .entry)) (now (starts .entry)) (now (codes .entry)) nodes)) ⌝ }
@@ -133,6 +151,7 @@ fn judge_rules(
         kinds,
         a,
         b,
+        canon,
         count,
         rules,
         links,
@@ -161,6 +180,7 @@ fn judge_tree(
     kinds: &[u8; 256],
     a: &[u16; 256],
     b: &[u16; 256],
+    canon: &[u16; 256],
     count: usize,
     members: &[u16; 24],
     listed: usize,
@@ -173,12 +193,12 @@ fn judge_tree(
     entries: &mut [u16],
     exits: &mut [u16],
 ) -> Verdict
-    requires { ⌜ Judged (now kinds) (now a) (now b) count (now rules) (now links) (now starts) (now codes) nodes × Members (now members) listed ⌝ }
+    requires { ⌜ Judged (now kinds) (now a) (now b) (now canon) count (now rules) (now links) (now starts) (now codes) nodes × Members count (now members) listed ⌝ }
     requires { ⌜ Upward (now owners) nodes × OwnedBy (now rules) (now links) nodes nodes (now owners) × Counted (now owners) nodes nodes (now entries) (now exits) ⌝ }
     ensures { λ r. ⌜ shown r ≡ tree-rules-judged (heldClaim (now (kinds .entry)) (now (a .entry)) (now (b .entry)) count (now (members .entry)) listed)
         (proofOf (now (rules .entry)) (now (links .entry)) (now (starts .entry)) (now (codes .entry)) nodes) ⌝ }
 {
-    if !root_is_claim(members, listed, starts, codes) {
+    if !root_is_claim(canon, members, listed, starts, codes) {
         return Verdict::Refused {
             number: 36,
             place: 0,
@@ -188,6 +208,7 @@ fn judge_tree(
         kinds,
         a,
         b,
+        canon,
         count,
         rules,
         links,
@@ -205,6 +226,7 @@ fn judge_in(
     kinds: &[u8; 256],
     a: &[u16; 256],
     b: &[u16; 256],
+    canon: &[u16; 256],
     count: usize,
     members: &[u16; 24],
     listed: usize,
@@ -217,8 +239,8 @@ fn judge_in(
     entries: &mut [u16],
     exits: &mut [u16],
 ) -> Verdict
-    requires { ⌜ Laid (now kinds) (now a) (now b) count (now rules) (now links) (now starts) (now codes) nodes × Members (now members) listed ×
-        Fresh nodes (now owners) (now entries) (now exits) ⌝ }
+    requires { ⌜ Laid (now kinds) (now a) (now b) count (now rules) (now links) (now starts) (now codes) nodes × Members count (now members) listed ×
+        Fresh nodes (now owners) (now entries) (now exits) × Numbers (tableOf (now kinds) (now a) (now b) count) (now canon) ⌝ }
     ensures { λ r. ⌜ shown r ≡ judged (heldClaim (now (kinds .entry)) (now (a .entry)) (now (b .entry)) count (now (members .entry)) listed)
         (heldProof (now (rules .entry)) (now (links .entry)) (now (starts .entry)) (now (codes .entry)) nodes) ⌝ }
 {
@@ -227,6 +249,7 @@ fn judge_in(
             kinds,
             a,
             b,
+            canon,
             count,
             members,
             listed,
@@ -248,6 +271,7 @@ fn judge_few(
     kinds: &[u8; 256],
     a: &[u16; 256],
     b: &[u16; 256],
+    canon: &[u16; 256],
     count: usize,
     members: &[u16; 24],
     listed: usize,
@@ -257,8 +281,8 @@ fn judge_few(
     codes: &[u16],
     nodes: usize,
 ) -> Verdict
-    requires { ⌜ Laid (now kinds) (now a) (now b) count (now rules) (now links) (now starts) (now codes) nodes × Members (now members) listed ×
-        (nodes ≤ 32) ⌝ }
+    requires { ⌜ Laid (now kinds) (now a) (now b) count (now rules) (now links) (now starts) (now codes) nodes × Members count (now members) listed ×
+        (nodes ≤ 32) × Numbers (tableOf (now kinds) (now a) (now b) count) (now canon) ⌝ }
     ensures { λ r. ⌜ shown r ≡ judged (heldClaim (now (kinds .entry)) (now (a .entry)) (now (b .entry)) count (now (members .entry)) listed)
         (heldProof (now (rules .entry)) (now (links .entry)) (now (starts .entry)) (now (codes .entry)) nodes) ⌝ }
 {
@@ -269,6 +293,7 @@ fn judge_few(
         kinds,
         a,
         b,
+        canon,
         count,
         members,
         listed,
@@ -288,6 +313,7 @@ fn judge_many(
     kinds: &[u8; 256],
     a: &[u16; 256],
     b: &[u16; 256],
+    canon: &[u16; 256],
     count: usize,
     members: &[u16; 24],
     listed: usize,
@@ -297,7 +323,8 @@ fn judge_many(
     codes: &[u16],
     nodes: usize,
 ) -> Verdict
-    requires { ⌜ Laid (now kinds) (now a) (now b) count (now rules) (now links) (now starts) (now codes) nodes × Members (now members) listed ⌝ }
+    requires { ⌜ Laid (now kinds) (now a) (now b) count (now rules) (now links) (now starts) (now codes) nodes × Members count (now members) listed ×
+        Numbers (tableOf (now kinds) (now a) (now b) count) (now canon) ⌝ }
     ensures { λ r. ⌜ shown r ≡ judged (heldClaim (now (kinds .entry)) (now (a .entry)) (now (b .entry)) count (now (members .entry)) listed)
         (heldProof (now (rules .entry)) (now (links .entry)) (now (starts .entry)) (now (codes .entry)) nodes) ⌝ }
 {
@@ -308,6 +335,7 @@ fn judge_many(
         kinds,
         a,
         b,
+        canon,
         count,
         members,
         listed,
@@ -322,11 +350,12 @@ fn judge_many(
     )
 }
 
-// 35 to 39: the first fault of a decoded proof, or acceptance.
+// 35 to 39: the first fault of a decoded proof, or acceptance; canon has the number of each formula.
 pub fn judge(
     kinds: &[u8; 256],
     a: &[u16; 256],
     b: &[u16; 256],
+    canon: &[u16; 256],
     count: usize,
     members: &[u16; 24],
     listed: usize,
@@ -337,7 +366,7 @@ pub fn judge(
     nodes: usize,
 ) -> Verdict
     requires { ⌜ Laid (now kinds) (now a) (now b) count (now rules) (now links) (now starts) (now codes) nodes ⌝ }
-    requires { ⌜ Members (now members) listed ⌝ }
+    requires { ⌜ Members count (now members) listed × Numbers (tableOf (now kinds) (now a) (now b) count) (now canon) ⌝ }
     ensures { λ r. ⌜ shown r ≡ judged (heldClaim (now (kinds .entry)) (now (a .entry)) (now (b .entry)) count (now (members .entry)) listed)
         (heldProof (now (rules .entry)) (now (links .entry)) (now (starts .entry)) (now (codes .entry)) nodes) ⌝ }
 {
@@ -346,6 +375,7 @@ pub fn judge(
             kinds,
             a,
             b,
+            canon,
             count,
             members,
             listed,
@@ -360,6 +390,7 @@ pub fn judge(
         kinds,
         a,
         b,
+        canon,
         count,
         members,
         listed,

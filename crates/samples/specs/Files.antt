@@ -89,11 +89,15 @@ noSuccessor = 0x4D ∷ 0x44 ∷ 0x4C ∷ 0x31 ∷ 1 ∷ 0 ∷ []
 unfoldable pub ownSuccessor : List ℕ
 ownSuccessor = 0x4D ∷ 0x44 ∷ 0x4C ∷ 0x31 ∷ 1 ∷ 2 ∷ 1 ∷ 0 ∷ []
 
--- true, and its box under two numbers; members 1 and 2
-unfoldable pub twoBoxes : List ℕ
-twoBoxes = 0x43 ∷ 0x4C ∷ 0x4D ∷ 0x31 ∷ 3 ∷ 0 ∷ 0 ∷ 1 ∷ 1 ∷ 7 ∷ 0 ∷ 0 ∷ 1 ∷ 7 ∷ 0 ∷ 0 ∷ 2 ∷ 0 ∷ 1 ∷ 0 ∷ 2 ∷ 0 ∷ []
+-- true, its box, and the box of that; members 1 and 2
+unfoldable pub boxOfBox : List ℕ
+boxOfBox = 0x43 ∷ 0x4C ∷ 0x4D ∷ 0x31 ∷ 3 ∷ 0 ∷ 0 ∷ 1 ∷ 1 ∷ 7 ∷ 0 ∷ 0 ∷ 1 ∷ 7 ∷ 1 ∷ 0 ∷ 2 ∷ 0 ∷ 1 ∷ 0 ∷ 2 ∷ 0 ∷ []
 
--- box with another box beside it, then Ax2
+-- box with another box beside it and both targets below, W of the box among them, then Ax2
 unfoldable pub boxBesideBox : List ℕ
 unfolding nodes
-boxBesideBox = nodes 2 ++ (0x13 ∷ 0x04 ∷ 3 ∷ 0 ∷ 1 ∷ 0 ∷ 2 ∷ 3 ∷ 0 ∷ 5 ∷ 0 ∷ []) ++ (0x10 ∷ 0x01 ∷ 1 ∷ 1 ∷ 0 ∷ [])
+boxBesideBox =
+    nodes 3
+    ++ (0x13 ∷ 0x04 ∷ 3 ∷ 0 ∷ 1 ∷ 0 ∷ 2 ∷ 3 ∷ 0 ∷ 5 ∷ 0 ∷ [])
+    ++ (0x13 ∷ 0x07 ∷ 3 ∷ 0 ∷ 2 ∷ 0 ∷ 2 ∷ 1 ∷ 0 ∷ 3 ∷ 0 ∷ [])
+    ++ (0x10 ∷ 0x01 ∷ 1 ∷ 1 ∷ 0 ∷ [])

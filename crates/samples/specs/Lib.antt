@@ -1,3 +1,5 @@
+pub mod Parts
 pub mod Files
 pub mod NearMisses
+pub mod Twins
 pub mod Samples

@@ -1,60 +1,7 @@
 -- files that fail one condition of documents 01 and 02 and keep all others, laid down from their parts
 use mathlib.Core.List.{List, [], _∷_, _++_}
 use Prim.Native.Nat.{ℕ}
-use lib.ListN.{length}
-
--- little-endian, each number below 256
-abbrev twoBytes : List ℕ → List ℕ
-twoBytes [] = []
-twoBytes (n ∷ l) = n ∷ 0 ∷ twoBytes l
-
-abbrev joined : List (List ℕ) → List ℕ
-joined [] = []
-joined (part ∷ l) = part ++ joined l
-
-abbrev claimOpening : List ℕ
-claimOpening = 0x43 ∷ 0x4C ∷ 0x4D ∷ 0x31 ∷ []
-
-abbrev proofOpening : List ℕ
-proofOpening = 0x50 ∷ 0x52 ∷ 0x46 ∷ 0x31 ∷ []
-
-abbrev modelOpening : List ℕ
-modelOpening = 0x4D ∷ 0x44 ∷ 0x4C ∷ 0x31 ∷ []
-
--- the entry true; an entry with A alone; one with A and B
-abbrev truth : List ℕ
-truth = 0 ∷ 1 ∷ []
-
-abbrev entryA : ℕ → ℕ → List ℕ
-entryA kind a = 1 ∷ kind ∷ a ∷ 0 ∷ []
-
-abbrev entryAB : ℕ → ℕ → ℕ → List ℕ
-entryAB kind a b = 3 ∷ kind ∷ a ∷ 0 ∷ b ∷ 0 ∷ []
-
-abbrev claimOf : List (List ℕ) → List ℕ → List ℕ
-claimOf entries members = claimOpening ++ (length entries ∷ 0 ∷ joined entries) ++ (length members ∷ 0 ∷ twoBytes members)
-
-abbrev sequent : List ℕ → List ℕ
-sequent codes = length codes ∷ twoBytes codes
-
--- a node with a principal and one child, by its rule; rule 3, 10, 11; Ax2. A code is 2 × entry + focus
-abbrev step : ℕ → ℕ → ℕ → List ℕ → List ℕ
-step rule principal child codes = 0x13 ∷ rule ∷ principal ∷ 0 ∷ child ∷ 0 ∷ sequent codes
-
-abbrev and : ℕ → ℕ → ℕ → List ℕ → List ℕ
-and principal first second codes = 0x17 ∷ 3 ∷ principal ∷ 0 ∷ first ∷ 0 ∷ second ∷ 0 ∷ sequent codes
-
-abbrev discharge : ℕ → List ℕ → List ℕ
-discharge child codes = 0x12 ∷ 10 ∷ child ∷ 0 ∷ sequent codes
-
-abbrev back : ℕ → List ℕ → List ℕ
-back link codes = 0x18 ∷ 11 ∷ link ∷ 0 ∷ sequent codes
-
-abbrev axiom2 : List ℕ → List ℕ
-axiom2 codes = 0x10 ∷ 1 ∷ sequent codes
-
-abbrev proofOf : List (List ℕ) → List ℕ
-proofOf nodes = proofOpening ++ (length nodes ∷ 0 ∷ joined nodes)
+use Rattle.samples.specs.Parts.{claimOpening, proofOpening, modelOpening, falsity, truth, entryA, entryAB, claimOf, sequent, step, and, discharge, back, axiom2, proofOf}
 
 -- true alone, and Ax2 for a code: whatever its other entries are, a claim on true alone is accepted with it unless it is ill formed
 abbrev pub onlyTrue : List ℕ
@@ -163,13 +110,13 @@ fixpointUnderBox outer inner = claimOf (entryA 10 3 ∷ entryA inner 0 ∷ entry
 abbrev pub trueBesideLetter : ℕ → ℕ → List ℕ
 trueBesideLetter kind letter = claimOf (truth ∷ entryA kind letter ∷ []) (0 ∷ [])
 
--- true under two numbers
-abbrev pub twoTrue : List ℕ → List ℕ
-twoTrue members = claimOf (truth ∷ truth ∷ []) members
+-- true, and false beside it
+abbrev pub trueBesideFalse : List ℕ → List ℕ
+trueBesideFalse members = claimOf (truth ∷ falsity ∷ []) members
 
--- W of entry 1, then Ax2
-abbrev pub secondDropped : List ℕ → List ℕ
-secondDropped codes = proofOf (step 7 3 1 codes ∷ axiom2 (1 ∷ []) ∷ [])
+-- W of a principal, then Ax2
+abbrev pub dropped : ℕ → List ℕ → List ℕ
+dropped principal codes = proofOf (step 7 principal 1 codes ∷ axiom2 (1 ∷ []) ∷ [])
 
 -- F of a code that is in focus; U, then U of the code that is out of focus
 abbrev pub focusedTwice : List ℕ
@@ -193,7 +140,7 @@ oneChildTwice = proofOf (and 3 1 1 (3 ∷ []) ∷ axiom2 (1 ∷ []) ∷ [])
 abbrev pub codeTwice : List ℕ
 codeTwice = proofOf (discharge 1 (1 ∷ 1 ∷ []) ∷ axiom2 (1 ∷ []) ∷ [])
 
--- true, and a nu of box whose name is entry 1; members 0 and 1
+-- true, and entry 3, a nu of box whose name is entry 1; members 0 and 1
 abbrev pub nameAsMember : List ℕ
 nameAsMember = claimOf (truth ∷ entryA 10 3 ∷ entryA 7 1 ∷ entryA 9 2 ∷ []) (0 ∷ 1 ∷ [])
 

@@ -1,7 +1,8 @@
--- document 01's proved samples, then near misses, as one table computed from the definitions: files, models and the gate
+-- document 01's proved samples, then near misses, as one table computed from the definitions: files, models and the gate; formulas alike (T-03) among them
 use mathlib.Core.Path.{_≡_, refl}
 use mathlib.Core.List.{List, [], _∷_, _++_}
 use Prim.Native.Nat.{ℕ}
+use native.Mathlib.Decide.{ℕ-discrete}
 use lib.ListN.{take, replicate}
 use Rattle.verdict.specs.Verdict.{Verdict, accepted, refused}
 use Rattle.formula.specs.Table.{blank}
@@ -10,11 +11,13 @@ use Rattle.demands.specs.Slices.{Lent, LentWords}
 use Rattle.demands.specs.Check.{verdict}
 use Rattle.demands.specs.Present.{presenting}
 use Rattle.demands.specs.Evaluate.{evaluating}
-use Rattle.samples.specs.Files.{nuBox, muBox, loopOfNu, loopOfMu, loopOfMuWithF, loopOfFocusedMu, boxBesideBox, twoBoxes, emptyLoop, orOfLetters, orThenAx1, muOfOwnName, diamondAbove, noSuccessor, ownSuccessor}
+use Rattle.samples.specs.Files.{nuBox, muBox, loopOfNu, loopOfMu, loopOfMuWithF, loopOfFocusedMu, boxBesideBox, boxOfBox, emptyLoop, orOfLetters, orThenAx1, muOfOwnName, diamondAbove, noSuccessor, ownSuccessor}
 use Rattle.samples.specs.NearMisses.{nuOfBoxOrLetter, letterDropped, letterUnfocused, lastFocusLeft, lastFocusBroughtBack, nuOfBoxOrMu, letterFocused, nuOfBoxTwice}
 use Rattle.samples.specs.NearMisses.{nuOfAndOrMu, everyRuleButF, focusLostAbove, goodLoopThenBad, loopOutOfFocus, loopFocusedOnce, loopWithoutD}
-use Rattle.samples.specs.NearMisses.{onlyTrue, byAx2, twoTrue, secondDropped, focusedTwice, unfocusedTwice, orphan, trueAndTrue, oneChildTwice}
+use Rattle.samples.specs.NearMisses.{onlyTrue, byAx2, trueBesideFalse, dropped, focusedTwice, unfocusedTwice, orphan, trueAndTrue, oneChildTwice}
 use Rattle.samples.specs.NearMisses.{nameThroughFixpoint, fixpointUnderBox, trueBesideLetter, codeTwice, nameAsMember, leafWithName, mapOfAx2, mapOfTrue}
+use Rattle.samples.specs.Twins.{twoTrue, bothByAx2, letterTwice, allByAx1, twoOrs, orOfTwo, twoBoxes, boxOfTwo}
+use Rattle.samples.specs.Twins.{trueAndMuOfTrue, trueInEitherFocus, boxAndMuOfBox, boxInEitherFocus, nus, nestedNus, loopOfOther, leafOfOther, loopByTurns}
 use Rattle.samples.specs.NearMisses.{endsAtEntryCount, endsAtMemberCount, endsAtNodeCount, endsAtCodeCount, endsAtStateCount}
 
 -- what a sample asks, and what a definition answers
@@ -62,7 +65,7 @@ answered (takeTwice tag claim proof) =
     permitsAre (once .answer) (taking (once .gate) .answer)
 
 unfoldable pub samples : List Sample
-unfolding nuBox muBox loopOfNu loopOfMu loopOfMuWithF loopOfFocusedMu boxBesideBox twoBoxes emptyLoop orOfLetters orThenAx1 muOfOwnName diamondAbove noSuccessor ownSuccessor
+unfolding nuBox muBox loopOfNu loopOfMu loopOfMuWithF loopOfFocusedMu boxBesideBox boxOfBox emptyLoop orOfLetters orThenAx1 muOfOwnName diamondAbove noSuccessor ownSuccessor
 samples =
     -- nu of box, with a loop that is in focus throughout and has a box
     record { question = check nuBox loopOfNu; answer = verdictIs accepted }
@@ -87,7 +90,7 @@ samples =
     ∷ record { question = takeTwice 7 nuBox loopOfNu; answer = permitsAre (granted 7) (denied 52 0) }
     -- two readings that look sound: mu unfolded with its focus kept; a box step that keeps another box
     ∷ record { question = check muBox loopOfFocusedMu; answer = verdictIs (refused 37 1) }
-    ∷ record { question = check twoBoxes boxBesideBox; answer = verdictIs (refused 37 0) }
+    ∷ record { question = check boxOfBox boxBesideBox; answer = verdictIs (refused 37 0) }
     -- near misses: each fails one condition and keeps all others. Soundness does not need most of these conditions, so that a definition and
     -- its test without one of them would still be proved; each comment says what they would then answer
     -- a loop in focus with a box is good, and U may stand on it while a focused member is left; without 'rule 9 is now allowed': 39 at 6
@@ -112,13 +115,13 @@ samples =
     -- a back link leads to rule 10: an ancestor of rule 6 with the same sequent; with any rule: accepted
     ∷ record { question = check nuBox loopWithoutD; answer = verdictIs (refused 38 2) }
     -- the principal belongs to the sequent: W of a code that does not leaves the sequent as it is; without it: accepted
-    ∷ record { question = check (twoTrue (0 ∷ [])) (secondDropped (1 ∷ [])); answer = verdictIs (refused 37 0) }
+    ∷ record { question = check (trueBesideFalse (0 ∷ [])) (dropped 3 (1 ∷ [])); answer = verdictIs (refused 37 0) }
     -- F from out of focus, U from focus: with either focus: accepted
     ∷ record { question = check onlyTrue focusedTwice; answer = verdictIs (refused 37 0) }
     ∷ record { question = check onlyTrue unfocusedTwice; answer = verdictIs (refused 37 1) }
     -- the root has the members in focus, and all of them: with either focus, or with fewer members: accepted
     ∷ record { question = check onlyTrue (byAx2 0); answer = verdictIs (refused 36 0) }
-    ∷ record { question = check (twoTrue (0 ∷ 1 ∷ [])) (byAx2 1); answer = verdictIs (refused 36 0) }
+    ∷ record { question = check (trueBesideFalse (0 ∷ 1 ∷ [])) (byAx2 1); answer = verdictIs (refused 36 0) }
     -- every node but 0 is a child once: an orphan, then one child in both places of an and; without either half: accepted
     ∷ record { question = check onlyTrue orphan; answer = verdictIs (refused 35 1) }
     ∷ record { question = check trueAndTrue oneChildTwice; answer = verdictIs (refused 35 0) }
@@ -134,14 +137,49 @@ samples =
     ∷ record { question = check (trueBesideLetter 2 32) (byAx2 1); answer = verdictIs (refused 20 1) }
     ∷ record { question = check (trueBesideLetter 3 32) (byAx2 1); answer = verdictIs (refused 20 1) }
     -- members strictly rising: falling, and twice the same; as sets: accepted
-    ∷ record { question = check (twoTrue (1 ∷ 0 ∷ [])) (secondDropped (1 ∷ 3 ∷ [])); answer = verdictIs (refused 14 14) }
-    ∷ record { question = check (twoTrue (0 ∷ 0 ∷ [])) (byAx2 1); answer = verdictIs (refused 14 14) }
+    ∷ record { question = check (trueBesideFalse (1 ∷ 0 ∷ [])) (dropped 3 (1 ∷ 3 ∷ [])); answer = verdictIs (refused 14 14) }
+    ∷ record { question = check (trueBesideFalse (0 ∷ 0 ∷ [])) (byAx2 1); answer = verdictIs (refused 14 14) }
     -- codes strictly rising: falling, and twice the same; as sets: accepted
-    ∷ record { question = check (twoTrue (0 ∷ 1 ∷ [])) (secondDropped (3 ∷ 1 ∷ [])); answer = verdictIs (refused 34 15) }
+    ∷ record { question = check (trueBesideFalse (0 ∷ 1 ∷ [])) (dropped 3 (3 ∷ 1 ∷ [])); answer = verdictIs (refused 34 15) }
     ∷ record { question = check onlyTrue codeTwice; answer = verdictIs (refused 34 13) }
-    -- members are never names, a claim's: 34 where a name may be a member there alone, accepted where it may in both; a sequent's: 37 at 2
-    ∷ record { question = check nameAsMember (secondDropped (1 ∷ 3 ∷ [])); answer = verdictIs (refused 14 24) }
+    -- members are never names, a claim's: 34 where a name may be a member there alone, accepted where it may in both; a sequent's: accepted
+    ∷ record { question = check nameAsMember (dropped 7 (1 ∷ 3 ∷ [])); answer = verdictIs (refused 14 24) }
     ∷ record { question = check nuBox leafWithName; answer = verdictIs (refused 34 36) }
+    -- T-03, members are compared by formula: the root's are the claim's where true stands under two numbers for true, and for true under two
+    -- numbers; with the claim's or the root's read by entry numbers: 36 at 0
+    ∷ record { question = check (twoTrue (0 ∷ [])) bothByAx2; answer = verdictIs accepted }
+    ∷ record { question = check (twoTrue (0 ∷ 1 ∷ [])) (byAx2 1); answer = verdictIs accepted }
+    -- true and true are one member for Ax2, a letter and itself one for Ax1; by entry numbers: 37 at 0
+    ∷ record { question = check (twoTrue (0 ∷ 1 ∷ [])) bothByAx2; answer = verdictIs accepted }
+    ∷ record { question = check letterTwice allByAx1; answer = verdictIs accepted }
+    -- a principal leaves under every number, with rule 2; two boxes alike are one for rule 4; by entry numbers: 37 at 0
+    ∷ record { question = check twoOrs orOfTwo; answer = verdictIs accepted }
+    ∷ record { question = check twoBoxes boxOfTwo; answer = verdictIs accepted }
+    -- so W of one that leaves the other is no W; by entry numbers: accepted
+    ∷ record { question = check (twoTrue (0 ∷ 1 ∷ [])) (dropped 3 (1 ∷ 3 ∷ [])); answer = verdictIs (refused 37 0) }
+    -- with focus: in focus and out of it are two members, for Ax2 and for rule 4; with either focus: accepted
+    ∷ record { question = check trueAndMuOfTrue trueInEitherFocus; answer = verdictIs (refused 37 1) }
+    ∷ record { question = check boxAndMuOfBox boxInEitherFocus; answer = verdictIs (refused 37 1) }
+    -- the choice of bound names does not count: nu x box x and nu y box y; where it does: 36 at 0
+    ∷ record { question = check (nus (0 ∷ 3 ∷ [])) (dropped 13 (1 ∷ 13 ∷ [])); answer = verdictIs accepted }
+    -- a free name is replaced by its fixpoint: the box of x by itself and the box of nu x box x; where it is left: 36 at 0
+    ∷ record { question = check (nus (0 ∷ 2 ∷ [])) (dropped 15 (1 ∷ 15 ∷ [])); answer = verdictIs accepted }
+    -- nu x box x is not its unfolding, the box of it, nor a nu over that; where unfolding does not count: accepted, and where fixpoints are compared
+    -- by their bodies, each by itself: the second accepted
+    ∷ record { question = check (nus (0 ∷ 3 ∷ [])) (dropped 15 (1 ∷ 15 ∷ [])); answer = verdictIs (refused 36 0) }
+    ∷ record { question = check (nus (0 ∷ 3 ∷ [])) (dropped 17 (1 ∷ 17 ∷ [])); answer = verdictIs (refused 36 0) }
+    -- nu x nu y (box x or box y) is not the same with x and y exchanged; where a bound name is that of the innermost fixpoint: accepted
+    ∷ record { question = check (nestedNus (0 ∷ 7 ∷ [])) (dropped 29 (1 ∷ 29 ∷ [])); answer = verdictIs (refused 36 0) }
+    -- a principal may have another number than its member, nu y box y for nu x box x; with entry numbers: 37 at 0
+    ∷ record { question = check (nus (0 ∷ 3 ∷ [])) (dropped 13 (1 ∷ 7 ∷ [])); answer = verdictIs accepted }
+    -- but not that of a name, nor one out of range: these stand for the nu and for false, which are members; where they may: accepted
+    ∷ record { question = check (nus (0 ∷ 3 ∷ [])) (dropped 3 (1 ∷ 7 ∷ [])); answer = verdictIs (refused 37 0) }
+    ∷ record { question = check (trueBesideFalse (0 ∷ 1 ∷ [])) (dropped 201 (1 ∷ 3 ∷ [])); answer = verdictIs (refused 37 0) }
+    -- the loop of nu with another number at the root, in the leaf, at each step; where the claim, the leaf, rule 10 goes by entry numbers: 36 at 0,
+    -- 38 at 3, 37 at 0
+    ∷ record { question = check (nus (3 ∷ [])) loopOfOther; answer = verdictIs accepted }
+    ∷ record { question = check (nus (3 ∷ [])) leafOfOther; answer = verdictIs accepted }
+    ∷ record { question = check (nus (3 ∷ [])) loopByTurns; answer = verdictIs accepted }
     -- bits 5 to 7 of a node's map are zero, and an entry's map has no bit but its kind's: unread bits: accepted
     ∷ record { question = check onlyTrue (mapOfAx2 0x30); answer = verdictIs (refused 33 6) }
     ∷ record { question = check onlyTrue (mapOfAx2 0x50); answer = verdictIs (refused 33 6) }
@@ -177,5 +215,5 @@ expected [] = []
 expected (x ∷ l) = x .answer ∷ expected l
 
 pub samples-right : answers samples ≡ expected samples
-unfolding answers expected samples answered
+unfolding answers expected samples answered ℕ-discrete
 samples-right = refl

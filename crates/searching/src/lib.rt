@@ -15,7 +15,8 @@ use one_level::at;
 use one_level::fit;
 use one_level::number;
 
-// Whether f stands with k names bound, which it does from bound[f] to totals[f], and is the same form as e.
+// Whether f stands with k names bound, which it does from bound[f] to totals[f], and is the same form as e. Most are of another kind, so `fit`'s
+// first test is made before the others.
 fn candidate(
     kinds: &[u8; 256],
     a: &[u16; 256],
@@ -37,6 +38,9 @@ fn candidate(
     ensures { λ r. ⌜ Tells r (Candidate (now (kinds .entry)) (now (a .entry)) (now (b .entry)) (now (totals .entry))
         (now (firsts .entry)) (now (seconds .entry)) (now (bound .entry)) (now (numbers .entry)) k i j e f) ⌝ }
 {
+    if kinds[f] != kinds[e] {
+        return false;
+    }
     if k < as_index(bound[f]) {
         return false;
     }

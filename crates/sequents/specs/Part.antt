@@ -5,7 +5,7 @@ use Prim.Native.Nat.{ℕ, zero, suc, _+_, _-_, _<_, _≤_}
 use native.Mathlib.Nat.{le-of-suc-le-suc}
 use native.Mathlib.Omega.{arith}
 use lib.ListN.{length, getD, take, drop, length-take, length-drop}
-use lib.Seq.{drop-cons, getD-drop}
+use lib.Seq.{drop-cons, getD-take, getD-drop}
 use Rattle.verdict.specs.Sets.{elements}
 
 abbrev pub part : List ℕ → ℕ → ℕ → List ℕ
@@ -39,6 +39,10 @@ part-all l j = let whole : j - 0 ≡ j = omega arith in rw whole refl
 pub part-length : (l : List ℕ) (i j : ℕ) → j ≤ length l → length (part l i j) ≡ j - i
 part-length l i j h = simp (length-take, length-drop) (omega arith)
 
+-- what stands at a place of a part
+pub part-at : (l : List ℕ) (i j k : ℕ) → k < j - i → getD (part l i j) k 0 ≡ getD l (i + k) 0
+part-at l i j k h = getD-take (j - i) (drop i l) k 0 h ∙ getD-drop i l k 0
+
 taken : (l : List ℕ) (n k : ℕ) → k < n → k < length l → elements (take n l) (getD l k 0)
 taken [] n k h g = absurd (omega arith)
 taken (x ∷ l) zero k h g = absurd (omega arith)
@@ -51,3 +55,7 @@ part-member l i j k h g m =
     let from : i + (k - i) ≡ k = omega arith in
     let at : getD (drop i l) (k - i) 0 ≡ getD l k 0 = getD-drop i l (k - i) 0 ∙ ap (λ (n : ℕ). getD l n 0) from in
     subst (λ (x : ℕ). elements (part l i j) x) at (taken (drop i l) (j - i) (k - i) (omega arith) (simp length-drop (omega arith)))
+
+-- a code at a place within fits a set
+pub span-small : {cs : List ℕ} {i j : ℕ} → Span cs i j → (k : ℕ) → i ≤ k → k < j → getD cs k 0 < 512
+span-small {cs} {i} {j} S k h g = S .small _ (part-member cs i j k h g (S .long))

@@ -1,17 +1,32 @@
-// What a rule makes of a node's principal: the codes of its operands' targets, and the side with one of them.
+// What a rule makes of a node's principal: its operands' targets as members, and the side with one of them.
 ghost use mathlib.Core.Path.{_≡_};
 ghost use mathlib.Core.List.{List, _∷_};
-ghost use Prim.Native.Nat.{ℕ, _<_};
+ghost use Prim.Native.Nat.{ℕ, _<_, _≤_};
 ghost use lib.ListN.{length, getD};
 ghost use Rattle.verdict.specs.Tests.{same as sameSet};
 ghost use Rattle.formula.specs.Plain.{tableOf};
 ghost use Rattle.formula.specs.Target.{target as targetOf};
-ghost use Rattle.formula.specs.Codes.{code as codeOf, entryOf};
+ghost use Rattle.formula.specs.Codes.{entryOf};
 ghost use Rattle.sequents.specs.CodeSet.{Holds, inserted};
+ghost use Rattle.sequents.specs.Keys.{Narrow, keyAt, formulaAt};
 ghost use Rattle.sequents.specs.Placed.{Within};
-use super::sets::code_of;
 use super::sets::entry_of;
+use super::sets::key;
+use formula::Kind;
 use formula::target;
+
+// Whether a code is of an entry that is no name: no other may be a principal, whatever formula it has (T-03: "a name or out of range still
+// gets 37").
+pub fn is_formula(kinds: &[u8; 256], size: usize, code: u16) -> bool
+    requires { ⌜ size ≤ 256 ⌝ }
+    ensures { λ r. ⌜ r ≡ formulaAt (now (kinds .entry)) size code ⌝ }
+{
+    let entry = entry_of(code);
+    if size <= entry {
+        return false;
+    }
+    kinds[entry] != Kind::NAME
+}
 
 // Word i of a set with a code more.
 fn word_plus(set: &[u64; 8], code: u16, i: usize) -> u64
@@ -40,26 +55,33 @@ pub fn is_side_plus(side: &[u64; 8], code: u16, child: &[u64; 8]) -> bool
     true
 }
 
-// The code of an operand's target.
-fn target_code(kinds: &[u8; 256], a: &[u16; 256], operand: u16, focus: u16) -> u16
-    requires { ⌜ Within (now kinds) (now a) operand × (focus < 2) ⌝ }
-    ensures { λ r. ⌜ (r < 512) × ((ys : List ℕ) (n : ℕ) → operand < n → r ≡ codeOf
-        (targetOf (tableOf (now (kinds .entry)) (now (a .entry)) ys n) operand) focus) ⌝ }
-{
-    code_of(target(kinds, a, operand), focus)
-}
-
-// The code of the target of a member's operand, which stands in the column a or b.
-pub fn operand_code(
+// An operand's target as a member.
+fn target_key(
     kinds: &[u8; 256],
     a: &[u16; 256],
+    canon: &[u16; 256],
+    operand: u16,
+    focus: u16,
+) -> u16
+    requires { ⌜ Narrow (now canon) × Within (now kinds) (now a) operand × (focus < 2) ⌝ }
+    ensures { λ r. ⌜ (r < 512) × ((ys : List ℕ) (n : ℕ) → operand < n → r ≡ keyAt (now (canon .entry))
+        (targetOf (tableOf (now (kinds .entry)) (now (a .entry)) ys n) operand) focus) ⌝ }
+{
+    key(canon, target(kinds, a, operand) as usize, focus)
+}
+
+// The target of a member's operand, which stands in the column a or b, as a member.
+pub fn operand_key(
+    kinds: &[u8; 256],
+    a: &[u16; 256],
+    canon: &[u16; 256],
     column: &[u16; 256],
     member: u16,
     focus: u16,
 ) -> u16
-    requires { ⌜ (member < 512) × Within (now kinds) (now a) (getD (now column) (entryOf member) 0) × (focus < 2) ⌝ }
-    ensures { λ r. ⌜ (r < 512) × ((ys : List ℕ) (n : ℕ) → getD (now (column .entry)) (entryOf member) 0 < n → r ≡ codeOf
+    requires { ⌜ Narrow (now canon) × (member < 512) × Within (now kinds) (now a) (getD (now column) (entryOf member) 0) × (focus < 2) ⌝ }
+    ensures { λ r. ⌜ (r < 512) × ((ys : List ℕ) (n : ℕ) → getD (now (column .entry)) (entryOf member) 0 < n → r ≡ keyAt (now (canon .entry))
         (targetOf (tableOf (now (kinds .entry)) (now (a .entry)) ys n) (getD (now (column .entry)) (entryOf member) 0)) focus) ⌝ }
 {
-    target_code(kinds, a, column[entry_of(member)], focus)
+    target_key(kinds, a, canon, column[entry_of(member)], focus)
 }

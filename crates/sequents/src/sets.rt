@@ -1,5 +1,6 @@
-// A sequent as a set of codes: 512 bits in eight words, code c as bit c % 64 of word c / 64. A set is filled where it stands
-// and never copied: a copy reads two words at once, and waits for the stores of one word that filled them.
+// A sequent as a set of members: 512 bits in eight words, the member with the key c as bit c % 64 of word c / 64. A key is 2 × the number of the
+// member's formula + its focus: `canon` has for each entry the number of its formula, the least entry with it that is no name (crate numbers).
+// A set is filled where it stands and never copied: a copy reads two words at once, and waits for the stores of one word that filled them.
 ghost use mathlib.Core.Path.{_≡_};
 ghost use mathlib.Core.List.{List, [], _∷_};
 ghost use Prim.Native.Nat.{ℕ, _<_};
@@ -10,7 +11,8 @@ ghost use Rattle.formula.specs.Table.{Table};
 ghost use Rattle.formula.specs.PlainNodes.{codesAt, proofOf};
 ghost use Rattle.sequents.specs.CodeSet.{Holds};
 ghost use Rattle.sequents.specs.Part.{part, Span};
-ghost use Rattle.sequents.specs.Placed.{Placed, Members, inFocus};
+ghost use Rattle.sequents.specs.Keys.{Narrow, keyAt, keyOf, keysOf, inFocus, RootOver};
+ghost use Rattle.sequents.specs.Placed.{Placed, Members};
 ghost use Rattle.calculus.specs.View.{plain};
 ghost use Rattle.calculus.specs.Judge.{root};
 use bits::wide;
@@ -62,18 +64,6 @@ pub fn same(x: &[u64; 8], y: &[u64; 8]) -> bool
     true
 }
 
-// The codes from one place up to another, into a set that has none.
-pub fn put_part(set: &mut [u64; 8], codes: &[u16], from: usize, to: usize)
-    requires { ⌜ Span (now codes) from to × Holds (now set) [] ⌝ }
-    ensures { λ _. ⌜ Holds (now (set .exit)) (part (now (codes .entry)) from to) ⌝ }
-{
-    let mut i = to;
-    while from < i {
-        i -= 1;
-        put(set, codes[i]);
-    }
-}
-
 // The entry of a code, as an index.
 pub fn entry_of(code: u16) -> usize
     ensures { λ r. ⌜ r ≡ entryOf code ⌝ }
@@ -89,47 +79,83 @@ pub fn code_of(entry: u16, focus: u16) -> u16
     2 * entry + focus
 }
 
-// The sequent of node v, into a set that has none.
-pub fn put_sequent(set: &mut [u64; 8], starts: &[u16], codes: &[u16], v: usize)
-    requires { ⌜ Placed (now starts) (now codes) v × Holds (now set) [] ⌝ }
-    ensures { λ _. ⌜ Holds (now (set .exit)) (codesAt (now (starts .entry)) (now (codes .entry)) v) ⌝ }
+// The member that an entry is with a focus, by the number of its formula.
+pub fn key(canon: &[u16; 256], entry: usize, focus: u16) -> u16
+    requires { ⌜ Narrow (now canon) × (entry < 256) × (focus < 2) ⌝ }
+    ensures { λ r. ⌜ (r < 512) × (r ≡ keyAt (now (canon .entry)) entry focus) ⌝ }
 {
-    put_part(set, codes, wide(starts[v]), wide(starts[v + 1]));
+    code_of(canon[entry], focus)
+}
+
+// The member that a code stands for: members are compared by formula, and two codes of one formula and one focus are one member.
+pub fn key_of(canon: &[u16; 256], code: u16) -> u16
+    requires { ⌜ Narrow (now canon) × (code < 512) ⌝ }
+    ensures { λ r. ⌜ (r < 512) × (r ≡ keyOf (now (canon .entry)) code) ⌝ }
+{
+    key(canon, entry_of(code), code % 2)
+}
+
+// The members from one place of the list up to another, into a set that has none.
+pub fn put_part(set: &mut [u64; 8], canon: &[u16; 256], codes: &[u16], from: usize, to: usize)
+    requires { ⌜ Narrow (now canon) × Span (now codes) from to × Holds (now set) [] ⌝ }
+    ensures { λ _. ⌜ Holds (now (set .exit)) (keysOf (now (canon .entry)) (part (now (codes .entry)) from to)) ⌝ }
+{
+    let mut i = to;
+    while from < i {
+        i -= 1;
+        put(set, key_of(canon, codes[i]));
+    }
+}
+
+// The sequent of node v, into a set that has none.
+pub fn put_sequent(set: &mut [u64; 8], canon: &[u16; 256], starts: &[u16], codes: &[u16], v: usize)
+    requires { ⌜ Narrow (now canon) × Placed (now starts) (now codes) v × Holds (now set) [] ⌝ }
+    ensures { λ _. ⌜ Holds (now (set .exit)) (keysOf (now (canon .entry)) (codesAt (now (starts .entry)) (now (codes .entry)) v)) ⌝ }
+{
+    put_part(set, canon, codes, wide(starts[v]), wide(starts[v + 1]));
 }
 
 // Whether nodes v and w have the same sequent, as a back leaf and its companion have.
-pub fn same_sequent(starts: &[u16], codes: &[u16], v: usize, w: usize) -> bool
-    requires { ⌜ Placed (now starts) (now codes) v × Placed (now starts) (now codes) w ⌝ }
-    ensures { λ r. ⌜ r ≡ sameSet (codesAt (now (starts .entry)) (now (codes .entry)) v) (codesAt (now (starts .entry)) (now (codes .entry)) w) ⌝ }
+pub fn same_sequent(canon: &[u16; 256], starts: &[u16], codes: &[u16], v: usize, w: usize) -> bool
+    requires { ⌜ Narrow (now canon) × Placed (now starts) (now codes) v × Placed (now starts) (now codes) w ⌝ }
+    ensures { λ r. ⌜ r ≡ sameSet (keysOf (now (canon .entry)) (codesAt (now (starts .entry)) (now (codes .entry)) v))
+        (keysOf (now (canon .entry)) (codesAt (now (starts .entry)) (now (codes .entry)) w)) ⌝ }
 {
     let mut here = [0u64; 8];
-    put_sequent(&mut here, starts, codes, v);
+    put_sequent(&mut here, canon, starts, codes, v);
     let mut there = [0u64; 8];
-    put_sequent(&mut there, starts, codes, w);
+    put_sequent(&mut there, canon, starts, codes, w);
     same(&here, &there)
 }
 
 // The claim's members, all in focus, into a set that has none.
-fn put_claim(set: &mut [u64; 8], members: &[u16; 24], count: usize)
-    requires { ⌜ Members (now members) count × Holds (now set) [] ⌝ }
-    ensures { λ _. ⌜ Holds (now (set .exit)) (each inFocus (take count (now (members .entry)))) ⌝ }
+fn put_claim(set: &mut [u64; 8], canon: &[u16; 256], members: &[u16; 24], count: usize)
+    requires { ⌜ Narrow (now canon) × Members 256 (now members) count × Holds (now set) [] ⌝ }
+    ensures { λ _. ⌜ Holds (now (set .exit)) (each (inFocus (now (canon .entry))) (take count (now (members .entry)))) ⌝ }
 {
     let mut i = count;
     while 0 < i {
         i -= 1;
-        put(set, code_of(members[i], 1));
+        put(set, key(canon, wide(members[i]), 1));
     }
 }
 
 // Whether the root's members are the claim's, all in focus (refusal 36).
-pub fn root_is_claim(members: &[u16; 24], count: usize, starts: &[u16], codes: &[u16]) -> bool
-    requires { ⌜ Members (now members) count × Placed (now starts) (now codes) 0 ⌝ }
-    ensures { λ r. ⌜ ((t : Table) (rs ls : List ℕ) (n : ℕ) → 0 < n → r ≡ root (record { entries = t; members = take count (now (members .entry)) })
+pub fn root_is_claim(
+    canon: &[u16; 256],
+    members: &[u16; 24],
+    count: usize,
+    starts: &[u16],
+    codes: &[u16],
+) -> bool
+    requires { ⌜ Narrow (now canon) × Members 256 (now members) count × Placed (now starts) (now codes) 0 ⌝ }
+    ensures { λ r. ⌜ ((t : Table) → RootOver t (now (canon .entry)) (take count (now (members .entry))) (codesAt (now (starts .entry)) (now (codes .entry)) 0) →
+        (rs ls : List ℕ) (n : ℕ) → 0 < n → r ≡ root (record { entries = t; members = take count (now (members .entry)) })
         (plain (proofOf rs ls (now (starts .entry)) (now (codes .entry)) n))) ⌝ }
 {
     let mut found = [0u64; 8];
-    put_sequent(&mut found, starts, codes, 0);
+    put_sequent(&mut found, canon, starts, codes, 0);
     let mut claimed = [0u64; 8];
-    put_claim(&mut claimed, members, count);
+    put_claim(&mut claimed, canon, members, count);
     same(&found, &claimed)
 }

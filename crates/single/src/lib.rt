@@ -2,13 +2,16 @@
 ghost use mathlib.Core.Path.{_≡_};
 ghost use Prim.Native.Nat.{_≤_};
 ghost use Rattle.verdict.specs.Shown.{shown};
+ghost use Rattle.formula.specs.Plain.{tableOf};
 ghost use Rattle.formula.specs.Held.{heldClaim};
 ghost use Rattle.formula.specs.NodeColumns.{Columns};
 ghost use Rattle.calculus.specs.Judge.{judge as judged};
 ghost use Rattle.demands.specs.Check.{verdict};
+ghost use Rattle.sequents.specs.Keys.{Numbers};
 ghost use Rattle.laid.specs.Readable.{Readable, proofAt};
 use claims::judge_beginning;
 use nodes::decode_proof;
+use numbers::number_formulas;
 use reader::FilesRead;
 use reader::read_beside;
 use reader::read_formed;
@@ -21,6 +24,7 @@ fn judge_in(
     kinds: &[u8; 256],
     a: &[u16; 256],
     b: &[u16; 256],
+    canon: &[u16; 256],
     entries: usize,
     members: &[u16; 24],
     listed: usize,
@@ -31,7 +35,7 @@ fn judge_in(
     codes: &mut [u16],
 ) -> Verdict
     requires { ⌜ Readable (now kinds) (now a) (now b) entries (now members) listed (now proof) nodes ×
-        Columns nodes (now rules) (now links) (now starts) (now codes) ⌝ }
+        Columns nodes (now rules) (now links) (now starts) (now codes) × Numbers (tableOf (now kinds) (now a) (now b) entries) (now canon) ⌝ }
     ensures { λ r. ⌜ shown r ≡ judged (heldClaim (now (kinds .entry)) (now (a .entry)) (now (b .entry)) entries (now (members .entry)) listed)
         (proofAt (now (proof .entry))) ⌝ }
 {
@@ -40,6 +44,7 @@ fn judge_in(
         kinds,
         a,
         b,
+        canon,
         entries,
         members,
         listed,
@@ -57,12 +62,14 @@ fn judge_few(
     kinds: &[u8; 256],
     a: &[u16; 256],
     b: &[u16; 256],
+    canon: &[u16; 256],
     entries: usize,
     members: &[u16; 24],
     listed: usize,
     nodes: usize,
 ) -> Verdict
-    requires { ⌜ Readable (now kinds) (now a) (now b) entries (now members) listed (now proof) nodes × (nodes ≤ 32) ⌝ }
+    requires { ⌜ Readable (now kinds) (now a) (now b) entries (now members) listed (now proof) nodes × (nodes ≤ 32) ×
+        Numbers (tableOf (now kinds) (now a) (now b) entries) (now canon) ⌝ }
     ensures { λ r. ⌜ shown r ≡ judged (heldClaim (now (kinds .entry)) (now (a .entry)) (now (b .entry)) entries (now (members .entry)) listed)
         (proofAt (now (proof .entry))) ⌝ }
 {
@@ -75,6 +82,7 @@ fn judge_few(
         kinds,
         a,
         b,
+        canon,
         entries,
         members,
         listed,
@@ -93,18 +101,31 @@ fn judge_some(
     kinds: &[u8; 256],
     a: &[u16; 256],
     b: &[u16; 256],
+    canon: &[u16; 256],
     entries: usize,
     members: &[u16; 24],
     listed: usize,
     nodes: usize,
     again: bool,
 ) -> Verdict
-    requires { ⌜ Readable (now kinds) (now a) (now b) entries (now members) listed (now proof) nodes × (nodes ≤ 128) ⌝ }
+    requires { ⌜ Readable (now kinds) (now a) (now b) entries (now members) listed (now proof) nodes × (nodes ≤ 128) ×
+        Numbers (tableOf (now kinds) (now a) (now b) entries) (now canon) ⌝ }
     ensures { λ r. ⌜ shown r ≡ judged (heldClaim (now (kinds .entry)) (now (a .entry)) (now (b .entry)) entries (now (members .entry)) listed)
         (proofAt (now (proof .entry))) ⌝ }
 {
     if again {
-        return judge_some(proof, kinds, a, b, entries, members, listed, nodes, false);
+        return judge_some(
+            proof,
+            kinds,
+            a,
+            b,
+            canon,
+            entries,
+            members,
+            listed,
+            nodes,
+            false,
+        );
     }
     let mut rules = [0u8; 128];
     let mut links = [0u16; 512];
@@ -115,6 +136,7 @@ fn judge_some(
         kinds,
         a,
         b,
+        canon,
         entries,
         members,
         listed,
@@ -132,18 +154,31 @@ fn judge_many(
     kinds: &[u8; 256],
     a: &[u16; 256],
     b: &[u16; 256],
+    canon: &[u16; 256],
     entries: usize,
     members: &[u16; 24],
     listed: usize,
     nodes: usize,
     again: bool,
 ) -> Verdict
-    requires { ⌜ Readable (now kinds) (now a) (now b) entries (now members) listed (now proof) nodes ⌝ }
+    requires { ⌜ Readable (now kinds) (now a) (now b) entries (now members) listed (now proof) nodes ×
+        Numbers (tableOf (now kinds) (now a) (now b) entries) (now canon) ⌝ }
     ensures { λ r. ⌜ shown r ≡ judged (heldClaim (now (kinds .entry)) (now (a .entry)) (now (b .entry)) entries (now (members .entry)) listed)
         (proofAt (now (proof .entry))) ⌝ }
 {
     if again {
-        return judge_many(proof, kinds, a, b, entries, members, listed, nodes, false);
+        return judge_many(
+            proof,
+            kinds,
+            a,
+            b,
+            canon,
+            entries,
+            members,
+            listed,
+            nodes,
+            false,
+        );
     }
     let mut rules = [0u8; 1024];
     let mut links = [0u16; 4096];
@@ -154,6 +189,7 @@ fn judge_many(
         kinds,
         a,
         b,
+        canon,
         entries,
         members,
         listed,
@@ -166,6 +202,54 @@ fn judge_many(
 }
 
 // In columns of the size that the count asks for. That no call asks `again` must not be told by the branch it stands in.
+fn judge_numbered(
+    proof: &[u8],
+    kinds: &[u8; 256],
+    a: &[u16; 256],
+    b: &[u16; 256],
+    canon: &[u16; 256],
+    entries: usize,
+    members: &[u16; 24],
+    listed: usize,
+    nodes: usize,
+) -> Verdict
+    requires { ⌜ Readable (now kinds) (now a) (now b) entries (now members) listed (now proof) nodes ×
+        Numbers (tableOf (now kinds) (now a) (now b) entries) (now canon) ⌝ }
+    ensures { λ r. ⌜ shown r ≡ judged (heldClaim (now (kinds .entry)) (now (a .entry)) (now (b .entry)) entries (now (members .entry)) listed)
+        (proofAt (now (proof .entry))) ⌝ }
+{
+    if nodes <= 32 {
+        return judge_few(proof, kinds, a, b, canon, entries, members, listed, nodes);
+    }
+    if nodes <= 128 {
+        return judge_some(
+            proof,
+            kinds,
+            a,
+            b,
+            canon,
+            entries,
+            members,
+            listed,
+            nodes,
+            256 < entries,
+        );
+    }
+    judge_many(
+        proof,
+        kinds,
+        a,
+        b,
+        canon,
+        entries,
+        members,
+        listed,
+        nodes,
+        1024 < nodes,
+    )
+}
+
+// The numbers of the claim's formulas, and then the rules: the room for numbering is given back before the proof's is taken.
 fn judge_sized(
     proof: &[u8],
     kinds: &[u8; 256],
@@ -180,33 +264,9 @@ fn judge_sized(
     ensures { λ r. ⌜ shown r ≡ judged (heldClaim (now (kinds .entry)) (now (a .entry)) (now (b .entry)) entries (now (members .entry)) listed)
         (proofAt (now (proof .entry))) ⌝ }
 {
-    if nodes <= 32 {
-        return judge_few(proof, kinds, a, b, entries, members, listed, nodes);
-    }
-    if nodes <= 128 {
-        return judge_some(
-            proof,
-            kinds,
-            a,
-            b,
-            entries,
-            members,
-            listed,
-            nodes,
-            256 < entries,
-        );
-    }
-    judge_many(
-        proof,
-        kinds,
-        a,
-        b,
-        entries,
-        members,
-        listed,
-        nodes,
-        1024 < nodes,
-    )
+    let mut canon = [0u16; 256];
+    number_formulas(kinds, a, b, entries, &mut canon);
+    judge_numbered(proof, kinds, a, b, &canon, entries, members, listed, nodes)
 }
 
 // The files in columns of its own.

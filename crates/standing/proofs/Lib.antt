@@ -1,2 +1,3 @@
 mod Terms
+mod Called
 mod Stored

@@ -1,6 +1,6 @@
--- The contract that `judge_few`, `judge_many` and `judge_stored` have, over the room n that they ask for, as a walk of their MIR reads it.
+-- The contract that `judge_few`, `judge_many` and `judge_sized` have, over the room n that they ask for, as a walk of their MIR reads it.
 --     Params, Fit          what they are passed, and that it is of its types.        args, vals, passed       as a contract has it
---     ended, clauses       requires `Asked`: `Readable` and `RoomFor n`;  ensures `Told`: `JudgedStored`
+--     ended, clauses       requires `Asked`: `Readable`, `RoomFor n` and `Numbers`;  ensures `Told`: `JudgedStored`
 --     tokens-in, params-in     the tokens and the parameters on entry
 --     stays                what is had of the parameters at exit: of the two `&mut` as is said, of the others nothing.        meets-by     a walk that ends there meets the contract
 use Prim.Native.Nat.{ℕ, _<_, _^_}
@@ -32,45 +32,50 @@ use denote.Exit.{yes}
 use Rattle.verdict.specs.Shown.{shown}
 use Rattle.verdict.specs.declared.Verdict.{Verdict}
 use Rattle.verdict.proofs.Verdict as Ver
+use Rattle.formula.specs.Plain.{tableOf}
 use Rattle.formula.specs.Held.{heldClaim}
+use Rattle.sequents.specs.Keys.{Numbers}
 use Rattle.laid.specs.Readable.{Readable, proofAt}
 use Rattle.records.specs.declared.Node.{Node}
 use Rattle.records.proofs.Node as T
 use Rattle.standing.specs.Standing.{RoomFor, JudgedStored}
 
-abbrev file-slot : Slot 7
+abbrev file-slot : Slot 8
 file-slot = shrSliceOf (0 ∷ []) tt (plain (λ _. u8))
 
-abbrev kinds-slot : Slot 7
+abbrev kinds-slot : Slot 8
 kinds-slot = shrRefTo (1 ∷ []) tt (ArrayOf (plain (λ _. u8)) (λ _. tt) 256)
 
-abbrev a-slot : Slot 7
+abbrev a-slot : Slot 8
 a-slot = shrRefTo (2 ∷ []) tt (ArrayOf (plain (λ _. u16)) (λ _. tt) 256)
 
-abbrev b-slot : Slot 7
+abbrev b-slot : Slot 8
 b-slot = shrRefTo (3 ∷ []) tt (ArrayOf (plain (λ _. u16)) (λ _. tt) 256)
 
-abbrev members-slot : Slot 7
-members-slot = shrRefTo (4 ∷ []) tt (ArrayOf (plain (λ _. u16)) (λ _. tt) 24)
+abbrev canon-slot : Slot 8
+canon-slot = shrRefTo (4 ∷ []) tt (ArrayOf (plain (λ _. u16)) (λ _. tt) 256)
 
-abbrev number-slot : Slot 7
+abbrev members-slot : Slot 8
+members-slot = shrRefTo (5 ∷ []) tt (ArrayOf (plain (λ _. u16)) (λ _. tt) 24)
+
+abbrev number-slot : Slot 8
 number-slot = plain (λ _. usize)
 
-abbrev pub nodes-slot : Slot 7
-nodes-slot = mutSliceOf (5 ∷ []) tt (plain (λ _. T.the-row))
+abbrev pub nodes-slot : Slot 8
+nodes-slot = mutSliceOf (6 ∷ []) tt (plain (λ _. T.the-row))
 
-abbrev pub codes-slot : Slot 7
-codes-slot = mutSliceOf (6 ∷ []) tt (plain (λ _. u16))
+abbrev pub codes-slot : Slot 8
+codes-slot = mutSliceOf (7 ∷ []) tt (plain (λ _. u16))
 
 abbrev pub ended : Ended
 ended = record {
   signature = record {
-    lifetimes = 7;
+    lifetimes = 8;
     outlives = [];
-    params = file-slot ∷ kinds-slot ∷ a-slot ∷ b-slot ∷ number-slot ∷ members-slot ∷ number-slot ∷ number-slot ∷ nodes-slot ∷ codes-slot ∷ [];
+    params = file-slot ∷ kinds-slot ∷ a-slot ∷ b-slot ∷ canon-slot ∷ number-slot ∷ members-slot ∷ number-slot ∷ number-slot ∷ nodes-slot ∷ codes-slot ∷ [];
     result = plain (λ _. Ver.the-row);
   };
-  kept = (yes, (yes, (yes, (yes, (yes, (yes, (yes, (yes, (yes, (yes, tt))))))))));
+  kept = (yes, (yes, (yes, (yes, (yes, (yes, (yes, (yes, (yes, (yes, (yes, tt)))))))))));
 }
 
 -- of what is not `&mut`, nothing is had at exit: it goes to the callees
@@ -79,7 +84,7 @@ stays nodes codes = (
   stay-dropped file-slot yes,
   (
     stay-dropped kinds-slot yes,
-    (stay-dropped a-slot yes, (stay-dropped b-slot yes, (stay-dropped number-slot yes, (stay-dropped members-slot yes, (stay-dropped number-slot yes, (stay-dropped number-slot yes, (nodes, (codes, tt)))))))),
+    (stay-dropped a-slot yes, (stay-dropped b-slot yes, (stay-dropped canon-slot yes, (stay-dropped number-slot yes, (stay-dropped members-slot yes, (stay-dropped number-slot yes, (stay-dropped number-slot yes, (nodes, (codes, tt))))))))),
   ),
 )
 
@@ -89,6 +94,7 @@ pub record Params : Type 0 where
   pub kinds : RefT (List ℕ)
   pub a : RefT (List ℕ)
   pub b : RefT (List ℕ)
+  pub canon : RefT (List ℕ)
   pub entries : ℕ
   pub members : RefT (List ℕ)
   pub listed : ℕ
@@ -106,7 +112,7 @@ pub record Fit (ps : Params) : Type 0 where
   pub codes : Room u16 (length (ps .codes .now))
 
 abbrev Args : Type 0
-Args = RefT (List ℕ) × (RefT (List ℕ) × (RefT (List ℕ) × (RefT (List ℕ) × (ℕ × (RefT (List ℕ) × (ℕ × (ℕ × (RefT (List Node) × (RefT (List ℕ) × Unit {0})))))))))
+Args = RefT (List ℕ) × (RefT (List ℕ) × (RefT (List ℕ) × (RefT (List ℕ) × (RefT (List ℕ) × (ℕ × (RefT (List ℕ) × (ℕ × (ℕ × (RefT (List Node) × (RefT (List ℕ) × Unit {0}))))))))))
 
 abbrev params : Args → Params
 params x = record {
@@ -114,71 +120,72 @@ params x = record {
   kinds = x .1 .0;
   a = x .1 .1 .0;
   b = x .1 .1 .1 .0;
-  entries = x .1 .1 .1 .1 .0;
-  members = x .1 .1 .1 .1 .1 .0;
-  listed = x .1 .1 .1 .1 .1 .1 .0;
-  count = x .1 .1 .1 .1 .1 .1 .1 .0;
-  nodes = x .1 .1 .1 .1 .1 .1 .1 .1 .0;
-  codes = x .1 .1 .1 .1 .1 .1 .1 .1 .1 .0;
+  canon = x .1 .1 .1 .1 .0;
+  entries = x .1 .1 .1 .1 .1 .0;
+  members = x .1 .1 .1 .1 .1 .1 .0;
+  listed = x .1 .1 .1 .1 .1 .1 .1 .0;
+  count = x .1 .1 .1 .1 .1 .1 .1 .1 .0;
+  nodes = x .1 .1 .1 .1 .1 .1 .1 .1 .1 .0;
+  codes = x .1 .1 .1 .1 .1 .1 .1 .1 .1 .1 .0;
 }
 
 module _ (ps : Params) where
   abbrev pub args : Args
-  args = (ps .proof, (ps .kinds, (ps .a, (ps .b, (ps .entries, (ps .members, (ps .listed, (ps .count, (ps .nodes, (ps .codes, tt))))))))))
+  args = (ps .proof, (ps .kinds, (ps .a, (ps .b, (ps .canon, (ps .entries, (ps .members, (ps .listed, (ps .count, (ps .nodes, (ps .codes, tt)))))))))))
 
-  abbrev pub vals : List Val × (List Val × (List Val × (List Val × (List Val × (List Val × (List Val × (List Val × (List Val × (List Val × Unit {0})))))))))
-  vals = (slice-vals (ps .proof), (ptr-vals (ps .kinds), (ptr-vals (ps .a), (ptr-vals (ps .b), (vint w64 (ps .entries) ∷ [], (ptr-vals (ps .members), (vint w64 (ps .listed) ∷ [], (vint w64 (ps .count) ∷ [], (slice-vals (ps .nodes), (slice-vals (ps .codes), tt))))))))))
+  abbrev pub vals : List Val × (List Val × (List Val × (List Val × (List Val × (List Val × (List Val × (List Val × (List Val × (List Val × (List Val × Unit {0}))))))))))
+  vals = (slice-vals (ps .proof), (ptr-vals (ps .kinds), (ptr-vals (ps .a), (ptr-vals (ps .b), (ptr-vals (ps .canon), (vint w64 (ps .entries) ∷ [], (ptr-vals (ps .members), (vint w64 (ps .listed) ∷ [], (vint w64 (ps .count) ∷ [], (slice-vals (ps .nodes), (slice-vals (ps .codes), tt)))))))))))
 
   abbrev pub passed : List Val
-  passed = slice-vals (ps .proof) ++ ptr-vals (ps .kinds) ++ ptr-vals (ps .a) ++ ptr-vals (ps .b) ++ vint w64 (ps .entries) ∷ ptr-vals (ps .members) ++ vint w64 (ps .listed) ∷ vint w64 (ps .count) ∷ slice-vals (ps .nodes) ++ slice-vals (ps .codes)
+  passed = slice-vals (ps .proof) ++ ptr-vals (ps .kinds) ++ ptr-vals (ps .a) ++ ptr-vals (ps .b) ++ ptr-vals (ps .canon) ++ vint w64 (ps .entries) ∷ ptr-vals (ps .members) ++ vint w64 (ps .listed) ∷ vint w64 (ps .count) ∷ slice-vals (ps .nodes) ++ slice-vals (ps .codes)
 
   -- what is asked and told of it
   abbrev pub Asked : ℕ → Type 0
-  Asked n = Readable (ps .kinds .now) (ps .a .now) (ps .b .now) (ps .entries) (ps .members .now) (ps .listed) (ps .proof .now) (ps .count) × RoomFor n (ps .count) (ps .nodes .now) (ps .codes .now)
+  Asked n = Readable (ps .kinds .now) (ps .a .now) (ps .b .now) (ps .entries) (ps .members .now) (ps .listed) (ps .proof .now) (ps .count) × RoomFor n (ps .count) (ps .nodes .now) (ps .codes .now) × Numbers (tableOf (ps .kinds .now) (ps .a .now) (ps .b .now) (ps .entries)) (ps .canon .now)
 
   abbrev pub Told : Verdict → List Node → List ℕ → Type 0
   Told j vs cs = JudgedStored (heldClaim (ps .kinds .now) (ps .a .now) (ps .b .now) (ps .entries) (ps .members .now) (ps .listed)) (proofAt (ps .proof .now)) (ps .nodes .now) (ps .codes .now) (shown j) vs cs
 
 module _ (n : ℕ) {M : Type 1} (𝓤 : URA M) where
   abbrev pub clauses : Clauses 𝓤 ended
-  clauses κs x = record { ghost = Unit {0}; requires = λ _. fact 𝓤 (Asked (params x) n); ensures = λ _ r end. fact 𝓤 (Told (params x) r (end .1 .1 .1 .1 .1 .1 .1 .1 .0 .now) (end .1 .1 .1 .1 .1 .1 .1 .1 .1 .0 .now)) }
+  clauses κs x = record { ghost = Unit {0}; requires = λ _. fact 𝓤 (Asked (params x) n); ensures = λ _ r end. fact 𝓤 (Told (params x) r (end .1 .1 .1 .1 .1 .1 .1 .1 .1 .0 .now) (end .1 .1 .1 .1 .1 .1 .1 .1 .1 .1 .0 .now)) }
 
--- seven lifetimes, and a share of each
-abbrev pub Seven : Type 0 → Type 0
-Seven A = A × (A × (A × (A × (A × (A × (A × Unit {0}))))))
+-- eight lifetimes, and a share of each
+abbrev pub Eight : Type 0 → Type 0
+Eight A = A × (A × (A × (A × (A × (A × (A × (A × Unit {0})))))))
 
-module _ (κs : Seven Lft) (qs : Seven Share) where
+module _ (κs : Eight Lft) (qs : Eight Share) where
   -- what is had on entry
   abbrev pub tokens-in : {M : Type 1} (𝓤 : URA M) → Item 𝓤
-  tokens-in 𝓤 = ‵ (flft (κs .0) (qs .0)) ⊛ (‵ (flft (κs .1 .0) (qs .1 .0)) ⊛ (‵ (flft (κs .1 .1 .0) (qs .1 .1 .0)) ⊛ (‵ (flft (κs .1 .1 .1 .0) (qs .1 .1 .1 .0)) ⊛ (‵ (flft (κs .1 .1 .1 .1 .0) (qs .1 .1 .1 .1 .0)) ⊛ (‵ (flft (κs .1 .1 .1 .1 .1 .0) (qs .1 .1 .1 .1 .1 .0)) ⊛ (‵ (flft (κs .1 .1 .1 .1 .1 .1 .0) (qs .1 .1 .1 .1 .1 .1 .0)) ⊛ ‵ ftrue))))))
+  tokens-in 𝓤 = ‵ (flft (κs .0) (qs .0)) ⊛ (‵ (flft (κs .1 .0) (qs .1 .0)) ⊛ (‵ (flft (κs .1 .1 .0) (qs .1 .1 .0)) ⊛ (‵ (flft (κs .1 .1 .1 .0) (qs .1 .1 .1 .0)) ⊛ (‵ (flft (κs .1 .1 .1 .1 .0) (qs .1 .1 .1 .1 .0)) ⊛ (‵ (flft (κs .1 .1 .1 .1 .1 .0) (qs .1 .1 .1 .1 .1 .0)) ⊛ (‵ (flft (κs .1 .1 .1 .1 .1 .1 .0) (qs .1 .1 .1 .1 .1 .1 .0)) ⊛ (‵ (flft (κs .1 .1 .1 .1 .1 .1 .1 .0) (qs .1 .1 .1 .1 .1 .1 .1 .0)) ⊛ ‵ ftrue)))))))
 
   abbrev pub params-in : Params → Fml
-  params-in ps = owns (ShrSlice (named 0) (κs .0) u8 ∷ ShrRef (named 1) (κs .1 .0) (Array u8 256) ∷ ShrRef (named 2) (κs .1 .1 .0) (Array u16 256) ∷ ShrRef (named 3) (κs .1 .1 .1 .0) (Array u16 256) ∷ usize ∷ ShrRef (named 4) (κs .1 .1 .1 .1 .0) (Array u16 24) ∷ usize ∷ usize
-      ∷ MutSlice (named 5) (κs .1 .1 .1 .1 .1 .0) T.the-row ∷ MutSlice (named 6) (κs .1 .1 .1 .1 .1 .1 .0) u16 ∷ []) (args ps) (vals ps)
+  params-in ps = owns (ShrSlice (named 0) (κs .0) u8 ∷ ShrRef (named 1) (κs .1 .0) (Array u8 256) ∷ ShrRef (named 2) (κs .1 .1 .0) (Array u16 256) ∷ ShrRef (named 3) (κs .1 .1 .1 .0) (Array u16 256) ∷ ShrRef (named 4) (κs .1 .1 .1 .1 .0) (Array u16 256) ∷ usize ∷ ShrRef (named 5) (κs .1 .1 .1 .1 .1 .0) (Array u16 24) ∷ usize ∷ usize
+      ∷ MutSlice (named 6) (κs .1 .1 .1 .1 .1 .1 .0) T.the-row ∷ MutSlice (named 7) (κs .1 .1 .1 .1 .1 .1 .1 .0) u16 ∷ []) (args ps) (vals ps)
 
 module _ {M : Type 1} (𝓤 : URA M) (H : Heap 𝓤) (A : Atoms 𝓤) (W : Given 𝓤 H A) where
-  all-go : (nodes : Stay nodes-slot yes) (codes : Stay codes-slot yes) → Goes 𝓤 H A W 7 nodes-slot yes nodes → Goes 𝓤 H A W 7 codes-slot yes codes
-      → AllGo 𝓤 H A W 7 (ended .signature .params) (ended .kept) (stays nodes codes)
+  all-go : (nodes : Stay nodes-slot yes) (codes : Stay codes-slot yes) → Goes 𝓤 H A W 8 nodes-slot yes nodes → Goes 𝓤 H A W 8 codes-slot yes codes
+      → AllGo 𝓤 H A W 8 (ended .signature .params) (ended .kept) (stays nodes codes)
   all-go nodes codes n c = (
-    goes-dropped 𝓤 H A W 7 file-slot yes (λ κs x f. refl),
+    goes-dropped 𝓤 H A W 8 file-slot yes (λ κs x f. refl),
     (
-      goes-dropped 𝓤 H A W 7 kinds-slot yes (λ κs x f. refl),
-      (goes-dropped 𝓤 H A W 7 a-slot yes (λ κs x f. refl), (goes-dropped 𝓤 H A W 7 b-slot yes (λ κs x f. refl), (goes-dropped 𝓤 H A W 7 number-slot yes (λ κs x f. refl), (goes-dropped 𝓤 H A W 7 members-slot yes (λ κs x f. refl), (goes-dropped 𝓤 H A W 7 number-slot yes (λ κs x f. refl), (goes-dropped 𝓤 H A W 7 number-slot yes (λ κs x f. refl), (n, (c, tt)))))))),
+      goes-dropped 𝓤 H A W 8 kinds-slot yes (λ κs x f. refl),
+      (goes-dropped 𝓤 H A W 8 a-slot yes (λ κs x f. refl), (goes-dropped 𝓤 H A W 8 b-slot yes (λ κs x f. refl), (goes-dropped 𝓤 H A W 8 canon-slot yes (λ κs x f. refl), (goes-dropped 𝓤 H A W 8 number-slot yes (λ κs x f. refl), (goes-dropped 𝓤 H A W 8 members-slot yes (λ κs x f. refl), (goes-dropped 𝓤 H A W 8 number-slot yes (λ κs x f. refl), (goes-dropped 𝓤 H A W 8 number-slot yes (λ κs x f. refl), (n, (c, tt))))))))),
     ),
   )
 
   module _ (n : ℕ) (nodes : Stay nodes-slot yes) (codes : Stay codes-slot yes) where
     -- the values at entry and the clauses
-    abbrev pub bound : Seven Lft → Seven Share → Params → walkOf 𝓤 H A ended (stays nodes codes) (clauses n 𝓤) .Ghost
+    abbrev pub bound : Eight Lft → Eight Share → Params → walkOf 𝓤 H A ended (stays nodes codes) (clauses n 𝓤) .Ghost
     bound κs qs ps = ((κs, qs, tt, args ps, vals ps), tt)
 
     -- code that takes what is had on entry to what is to be had at exit meets the contract
-    pub meets-by : Goes 𝓤 H A W 7 nodes-slot yes nodes → Goes 𝓤 H A W 7 codes-slot yes codes → (𝓣 : Tables 𝓤 H) (function : Fn)
-        → ((κs : Seven Lft) (qs : Seven Share) (ps : Params) → Fit ps → Asked ps n → ent 𝓤 (onEntry 𝓤 H A (ended .signature) κs qs (args ps) (vals ps)) (WpFn 𝓤 H (𝓣 .C) (𝓣 .Λ) function (passed ps) (walkOf 𝓤 H A ended (stays nodes codes) (clauses n 𝓤) .post (bound κs qs ps))))
+    pub meets-by : Goes 𝓤 H A W 8 nodes-slot yes nodes → Goes 𝓤 H A W 8 codes-slot yes codes → (𝓣 : Tables 𝓤 H) (function : Fn)
+        → ((κs : Eight Lft) (qs : Eight Share) (ps : Params) → Fit ps → Asked ps n → ent 𝓤 (onEntry 𝓤 H A (ended .signature) κs qs (args ps) (vals ps)) (WpFn 𝓤 H (𝓣 .C) (𝓣 .Λ) function (passed ps) (walkOf 𝓤 H A ended (stays nodes codes) (clauses n 𝓤) .post (bound κs qs ps))))
         → Meets 𝓤 H A (ended .signature) (WpFn 𝓤 H (𝓣 .C) (𝓣 .Λ) function) (closing 𝓤 H A ended (clauses n 𝓤))
     meets-by go-nodes go-codes 𝓣 function walk =
         walk-meets 𝓤 H A ended (stays nodes codes) W (all-go nodes codes go-nodes go-codes) (clauses n 𝓤) (WpFn 𝓤 H (𝓣 .C) (𝓣 .Λ) function) (WpFn-mono 𝓤 H (W .laws) 𝓣 function)
-        (walked 𝓤 H A ended (stays nodes codes) (clauses n 𝓤) (WpFn 𝓤 H (𝓣 .C) (𝓣 .Λ) function) (λ κs. (slice-vals, (ptr-vals, (ptr-vals, (ptr-vals, (uint-vals w64, (ptr-vals, (uint-vals w64, (uint-vals w64, (slice-vals, (slice-vals, tt)))))))))))
+        (walked 𝓤 H A ended (stays nodes codes) (clauses n 𝓤) (WpFn 𝓤 H (𝓣 .C) (𝓣 .Λ) function) (λ κs. (slice-vals, (ptr-vals, (ptr-vals, (ptr-vals, (ptr-vals, (uint-vals w64, (ptr-vals, (uint-vals w64, (uint-vals w64, (slice-vals, (slice-vals, tt))))))))))))
         (λ κs. (
           shr-slice-tells (named 0) (κs .0) u8,
           (
@@ -188,14 +195,17 @@ module _ {M : Type 1} (𝓤 : URA M) (H : Heap 𝓤) (A : Atoms 𝓤) (W : Given
               (
                 shr-tells (named 3) (κs .1 .1 .1 .0) (Array u16 256),
                 (
-                  uint-tells w64,
+                  shr-tells (named 4) (κs .1 .1 .1 .1 .0) (Array u16 256),
                   (
-                    shr-tells (named 4) (κs .1 .1 .1 .1 .0) (Array u16 24),
+                    uint-tells w64,
                     (
-                      uint-tells w64,
+                      shr-tells (named 5) (κs .1 .1 .1 .1 .1 .0) (Array u16 24),
                       (
                         uint-tells w64,
-                        (mut-slice-tells (named 5) (κs .1 .1 .1 .1 .1 .0) T.the-row, (mut-slice-tells (named 6) (κs .1 .1 .1 .1 .1 .1 .0) u16, tt)),
+                        (
+                          uint-tells w64,
+                          (mut-slice-tells (named 6) (κs .1 .1 .1 .1 .1 .1 .0) T.the-row, (mut-slice-tells (named 7) (κs .1 .1 .1 .1 .1 .1 .1 .0) u16, tt)),
+                        ),
                       ),
                     ),
                   ),
@@ -206,9 +216,9 @@ module _ {M : Type 1} (𝓤 : URA M) (H : Heap 𝓤) (A : Atoms 𝓤) (W : Given
         ))
         (λ κs qs bounds x g are. needs 𝓤 _ _ (λ asked. walk κs qs (params x) (record {
           proof = are .0 .0 .1;
-          entries = are .1 .1 .1 .1 .0 .1;
-          listed = are .1 .1 .1 .1 .1 .1 .0 .1;
-          count = are .1 .1 .1 .1 .1 .1 .1 .0 .1;
-          nodes = are .1 .1 .1 .1 .1 .1 .1 .1 .0 .0 .1;
-          codes = are .1 .1 .1 .1 .1 .1 .1 .1 .1 .0 .0 .1;
+          entries = are .1 .1 .1 .1 .1 .0 .1;
+          listed = are .1 .1 .1 .1 .1 .1 .1 .0 .1;
+          count = are .1 .1 .1 .1 .1 .1 .1 .1 .0 .1;
+          nodes = are .1 .1 .1 .1 .1 .1 .1 .1 .1 .0 .0 .1;
+          codes = are .1 .1 .1 .1 .1 .1 .1 .1 .1 .1 .0 .0 .1;
         }) asked)))

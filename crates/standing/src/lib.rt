@@ -1,10 +1,13 @@
 // The nodes of a proof that was read, stored as records in the slices that a caller lends and judged as they stand there: the columns that
 // the rules read are loaded from the records, the codes read where they were lent.
 ghost use Rattle.verdict.specs.Shown.{shown};
+ghost use Rattle.formula.specs.Plain.{tableOf};
 ghost use Rattle.formula.specs.Held.{heldClaim};
+ghost use Rattle.sequents.specs.Keys.{Numbers};
 ghost use Rattle.laid.specs.Readable.{Readable, proofAt};
 ghost use Rattle.standing.specs.Standing.{RoomFor, JudgedStored};
 use nodes::decode_proof;
+use numbers::number_formulas;
 use records::Node;
 use records::load_nodes;
 use records::store_nodes;
@@ -17,6 +20,7 @@ fn judge_few(
     kinds: &[u8; 256],
     a: &[u16; 256],
     b: &[u16; 256],
+    canon: &[u16; 256],
     entries: usize,
     members: &[u16; 24],
     listed: usize,
@@ -24,7 +28,8 @@ fn judge_few(
     nodes: &mut [Node],
     codes: &mut [u16],
 ) -> Verdict
-    requires { ⌜ Readable (now kinds) (now a) (now b) entries (now members) listed (now proof) count × RoomFor 32 count (now nodes) (now codes) ⌝ }
+    requires { ⌜ Readable (now kinds) (now a) (now b) entries (now members) listed (now proof) count ×
+        RoomFor 32 count (now nodes) (now codes) × Numbers (tableOf (now kinds) (now a) (now b) entries) (now canon) ⌝ }
     ensures { λ r. ⌜ JudgedStored (heldClaim (now (kinds .entry)) (now (a .entry)) (now (b .entry)) entries (now (members .entry)) listed)
         (proofAt (now (proof .entry))) (now (nodes .entry)) (now (codes .entry)) (shown r) (now (nodes .exit)) (now (codes .exit)) ⌝ }
 {
@@ -38,6 +43,7 @@ fn judge_few(
         kinds,
         a,
         b,
+        canon,
         entries,
         members,
         listed,
@@ -55,6 +61,7 @@ fn judge_many(
     kinds: &[u8; 256],
     a: &[u16; 256],
     b: &[u16; 256],
+    canon: &[u16; 256],
     entries: usize,
     members: &[u16; 24],
     listed: usize,
@@ -62,7 +69,8 @@ fn judge_many(
     nodes: &mut [Node],
     codes: &mut [u16],
 ) -> Verdict
-    requires { ⌜ Readable (now kinds) (now a) (now b) entries (now members) listed (now proof) count × RoomFor 1024 count (now nodes) (now codes) ⌝ }
+    requires { ⌜ Readable (now kinds) (now a) (now b) entries (now members) listed (now proof) count ×
+        RoomFor 1024 count (now nodes) (now codes) × Numbers (tableOf (now kinds) (now a) (now b) entries) (now canon) ⌝ }
     ensures { λ r. ⌜ JudgedStored (heldClaim (now (kinds .entry)) (now (a .entry)) (now (b .entry)) entries (now (members .entry)) listed)
         (proofAt (now (proof .entry))) (now (nodes .entry)) (now (codes .entry)) (shown r) (now (nodes .exit)) (now (codes .exit)) ⌝ }
 {
@@ -76,6 +84,7 @@ fn judge_many(
         kinds,
         a,
         b,
+        canon,
         entries,
         members,
         listed,
@@ -88,6 +97,55 @@ fn judge_many(
 }
 
 // In columns of the size that the count asks for.
+fn judge_sized(
+    proof: &[u8],
+    kinds: &[u8; 256],
+    a: &[u16; 256],
+    b: &[u16; 256],
+    canon: &[u16; 256],
+    entries: usize,
+    members: &[u16; 24],
+    listed: usize,
+    count: usize,
+    nodes: &mut [Node],
+    codes: &mut [u16],
+) -> Verdict
+    requires { ⌜ Readable (now kinds) (now a) (now b) entries (now members) listed (now proof) count ×
+        RoomFor 1024 count (now nodes) (now codes) × Numbers (tableOf (now kinds) (now a) (now b) entries) (now canon) ⌝ }
+    ensures { λ r. ⌜ JudgedStored (heldClaim (now (kinds .entry)) (now (a .entry)) (now (b .entry)) entries (now (members .entry)) listed)
+        (proofAt (now (proof .entry))) (now (nodes .entry)) (now (codes .entry)) (shown r) (now (nodes .exit)) (now (codes .exit)) ⌝ }
+{
+    if count <= 32 {
+        return judge_few(
+            proof,
+            kinds,
+            a,
+            b,
+            canon,
+            entries,
+            members,
+            listed,
+            count,
+            nodes,
+            codes,
+        );
+    }
+    judge_many(
+        proof,
+        kinds,
+        a,
+        b,
+        canon,
+        entries,
+        members,
+        listed,
+        count,
+        nodes,
+        codes,
+    )
+}
+
+// The numbers of the claim's formulas, and then the rules: the room for numbering is given back before the columns are taken.
 pub fn judge_stored(
     proof: &[u8],
     kinds: &[u8; 256],
@@ -104,25 +162,14 @@ pub fn judge_stored(
     ensures { λ r. ⌜ JudgedStored (heldClaim (now (kinds .entry)) (now (a .entry)) (now (b .entry)) entries (now (members .entry)) listed)
         (proofAt (now (proof .entry))) (now (nodes .entry)) (now (codes .entry)) (shown r) (now (nodes .exit)) (now (codes .exit)) ⌝ }
 {
-    if count <= 32 {
-        return judge_few(
-            proof,
-            kinds,
-            a,
-            b,
-            entries,
-            members,
-            listed,
-            count,
-            nodes,
-            codes,
-        );
-    }
-    judge_many(
+    let mut canon = [0u16; 256];
+    number_formulas(kinds, a, b, entries, &mut canon);
+    judge_sized(
         proof,
         kinds,
         a,
         b,
+        &canon,
         entries,
         members,
         listed,

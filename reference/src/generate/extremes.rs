@@ -57,8 +57,13 @@ pub fn funnel(kind: Kind, modality: Kind, join: Kind, depth: u16) -> Vec<Entry> 
 /// 2 to 85 fixpoints in one another, and below the innermost a chain of entries
 /// in which the names of all are free.
 pub fn crowd(depth: u16) -> Vec<Entry> {
-    let first = 256 - depth;
-    let mut entries: Vec<Entry> = (first..256)
+    crowd_of(256, depth)
+}
+
+/// The same with so many entries, up to a third of them fixpoints.
+pub fn crowd_of(count: u16, depth: u16) -> Vec<Entry> {
+    let first = count - depth;
+    let mut entries: Vec<Entry> = (first..count)
         .map(|fixpoint| Entry::new(Kind::Name, fixpoint, 0))
         .collect();
     entries.push(Entry::new(Kind::Or, 0, 1));
@@ -70,7 +75,7 @@ pub fn crowd(depth: u16) -> Vec<Entry> {
         });
     }
     entries[usize::from(first) - 1] = Entry::new(Kind::Box, first - 2, 0);
-    entries.extend((first..256).map(|at| Entry::new(Kind::Nu, at - 1, 0)));
+    entries.extend((first..count).map(|at| Entry::new(Kind::Nu, at - 1, 0)));
     entries
 }
 
@@ -128,9 +133,11 @@ fn true_leaf(entry: u16) -> DraftNode {
     DraftNode::new(Rule::Ax2, 0, vec![2 * entry + 1])
 }
 
-/// As many members as asked for, all but the first dropped by weakening.
+/// As many members as asked for, truth and letters, all but the first dropped by
+/// weakening.
 pub fn weakened(count: u16) -> (File, File) {
-    let entries = vec![Entry::new(Kind::True, 0, 0); usize::from(count)];
+    let mut entries = vec![Entry::new(Kind::True, 0, 0)];
+    entries.extend((1..count).map(|letter| Entry::new(Kind::Letter, letter, 0)));
     let members: Vec<u16> = (0..count).collect();
     let mut nodes = vec![true_leaf(0)];
     let codes: Vec<u16> = members.iter().map(|member| 2 * member + 1).collect();

@@ -6,7 +6,9 @@ mod damage;
 mod formulas;
 mod models;
 mod near_miss;
+mod near_twin;
 mod number;
+mod one_step;
 mod pairs;
 mod paths;
 mod provable;
@@ -21,6 +23,7 @@ mod twins;
 pub mod extremes;
 
 pub use paths::{leaves_focus, loop_paths};
+pub use renamed::twins_used;
 pub use rng::Rng;
 pub use tally::Tally;
 
@@ -40,10 +43,10 @@ pub fn loops_leaving_focus(seed: u64) -> impl Iterator<Item = CheckRecord> {
     inputs(seed, |rng| check_record(pairs::loop_leaving_focus(rng)))
 }
 
-/// The same over tables in which formulas stand more than once, with proofs whose
-/// codes are those of any entry of their formula.
+/// The same with twins in each proof: two entries of one formula, each the entry
+/// of some code or principal.
 pub fn twins(seed: u64) -> impl Iterator<Item = CheckRecord> {
-    inputs(seed, |rng| check_record(renamed::with_twins(rng).files()))
+    inputs(seed, |rng| check_record(renamed::with_twins(rng)))
 }
 
 fn check_record((claim, proof): (Vec<u8>, Vec<u8>)) -> CheckRecord {

@@ -8,9 +8,11 @@ use super::near_miss::near_miss;
 use super::number::number;
 use super::paths::leaves_focus;
 use super::provable::{provable, Provable};
+use super::renamed::with_twins;
 use super::rng::Rng;
 use super::search::search;
 use super::step::{Flaw, FLAWS};
+use crate::alike::least_alike;
 use crate::bits::Bits;
 use crate::check::{check, judge};
 use crate::claim::{Entry, Kind};
@@ -78,7 +80,13 @@ fn flawed(rng: &mut Rng) -> Proved {
 }
 
 pub fn prove(rng: &mut Rng, claim: Provable, flaw: Flaw) -> Option<Proved> {
-    let steps = search(rng, &claim, flaw)?;
+    let least = least_alike(&claim.entries);
+    prove_by(rng, claim, &least, flaw)
+}
+
+/// The same with other entries taken for the same formula.
+pub fn prove_by(rng: &mut Rng, claim: Provable, least: &[u16], flaw: Flaw) -> Option<Proved> {
+    let steps = search(rng, &claim, least, flaw)?;
     let nodes = number(rng, &steps, flaw != Flaw::LoopWithoutCompanion);
     Some(Proved {
         entries: claim.entries,
@@ -143,8 +151,15 @@ pub fn any_proved(rng: &mut Rng) -> Proved {
     }
 }
 
-/// The bytes of a claim and a proof.
+/// The bytes of a claim and a proof, two times out of five of one with twins.
 pub fn check_pair(rng: &mut Rng) -> (Vec<u8>, Vec<u8>) {
+    match rng.below(5) {
+        0..=1 => with_twins(rng),
+        _ => any_pair(rng),
+    }
+}
+
+fn any_pair(rng: &mut Rng) -> (Vec<u8>, Vec<u8>) {
     match rng.below(40) {
         0..=9 => accepted(rng).files(),
         10..=15 => flawed(rng).files(),

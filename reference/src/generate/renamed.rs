@@ -2,66 +2,103 @@
 //! stands for its formula.
 
 use super::near_miss::near_miss;
-use super::pairs::{accepted, prove, Proved};
+use super::near_twin::near_twin;
+use super::one_step::one_step;
+use super::pairs::{accepted, prove, prove_by, Proved};
 use super::provable::{provable, Provable};
 use super::rng::Rng;
-use super::step::Flaw;
-use super::twins::{twins, Twins};
+use super::step::{Flaw, FLAWS};
+use super::twins::{near_twins, twins, Twins};
+use crate::alike::least_alike;
 use crate::bits::Bits;
+use crate::check::{judge, Decoded};
 use crate::claim::Kind;
 use crate::draft::DraftNode;
+use crate::proof::Rule;
 use crate::sequent::{entry_of, focused, insert, with_focus_of};
 
 const MEMBERS: usize = 24;
 
-/// A claim with twins and a proof: a good one with its codes renamed, or one that
-/// is found by entry numbers alone; at times with a small change.
-pub fn with_twins(rng: &mut Rng) -> Proved {
-    let mut proved = match rng.below(3) {
-        0 => found(rng),
+/// The bytes of a claim and a proof that uses twins.
+pub fn with_twins(rng: &mut Rng) -> (Vec<u8>, Vec<u8>) {
+    loop {
+        let (claim, proof) = over_twins(rng).files();
+        let decoded = judge(&claim, &proof).decoded;
+        if decoded.is_some_and(|decoded| !twins_used(&decoded).is_empty()) {
+            return (claim, proof);
+        }
+    }
+}
+
+/// A claim with twins and a proof: a good one with its codes renamed, one that is
+/// found over the twins, or a single step; at times with a small change.
+fn over_twins(rng: &mut Rng) -> Proved {
+    let mut proved = match rng.below(6) {
+        0..=1 => found(rng),
+        2 => one_step(rng),
         _ => renamed(rng),
     };
-    if rng.chance(1, 5) {
-        near_miss(rng, &mut proved.nodes, &proved.entries);
-    }
-    if rng.chance(1, 20) {
-        name_as_principal(rng, &mut proved);
+    match rng.below(8) {
+        0 => near_miss(rng, &mut proved.nodes, &proved.entries),
+        1..=2 => near_twin(rng, &mut proved),
+        _ => {}
     }
     proved
 }
 
-/// By a search that takes twins for two formulas, but perhaps where it closes a
-/// loop.
+/// The pairs of entries that are the same formula and both stand in a node's
+/// sequent or as its principal, no names.
+pub fn twins_used(Decoded { claim, proof }: &Decoded) -> Vec<(u16, u16)> {
+    let least = least_alike(&claim.entries);
+    let with_principal = |rule: Rule| rule.low_bits() & 1 == 1;
+    let nodes = proof.nodes.iter().filter(|node| with_principal(node.rule));
+    let codes = proof.codes.iter().copied();
+    let mut used = vec![false; claim.entries.len()];
+    for code in codes.chain(nodes.map(|node| node.principal)) {
+        if let Some(used) = used.get_mut(entry_of(code)) {
+            *used = claim.entries[entry_of(code)].kind != Kind::Name;
+        }
+    }
+    let used: Vec<usize> = (0..used.len()).filter(|&entry| used[entry]).collect();
+    let below = |entry: usize| used.iter().take_while(move |&&other| other < entry);
+    used.iter()
+        .flat_map(|&entry| below(entry).map(move |&other| (other, entry)))
+        .filter(|&(one, other)| least[one] == least[other])
+        .map(|(one, other)| (one as u16, other as u16))
+        .collect()
+}
+
+/// By a search that takes for the same formula what is so, or each entry for a
+/// formula of its own, as in the base, or also copies that are none; or that makes
+/// another mistake.
 fn found(rng: &mut Rng) -> Proved {
     loop {
         let plain = provable(rng);
-        let claim = claim_with_twins(rng, &plain);
-        let flaw = rng.pick(&[Flaw::None, Flaw::LoopToTwins]);
-        if let Some(proved) = prove(rng, claim, flaw.unwrap_or(Flaw::None)) {
+        let manner = rng.below(6);
+        let twins = match manner {
+            0 => near_twins(rng, &plain.entries),
+            _ => twins(rng, &plain.entries),
+        };
+        let claim = claim_with_twins(rng, &plain, &twins);
+        let proved = match manner {
+            0 => prove_by(rng, claim, &twins.least_copies(), Flaw::None),
+            1 => {
+                let numbers: Vec<u16> = (0..claim.entries.len() as u16).collect();
+                prove_by(rng, claim, &numbers, Flaw::None)
+            }
+            2 => {
+                let flaw = rng.pick(&FLAWS).unwrap_or(Flaw::GivesUp);
+                prove(rng, claim, flaw)
+            }
+            _ => prove(rng, claim, Flaw::None),
+        };
+        if let Some(proved) = proved {
             return proved;
         }
     }
 }
 
-/// Puts a name in the place of its fixpoint as principal: it is the same formula,
-/// but no member.
-fn name_as_principal(rng: &mut Rng, proved: &mut Proved) {
-    let entries = proved.entries.iter().enumerate();
-    let names: Vec<(u16, u16)> = entries
-        .filter(|(_, entry)| entry.kind == Kind::Name)
-        .map(|(number, entry)| (number as u16, entry.a))
-        .collect();
-    let Some((name, fixpoint)) = rng.pick(&names) else {
-        return;
-    };
-    let mut nodes = proved.nodes.iter_mut();
-    if let Some(node) = nodes.find(|node| node.principal / 2 == fixpoint) {
-        node.principal = with_focus_of(name, node.principal);
-    }
-}
-
-fn claim_with_twins(rng: &mut Rng, plain: &Provable) -> Provable {
-    let twins = twins(rng, &plain.entries);
+fn claim_with_twins(rng: &mut Rng, plain: &Provable, twins: &Twins) -> Provable {
     let mut valid = Bits::default();
     let mut dual = vec![None; twins.entries.len()];
     for (number, copies) in twins.copies.iter().enumerate() {
@@ -72,10 +109,9 @@ fn claim_with_twins(rng: &mut Rng, plain: &Provable) -> Provable {
             dual[usize::from(copy)] = plain.dual[number].map(|other| twins.any(rng, other));
         }
     }
-    let members = Renaming::new(rng, &twins).members(rng, &plain.members);
     Provable {
-        entries: twins.entries,
-        members,
+        entries: twins.entries.clone(),
+        members: Renaming::new(rng, twins).members(rng, &plain.members),
         valid,
         dual,
     }

@@ -5,10 +5,9 @@
 use super::provable::Provable;
 use super::rng::Rng;
 use super::step::{self, Flaw};
-use crate::alike::least_alike;
 use crate::claim::{Entry, Kind};
 use crate::proof::Rule;
-use crate::sequent::{entry_of, focused, in_focus, insert, with_focus_of};
+use crate::sequent::{entry_of, focused, in_focus, member, members};
 
 /// Attempts before a search ends, and the longest branch.
 const ATTEMPTS: usize = 500;
@@ -43,8 +42,8 @@ pub struct Search<'a> {
     rng: &'a mut Rng,
     claim: &'a Provable,
     flaw: Flaw,
-    /// For each entry the least alike, where twins close a loop.
-    least: Vec<u16>,
+    /// For each entry the least that is taken for the same formula.
+    least: &'a [u16],
     steps: Vec<Step>,
     path: Vec<usize>,
     attempts: usize,
@@ -52,17 +51,15 @@ pub struct Search<'a> {
     ornaments: usize,
 }
 
-/// Searches a proof of the claim; the root is the first step.
-pub fn search(rng: &mut Rng, claim: &Provable, flaw: Flaw) -> Option<Vec<Step>> {
+/// Searches a proof of the claim; the root is the first step. Members are
+/// compared by the least entries given.
+pub fn search(rng: &mut Rng, claim: &Provable, least: &[u16], flaw: Flaw) -> Option<Vec<Step>> {
     let ornaments = rng.below(5);
     let mut search = Search {
         rng,
         claim,
         flaw,
-        least: match flaw {
-            Flaw::LoopToTwins => least_alike(&claim.entries),
-            _ => Vec::new(),
-        },
+        least,
         steps: Vec::new(),
         path: Vec::new(),
         attempts: 0,
@@ -80,6 +77,16 @@ pub fn search(rng: &mut Rng, claim: &Provable, flaw: Flaw) -> Option<Vec<Step>> 
 impl Search<'_> {
     fn entry(&self, code: u16) -> Entry {
         self.claim.entries[entry_of(code)]
+    }
+
+    fn member(&self, code: u16) -> u16 {
+        member(self.least, code)
+    }
+
+    fn members(&self, sequent: &[u16]) -> Vec<u16> {
+        let mut set = Vec::with_capacity(sequent.len());
+        members(self.least, sequent.iter().copied(), &mut set);
+        set
     }
 
     /// The flaw, at some places only, so that a good loop can come before a bad
@@ -135,7 +142,8 @@ impl Search<'_> {
         goal: Goal,
     ) -> Option<usize> {
         let flaw = self.flaw_now();
-        let children = step::children(&self.claim.entries, flaw, rule, principal, &sequent);
+        let table = (&self.claim.entries[..], self.least);
+        let children = step::children(table, flaw, rule, principal, &sequent);
         let at = self.push(rule, principal, sequent, 0);
         self.path.push(at);
         for child in children {
@@ -170,6 +178,7 @@ impl Search<'_> {
             return None;
         }
         let mut boxed = flaw == Flaw::LoopWithoutBox;
+        let leaf = self.members(sequent);
         let mut starts = Vec::new();
         for &at in self.path.iter().rev() {
             let step = &self.steps[at];
@@ -180,12 +189,12 @@ impl Search<'_> {
                 break;
             }
             boxed |= step.rule == Rule::Box;
-            if boxed && self.closes(flaw, &step.sequent, sequent) {
+            if boxed && closes(flaw, self.members(&step.sequent), &leaf) {
                 starts.push(at);
             }
         }
         if flaw == Flaw::LoopAcross {
-            starts = self.starts_elsewhere(sequent);
+            starts = self.starts_elsewhere(&leaf);
         }
         if self.rng.chance(1, 10) {
             return None;
@@ -193,27 +202,10 @@ impl Search<'_> {
         self.rng.pick(&starts)
     }
 
-    fn closes(&self, flaw: Flaw, start: &[u16], leaf: &[u16]) -> bool {
-        match flaw {
-            Flaw::LoopToTwins => self.formulas(start) == self.formulas(leaf),
-            _ => start == leaf,
-        }
-    }
-
-    /// The codes of the least entries alike.
-    fn formulas(&self, sequent: &[u16]) -> Vec<u16> {
-        let mut formulas = Vec::with_capacity(sequent.len());
-        for &code in sequent {
-            let least = self.least[entry_of(code)];
-            insert(&mut formulas, with_focus_of(least, code));
-        }
-        formulas
-    }
-
-    /// Steps with this sequent that are no ancestors.
-    fn starts_elsewhere(&self, sequent: &[u16]) -> Vec<usize> {
+    /// Steps with these members that are no ancestors.
+    fn starts_elsewhere(&self, leaf: &[u16]) -> Vec<usize> {
         (0..self.steps.len())
-            .filter(|at| self.steps[*at].sequent == sequent && !self.path.contains(at))
+            .filter(|at| self.members(&self.steps[*at].sequent) == leaf && !self.path.contains(at))
             .collect()
     }
 
@@ -233,10 +225,11 @@ impl Search<'_> {
     }
 
     fn any_but(&mut self, sequent: &[u16], needed: &[u16]) -> Option<u16> {
+        let needed = self.members(needed);
         let others: Vec<u16> = sequent
             .iter()
             .copied()
-            .filter(|c| !needed.contains(c))
+            .filter(|&code| !needed.contains(&self.member(code)))
             .collect();
         self.rng.pick(&others)
     }
@@ -244,10 +237,13 @@ impl Search<'_> {
     /// Drops what is not needed: the unfocused one of two copies, or a member
     /// beside those the claim is known to hold by.
     fn choose_weakening(&mut self, sequent: &[u16]) -> Option<Choice> {
-        let copy = sequent.windows(2).find(|pair| pair[0] ^ 1 == pair[1]);
+        let members = self.members(sequent);
+        let focused_too =
+            |&code: &u16| !in_focus(code) && members.contains(&(self.member(code) ^ 1));
+        let copy = sequent.iter().copied().find(focused_too);
         let drops = self.flaw != Flaw::BoxKeepsCopy && self.rng.chance(4, 5);
-        if let (Some(pair), true) = (copy, drops) {
-            return Some(Choice::Apply(Rule::W, pair[0]));
+        if let (Some(copy), true) = (copy, drops) {
+            return Some(Choice::Apply(Rule::W, copy));
         }
         if !self.rng.chance(2, 3) {
             return None;
@@ -277,10 +273,17 @@ impl Search<'_> {
             return Some(vec![code]);
         }
         sequent.iter().find_map(|&code| {
-            let dual = self.claim.dual[entry_of(code)]?;
-            let other = sequent.iter().find(|&&other| other / 2 == dual)?;
-            Some(vec![code, *other])
+            let other = self.dual_of(code, sequent)?;
+            Some(vec![code, other])
         })
+    }
+
+    /// A code of the formula that is known to be the negation of this one's.
+    fn dual_of(&self, code: u16, sequent: &[u16]) -> Option<u16> {
+        let dual = self.claim.dual[entry_of(code)]?;
+        let formula = |entry: u16| self.least[usize::from(entry)];
+        let mut codes = sequent.iter().copied();
+        codes.find(|&other| formula(other / 2) == formula(dual))
     }
 
     /// Puts everything back into focus once nothing is.
@@ -328,8 +331,7 @@ impl Search<'_> {
             .collect();
         self.rng.shuffle(&mut boxes);
         boxes.sort_by_key(|&code| {
-            let dual = self.claim.dual[entry_of(code)];
-            let paired = sequent.iter().any(|&other| Some(other / 2) == dual);
+            let paired = self.dual_of(code, &sequent).is_some();
             !(paired || self.claim.valid.contains(entry_of(code)))
         });
         for principal in boxes {
@@ -344,7 +346,7 @@ impl Search<'_> {
     /// Weakens to the box and the diamonds, then makes the box step.
     fn toward_box(&mut self, sequent: Vec<u16>, principal: u16) -> Option<usize> {
         let mut kept: Vec<u16> = sequent.clone();
-        kept.retain(|&code| code == principal || self.goes_with_box(code, principal));
+        kept.retain(|&code| self.goes_with_box(code, principal));
         match self.any_but(&sequent, &kept) {
             Some(other) => {
                 let rule = self.spare(other);
@@ -356,14 +358,30 @@ impl Search<'_> {
 
     fn goes_with_box(&self, code: u16, principal: u16) -> bool {
         let kind = self.entry(code).kind;
-        kind == Kind::Diamond
+        let (member, principal) = (self.member(code), self.member(principal));
+        member == principal
+            || kind == Kind::Diamond
             || match self.flaw {
                 Flaw::BoxKeepsBoxes => kind == Kind::Box,
-                Flaw::BoxKeepsCopy => code ^ 1 == principal,
+                Flaw::BoxKeepsCopy => member ^ 1 == principal,
                 Flaw::BoxDropsOthers => true,
                 _ => false,
             }
     }
+}
+
+/// Whether a leaf with these members may go back to a start with those.
+fn closes(flaw: Flaw, start: Vec<u16>, leaf: &[u16]) -> bool {
+    match flaw {
+        Flaw::LoopInOtherFocus => start != leaf && entries_of(&start) == entries_of(leaf),
+        _ => start == leaf,
+    }
+}
+
+fn entries_of(members: &[u16]) -> Vec<u16> {
+    let mut entries: Vec<u16> = members.iter().map(|member| member / 2).collect();
+    entries.dedup();
+    entries
 }
 
 /// The rule that takes a formula apart without loss.

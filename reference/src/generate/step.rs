@@ -2,7 +2,7 @@
 
 use crate::claim::{Entry, Kind};
 use crate::proof::Rule;
-use crate::sequent::{entry_of, in_focus, insert, remove};
+use crate::sequent::{entry_of, in_focus, insert, member};
 
 /// A mistake that the search makes on purpose.
 #[derive(Clone, Copy, Debug, PartialEq, Eq)]
@@ -28,14 +28,14 @@ pub enum Flaw {
     BoxDropsOthers,
     /// An axiom with members beside it.
     AxiomWithMore,
+    /// Back leaves linked to a D with the same formulas, not all in the same
+    /// focus.
+    LoopInOtherFocus,
     /// A branch that will not close ends in any leaf.
     GivesUp,
-    /// Back leaves linked to a D with the same formulas under other numbers.
-    LoopToTwins,
 }
 
-/// Those that any claim gives room for.
-pub const FLAWS: [Flaw; 11] = [
+pub const FLAWS: [Flaw; 12] = [
     Flaw::LoopWithoutFocus,
     Flaw::LoopWithoutBox,
     Flaw::LoopThroughF,
@@ -46,12 +46,16 @@ pub const FLAWS: [Flaw; 11] = [
     Flaw::BoxKeepsCopy,
     Flaw::BoxDropsOthers,
     Flaw::AxiomWithMore,
+    Flaw::LoopInOtherFocus,
     Flaw::GivesUp,
 ];
 
+/// The entries, and for each the least that is taken for the same formula.
+type Table<'a> = (&'a [Entry], &'a [u16]);
+
 /// The sequents of the children that a rule with this principal asks for.
 pub fn children(
-    entries: &[Entry],
+    (entries, least): Table,
     flaw: Flaw,
     rule: Rule,
     principal: u16,
@@ -62,14 +66,14 @@ pub fn children(
     let keeping = |operand: u16| target(entries, operand) * 2 + focus;
     let side_plus = |added: &[u16]| {
         let mut child = sequent.to_vec();
-        remove(&mut child, principal);
+        child.retain(|&code| member(least, code) != member(least, principal));
         added.iter().for_each(|&code| insert(&mut child, code));
         child
     };
     match rule {
         Rule::Or => vec![side_plus(&[keeping(a), keeping(b)])],
         Rule::And => vec![side_plus(&[keeping(a)]), side_plus(&[keeping(b)])],
-        Rule::Box => vec![box_child(entries, flaw, sequent, principal)],
+        Rule::Box => vec![box_child((entries, least), flaw, sequent, principal)],
         Rule::Mu if flaw != Flaw::MuKeepsFocus => {
             vec![side_plus(&[target(entries, a) * 2])]
         }
@@ -81,12 +85,13 @@ pub fn children(
     }
 }
 
-fn box_child(entries: &[Entry], flaw: Flaw, sequent: &[u16], principal: u16) -> Vec<u16> {
+fn box_child((entries, least): Table, flaw: Flaw, sequent: &[u16], principal: u16) -> Vec<u16> {
     let mut child = Vec::new();
     for &code in sequent {
         let entry = entries[entry_of(code)];
-        let copy = flaw == Flaw::BoxKeepsCopy && code ^ 1 == principal;
-        if code == principal || copy || entry.kind == Kind::Diamond {
+        let same = |other: u16| member(least, other) == member(least, principal);
+        let copy = flaw == Flaw::BoxKeepsCopy && same(code ^ 1);
+        if same(code) || copy || entry.kind == Kind::Diamond {
             insert(&mut child, target(entries, entry.a) * 2 + (code & 1));
         } else if flaw == Flaw::BoxKeepsBoxes {
             insert(&mut child, code);

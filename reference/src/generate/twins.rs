@@ -22,11 +22,34 @@ impl Twins {
         let copies = &self.copies[usize::from(plain)];
         rng.pick(copies).unwrap_or_default()
     }
+
+    /// For each entry the least that stands for the same one of the plain table.
+    pub fn least_copies(&self) -> Vec<u16> {
+        let mut least = vec![0; self.entries.len()];
+        for copies in &self.copies {
+            let first = copies.iter().copied().min().unwrap_or_default();
+            copies
+                .iter()
+                .for_each(|&copy| least[usize::from(copy)] = first);
+        }
+        least
+    }
 }
 
 /// Entries stand twice, operands are drawn from either copy, and some entries
-/// stand once more with their free names written out.
+/// stand once more with their free names written out. Seldom there is a mistake.
 pub fn twins(rng: &mut Rng, plain: &[Entry]) -> Twins {
+    let mistakes = usize::from(rng.chance(1, 6));
+    with_mistakes(rng, plain, mistakes)
+}
+
+/// The same with mistakes in it, where there is room for some.
+pub fn near_twins(rng: &mut Rng, plain: &[Entry]) -> Twins {
+    let mistakes = rng.between(1, 3);
+    with_mistakes(rng, plain, mistakes)
+}
+
+fn with_mistakes(rng: &mut Rng, plain: &[Entry], mistakes: usize) -> Twins {
     let free = free_names(plain);
     let mut draft = Draft::new(plain, &free);
     if 2 * plain.len() <= ENTRIES {
@@ -35,7 +58,7 @@ pub fn twins(rng: &mut Rng, plain: &[Entry]) -> Twins {
     for _ in 0..rng.below(4) {
         draft.write_out(rng);
     }
-    if rng.chance(1, 6) {
+    for _ in 0..mistakes {
         draft.mistake(rng);
     }
     let order = draft.order(rng);

@@ -5,7 +5,11 @@ use std::path::Path;
 
 /// Those of the base, then those of the requests.
 pub fn checks() -> Vec<CheckRecord> {
-    let files = [("base/check.bin", 3551), ("t02/check.bin", 1527)];
+    let files = [
+        ("base/check.bin", 3551),
+        ("t02/check.bin", 1527),
+        ("t03/check.bin", 1534),
+    ];
     let records = files.map(|(file, count)| {
         let records = corpus::read_checks(&read(file)).expect("whole records");
         assert_eq!(records.len(), count, "{file}");

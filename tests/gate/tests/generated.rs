@@ -1,32 +1,40 @@
 //! Random and damaged files: the gate and the reference agree on each.
 //! `GATE_FILES` sets how many, `GATE_LOOPS` how many whose loops leave focus,
-//! `GATE_TWINS` how many in which formulas stand more than once, `GATE_SEED` the
-//! seed.
+//! `GATE_TWINS` how many in which all proofs use twins, `GATE_SEED` the seed. Of
+//! the first, two out of five are made of tables with twins for proofs that use
+//! them, whatever the seed.
 
 use gate_tests::setting;
 use reference::corpus::CheckRecord;
 use reference::{describe, generate};
 
 /// The gate's answers are the reference's, and enough of the files are accepted.
-fn assert_agree(records: impl Iterator<Item = CheckRecord>, files: u64, what: &str) {
-    let mut accepted = 0u64;
+/// Answers in how many of them two entries of one formula are used.
+fn assert_agree(records: impl Iterator<Item = CheckRecord>, files: u64, what: &str) -> u64 {
+    let (mut accepted, mut twins) = (0u64, 0u64);
     for (index, record) in records.take(files as usize).enumerate() {
         let got = gate_tests::check(&record.claim, &record.proof);
         let (got, expected) = (describe(got), describe(record.answer));
         assert_eq!(got, expected, "{what} {index}");
         accepted += u64::from(record.answer == 0);
+        twins += u64::from(uses_twins(&record));
     }
-    assert!(
-        accepted * 10 > files,
-        "too few accepted proofs: {accepted} of {files}"
-    );
-    println!("gate: {files} of {what} agree, {accepted} accepted");
+    println!("gate: {files} of {what} agree, {accepted} accepted, {twins} use twins");
+    assert!(accepted * 10 > files, "too few accepted proofs");
+    twins
+}
+
+fn uses_twins(record: &CheckRecord) -> bool {
+    let decoded = reference::judge(&record.claim, &record.proof).decoded;
+    decoded.is_some_and(|decoded| !generate::twins_used(&decoded).is_empty())
 }
 
 #[test]
 fn random_and_damaged_files_agree() {
     let records = generate::checks(setting("GATE_SEED", 1));
-    assert_agree(records, setting("GATE_FILES", 50_000), "generated pairs");
+    let files = setting("GATE_FILES", 50_000);
+    let twins = assert_agree(records, files, "generated pairs");
+    assert!(twins * 3 > files, "too few proofs that use twins");
 }
 
 /// Rule 9 on a loop path, in good files and in bad ones.
@@ -40,11 +48,13 @@ fn loops_that_leave_focus_agree() {
     );
 }
 
-/// Formulas under several entry numbers, and proofs that name any of these.
+/// Two entries of one formula in each proof.
 #[test]
 fn files_with_twins_agree() {
     let records = generate::twins(setting("GATE_SEED", 1));
-    assert_agree(records, setting("GATE_TWINS", 10_000), "files with twins");
+    let files = setting("GATE_TWINS", 10_000);
+    let twins = assert_agree(records, files, "files with twins");
+    assert_eq!(twins, files);
 }
 
 #[test]

@@ -88,8 +88,9 @@ fn members_1_to_24() {
     for (count, expected) in [
         (1, "accept"),
         (24, "accept"),
-        // Behind the opening, the entry count and 25 entries of two bytes.
-        (25, "refuse 12 at 56"),
+        // Behind the opening, the entry count, truth in two bytes and 24 letters
+        // in four.
+        (25, "refuse 12 at 104"),
     ] {
         let (claim, proof) = extremes::weakened(count);
         assert_claim(&claim.bytes, &proof.bytes, expected);
@@ -183,13 +184,11 @@ fn codes_rise_and_are_no_names() {
     assert_checked(&claim, &proof(&[1, 7, 8]), "refuse 34 at 17");
 }
 
-/// 24 codes in each of 1,024 nodes, 24,576 in all, fill the lent codes to the
-/// last: D over D, and an Ax1 that 24 codes do not keep.
-#[test]
-fn codes_24_576_in_all() {
+/// A proof of 1,024 nodes with the same 24 codes in each, D over D, and the claim
+/// of their entries.
+fn full(entries: &[Entry], last: Rule) -> (Vec<u8>, Vec<u8>) {
     let members: Vec<u16> = (0..24).collect();
     let codes: Vec<u16> = members.iter().map(|member| 2 * member + 1).collect();
-    let claim = draft::claim(&truths(24), &members).bytes;
     let mut nodes: Vec<DraftNode> = (1..1024)
         .map(|child| {
             let mut node = DraftNode::new(Rule::D, 0, codes.clone());
@@ -197,8 +196,17 @@ fn codes_24_576_in_all() {
             node
         })
         .collect();
-    nodes.push(DraftNode::new(Rule::Ax1, 0, codes));
-    let proof = draft::proof(&nodes).bytes;
+    nodes.push(DraftNode::new(last, 0, codes));
+    let claim = draft::claim(entries, &members).bytes;
+    (claim, draft::proof(&nodes).bytes)
+}
+
+/// 24,576 codes in all fill the lent codes to the last: an Ax1 that 24 letters do
+/// not keep, and an Ax2 that 24 truths do, being one member.
+#[test]
+fn codes_24_576_in_all() {
+    let letters: Vec<Entry> = (0..24).map(|p| Entry::new(Kind::Letter, p, 0)).collect();
+    let (claim, proof) = full(&letters, Rule::Ax1);
     assert_eq!(decode(&claim, &proof).codes.len(), 24_576);
     assert_checked(&claim, &proof, "refuse 37 at 1023");
     assert_checked(
@@ -206,6 +214,9 @@ fn codes_24_576_in_all() {
         &proof[..proof.len() - 1],
         &format!("refuse 31 at {}", proof.len() - 1),
     );
+    let (claim, proof) = full(&truths(24), Rule::Ax2);
+    assert_eq!(decode(&claim, &proof).codes.len(), 24_576);
+    assert_checked(&claim, &proof, "accept");
 }
 
 /// "Bits 5 to 7 are zero"; an entry's map has the bits of its kind alone.

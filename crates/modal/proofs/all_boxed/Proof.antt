@@ -4,17 +4,18 @@ use Prim.Native.Nat.{_≤_, _-_}
 use native.Mathlib.Omega.{arith}
 use borrow.Author.Needs.{needs}
 use Rattle.verdict.specs.Tests.{all}
-use Rattle.sequents.specs.Part.{part, part-member}
+use Rattle.sequents.specs.Part.{part, span-small}
 use Rattle.modal.specs.BoxLaws.{boxed as Boxed, all-on, all-stop, all-end}
 use Rattle.sequents.specs.KeptLaws.{was-false, was-true}
 use Rattle.modal.proofs.all_boxed.Statement.{statement}
 use Rattle.modal.proofs.all_boxed.Tie as tie
 
 abbrev Inv-loop : tie.InvT-loop
-Inv-loop kinds principal codes from to i₀ i = (from ≤ i) × (i ≤ to) × (all (Boxed kinds principal) (part codes from to) ≡ all (Boxed kinds principal) (part codes i to))
+Inv-loop kinds canon principal codes from to i₀ i =
+    (from ≤ i) × (i ≤ to) × (all (Boxed kinds canon principal) (part codes from to) ≡ all (Boxed kinds canon principal) (part codes i to))
 
 abbrev μ-loop : tie.MeasureT-loop
-μ-loop kinds principal codes from to i₀ i = to - i
+μ-loop kinds canon principal codes from to i₀ i = to - i
 
 loop-holds : tie.Need-loop-holds Inv-loop μ-loop
 loop-holds c = (search needs, search needs, refl)
@@ -28,13 +29,13 @@ shared-slice-read-boxed c = search needs
 boxed-requires : tie.Need-boxed-requires Inv-loop μ-loop
 boxed-requires c κs =
     let s = c .before .before .before .before in
-    s .pre .small _ (part-member (s .args .codes .now) (s .args .from) (s .args .to) (c .before .before .loop .i) (omega arith) (omega arith) (s .pre .long))
+    (s .pre .0, span-small (s .pre .1) (c .before .before .loop .i) (omega arith) (omega arith))
 
 returns : tie.Need-returns Inv-loop μ-loop
 returns c =
     let s = c .before .before .before .before .before .before in
     let l = c .before .before .before .before .loop in
-    sym (l .inv .2 ∙ all-stop _ (s .args .codes .now) (l .i) (s .args .to) (omega arith) (s .pre .long) (was-false (c .before .boxed .ensures) (c .if1 .taken)))
+    sym (l .inv .2 ∙ all-stop _ (s .args .codes .now) (l .i) (s .args .to) (omega arith) (s .pre .1 .long) (was-false (c .before .boxed .ensures) (c .if1 .taken)))
 
 add-i : tie.Need-add-i Inv-loop μ-loop
 add-i c = search needs
@@ -48,7 +49,7 @@ loop-again c =
     let l = c .before .before .before .before .loop in (
       search needs,
       search needs,
-      l .inv .2 ∙ all-on _ (s .args .codes .now) (l .i) (s .args .to) (omega arith) (s .pre .long) (was-true (c .before .boxed .ensures) (c .if1 .left)),
+      l .inv .2 ∙ all-on _ (s .args .codes .now) (l .i) (s .args .to) (omega arith) (s .pre .1 .long) (was-true (c .before .boxed .ensures) (c .if1 .left)),
     )
 
 returns-2 : tie.Need-returns-2 Inv-loop μ-loop

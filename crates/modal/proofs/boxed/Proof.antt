@@ -5,8 +5,11 @@ use borrow.Author.Needs.{needs}
 use Rattle.modal.proofs.boxed.Statement.{statement}
 use Rattle.modal.proofs.boxed.Tie as tie
 
+key-of-requires : tie.Need-key-of-requires
+key-of-requires c κs = search needs
+
 returns : tie.Need-returns
-returns c = rw (eq-eqb _ _ (c .if1 .taken)) refl
+returns c = rw (← c .before .key-of .ensures .1, eq-eqb _ _ (c .if1 .taken)) refl
 
 entry-of-requires : tie.Need-entry-of-requires
 entry-of-requires c κs = search needs
@@ -15,7 +18,7 @@ element-copy-out-result : tie.Need-element-copy-out-result
 element-copy-out-result c = search needs
 
 returns-2 : tie.Need-returns-2
-returns-2 c = rw (ne-eqb _ _ (c .before .before .if1 .left), c .before .entry-of .ensures) refl
+returns-2 c = rw (← c .before .before .before .key-of .ensures .1, ne-eqb _ _ (c .before .before .if1 .left), c .before .entry-of .ensures) refl
 
 pub boxed-spec : {M : Type 1} → statement M
-boxed-spec = tie.close (tie.spec returns entry-of-requires element-copy-out-result returns-2)
+boxed-spec = tie.close (tie.spec key-of-requires returns entry-of-requires element-copy-out-result returns-2)

@@ -10,28 +10,27 @@ use Rattle.verdict.specs.Tests.{each}
 use Rattle.formula.specs.Plain.{tableOf}
 use Rattle.sequents.specs.Part.{part, part-member}
 use Rattle.sequents.specs.CodeSet.{Holds, each-before, each-end}
-use Rattle.calculus.specs.Rules.{stepped as Stepped}
-use Rattle.modal.specs.BoxLaws.{Modal}
+use Rattle.modal.specs.BoxLaws.{steppedKey, Modal}
 use Rattle.modal.proofs.put_targets.Statement.{statement}
 use Rattle.modal.proofs.put_targets.Tie as tie
 
 abbrev Inv-loop : tie.InvT-loop
-Inv-loop set₀ kinds a codes from to i₀ set i =
+Inv-loop set₀ kinds a canon codes from to i₀ set i =
     (from ≤ i) × (i ≤ to)
-    × ((ys : List ℕ) (n : ℕ) → ((c : ℕ) → elements (part codes from to) c → Modal kinds a ys n c) → Holds set (each (Stepped (tableOf kinds a ys n)) (part codes i to)))
+    × ((ys : List ℕ) (n : ℕ) → ((c : ℕ) → elements (part codes from to) c → Modal kinds a ys n c) → Holds set (each (steppedKey canon (tableOf kinds a ys n)) (part codes i to)))
 
 abbrev μ-loop : tie.MeasureT-loop
-μ-loop set₀ kinds a codes from to i₀ set i = i - from
+μ-loop set₀ kinds a canon codes from to i₀ set i = i - from
 
 -- the code at hand is one of the part
 here : (c : tie.After-shared-slice-known2 Inv-loop μ-loop) → let s = c .before .before .before .before in
     elements (part (s .args .codes .now) (s .args .from) (s .args .to)) (getD (s .args .codes .now) (c .before .before .loop .i - 1) 0)
 here c =
     let s = c .before .before .before .before in
-    part-member (s .args .codes .now) (s .args .from) (s .args .to) (c .before .before .loop .i - 1) (omega arith) (omega arith) (s .pre .0 .long)
+    part-member (s .args .codes .now) (s .args .from) (s .args .to) (c .before .before .loop .i - 1) (omega arith) (omega arith) (s .pre .1 .long)
 
 loop-holds : tie.Need-loop-holds Inv-loop μ-loop
-loop-holds c = (search needs, search needs, λ ys n M. each-end _ (c .before .args .codes .now) (c .before .args .to) (c .before .pre .2))
+loop-holds c = (search needs, search needs, λ ys n M. each-end _ (c .before .args .codes .now) (c .before .args .to) (c .before .pre .3))
 
 sub-i : tie.Need-sub-i Inv-loop μ-loop
 sub-i c = search needs
@@ -42,13 +41,13 @@ mul-code c = search needs
 shared-slice-read-code : tie.Need-shared-slice-read-code Inv-loop μ-loop
 shared-slice-read-code c = search needs
 
-operand-code-requires : tie.Need-operand-code-requires Inv-loop μ-loop
-operand-code-requires c κs =
+operand-key-requires : tie.Need-operand-key-requires Inv-loop μ-loop
+operand-key-requires c κs =
     let p = c .before .before .before .before .before .pre in
-    (p .0 .small _ (here (c .before)), p .1 _ (here (c .before)), omega arith)
+    (p .0, p .1 .small _ (here (c .before)), p .2 _ (here (c .before)), omega arith)
 
 put-requires : tie.Need-put-requires Inv-loop μ-loop
-put-requires c κs = c .operand-code .ensures .0
+put-requires c κs = c .operand-key .ensures .0
 
 loop-less : tie.Need-loop-less Inv-loop μ-loop
 loop-less c = search needs
@@ -61,8 +60,8 @@ loop-again c =
       search needs,
       λ ys n M.
           let m = M _ (here (c .before .before .before)) in
-          each-before (Stepped (tableOf (s .args .kinds .now) (s .args .a .now) ys n)) (s .args .codes .now) (l .i) (s .args .to) _ (omega arith) (omega arith) (s .pre .0 .long)
-          (rw (m .is) (c .before .operand-code .ensures .1 ys n (m .inside)))
+          each-before (steppedKey (s .args .canon .now) (tableOf (s .args .kinds .now) (s .args .a .now) ys n)) (s .args .codes .now) (l .i) (s .args .to) _ (omega arith) (omega arith) (s .pre .1 .long)
+          (rw (m .is) (c .before .operand-key .ensures .1 ys n (m .inside)))
           (c .put .ensures _ (l .inv .2 ys n M)),
     )
 
@@ -81,7 +80,7 @@ put-targets-spec =
     sub-i
     mul-code
     shared-slice-read-code
-    operand-code-requires
+    operand-key-requires
     put-requires
     loop-less
     loop-again

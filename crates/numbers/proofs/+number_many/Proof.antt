@@ -5,7 +5,7 @@ use native.Mathlib.Omega.{arith}
 use borrow.Fn.Kinds.{In}
 use borrow.Fn.PlainCycle.{Measures, is, falls, and}
 use Rattle.bits.specs.IfSet.{ifSet}
-use Rattle.numbers.specs.Numbered.{numbered-again, room-many}
+use Rattle.numbers.specs.Numbered.{numbered-again, room}
 use Rattle.numbers.proofs.number_in.Reads as number-in
 use Rattle.numbers.proofs.number_many.Reads as number-many
 use Rattle.numbers.proofs.number_many.Kinds as kinds
@@ -58,7 +58,7 @@ module _ (t : ℕ) where
   number-in-requires : lts.Need-number-in-requires claims here number-many.Post
   number-in-requires c κs =
       let given = c .before .before .before .before .before .before .before .pre .1 in
-      (given .0, room-many (given .0 .small) refl refl refl refl refl, given .1)
+      (given .0, room 256 (given .0 .small) refl refl refl refl refl, given .1)
 
   returns-2 : lts.Need-returns-2 claims here number-many.Post
   returns-2 c = c .before .before .before .before .before .number-in .ensures

@@ -1,11 +1,11 @@
 -- `or_kept` meets its contract: the set that is compared holds the side and both targets.
-use mathlib.Core.Path.{refl}
+use mathlib.Core.Path.{refl, _∙_}
 use mathlib.Core.List.{[]}
 use native.Mathlib.Omega.{arith}
 use borrow.Author.Needs.{needs}
 use Rattle.formula.specs.Codes.{entryOf}
-use Rattle.calculus.specs.Judge.{sides, or-kept as Kept}
-use Rattle.sequents.specs.KeptLaws.{Operands, this-kind, other-kind, or-operands}
+use Rattle.calculus.specs.Judge.{keys, sides, or-kept as Kept}
+use Rattle.sequents.specs.KeptLaws.{Operands, this-kind, other-kind, or-operands, operand-member}
 use Rattle.operand_rules.proofs.or_kept.Statement.{statement}
 use Rattle.operand_rules.proofs.or_kept.Tie as tie
 
@@ -23,11 +23,13 @@ returns : tie.Need-returns
 unfolding Kept
 returns c l m S M = rw (other-kind (c .before .before .before .pre) l m [] (S .belongs) (c .before .before .entry-of .ensures) (c .if1 .taken)) refl
 
-operand-code-requires : tie.Need-operand-code-requires
-operand-code-requires c κs = (search needs, told c .a .within, omega arith)
+operand-key-requires : tie.Need-operand-key-requires
+operand-key-requires c κs = let p = c .before .before .before .pre in (p .numbers .narrow, omega (arith, p .inside, p .small), told c .a .within, omega arith)
 
-operand-code-requires-2 : tie.Need-operand-code-requires-2
-operand-code-requires-2 c κs = (search needs, told (c .before) .b .within, omega arith)
+operand-key-requires-2 : tie.Need-operand-key-requires-2
+operand-key-requires-2 c κs =
+    let p = c .before .before .before .before .pre in
+    (p .numbers .narrow, omega (arith, p .inside, p .small), told (c .before) .b .within, omega arith)
 
 put-requires : tie.Need-put-requires
 put-requires c κs = search needs
@@ -39,18 +41,19 @@ same-requires : tie.Need-same-requires
 same-requires c κs = search needs
 
 returns-2 : tie.Need-returns-2
-unfolding Kept sides
+unfolding Kept sides keys
 returns-2 c l m S M =
-    let a = c .before .before .before .before .before .before .before .before .before .before .before .args in
-    let k = told (c .before .before .before .before .before .before .before .before) in
+    let s = c .before .before .before .before .before .before .before .before .before .before .before in
+    let f = c .before .before .before .before .before .before .before .before in
+    let k = told f in
+    let a-key = c .before .before .before .before .before .before .before .operand-key .ensures .1 (s .args .b .now) (s .args .size) (k .a .inside) ∙ operand-member (s .pre) (k .a) (omega arith) in
+    let b-key = c .before .before .before .before .before .before .operand-key2 .ensures .1 (s .args .b .now) (s .args .size) (k .b .inside) ∙ operand-member (s .pre) (k .b) (omega arith) in
     rw (
-      this-kind (c .before .before .before .before .before .before .before .before .before .before .before .pre) l m [] (S .belongs) (c .before .before .before .before .before .before .before .before .before .before .entry-of .ensures) (c .before .before .before .before .before .before .before .before .if1 .left),
-      k .a .is,
-      k .b .is,
-      ← c .before .before .before .before .before .before .before .operand-code .ensures .1 (a .b .now) (a .size) (k .a .inside),
-      ← c .before .before .before .before .before .before .operand-code2 .ensures .1 (a .b .now) (a .size) (k .b .inside),
+      this-kind (s .pre) l m [] (S .belongs) (f .before .before .entry-of .ensures) (f .if1 .left),
+      ← a-key,
+      ← b-key,
     )
-    (c .same .ensures m _ M (c .before .before .put2 .ensures _ (c .before .before .before .before .put .ensures _ (S .holds))))
+    (c .same .ensures _ _ M (c .before .before .put2 .ensures _ (c .before .before .before .before .put .ensures _ (S .holds))))
 
 pub or-kept-spec : {M : Type 1} → statement M
 or-kept-spec =
@@ -59,8 +62,8 @@ or-kept-spec =
     entry-of-requires
     element-copy-out-if1
     returns
-    operand-code-requires
-    operand-code-requires-2
+    operand-key-requires
+    operand-key-requires-2
     put-requires
     put-requires-2
     same-requires

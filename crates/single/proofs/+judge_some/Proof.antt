@@ -13,14 +13,14 @@ use Rattle.single.proofs.judge_in.Reads as judge-in-reads
 use Rattle.single.proofs.+judge_some.{statement}
 use Rattle.single.proofs.+judge_some.Tie.{close}
 
-abbrev μ-judge-some : Measures 5 judge-some-kinds.ps ℕ
-μ-judge-some κs a = ifSet (a .1 .1 .1 .1 .1 .1 .1 .1 .0) 1
+abbrev μ-judge-some : Measures 6 judge-some-kinds.ps ℕ
+μ-judge-some κs a = ifSet (a .1 .1 .1 .1 .1 .1 .1 .1 .1 .0) 1
 
-abbrev judge-some-at : ℕ → In 5 judge-some-kinds.ps
-judge-some-at t = and 5 judge-some-kinds.ps (is 5 judge-some-kinds.ps μ-judge-some t) judge-some.Pre
+abbrev judge-some-at : ℕ → In 6 judge-some-kinds.ps
+judge-some-at t = and 6 judge-some-kinds.ps (is 6 judge-some-kinds.ps μ-judge-some t) judge-some.Pre
 
-abbrev judge-some-below : ℕ → In 5 judge-some-kinds.ps
-judge-some-below t = and 5 judge-some-kinds.ps (falls 5 judge-some-kinds.ps _<_ μ-judge-some t) judge-some.Pre
+abbrev judge-some-below : ℕ → In 6 judge-some-kinds.ps
+judge-some-below t = and 6 judge-some-kinds.ps (falls 6 judge-some-kinds.ps _<_ μ-judge-some t) judge-some.Pre
 
 -- what it asks of its callees and learns of them
 abbrev judge-some-callees : ℕ → judge-some-lts.Claims
@@ -54,7 +54,7 @@ judge-some-slice-aggregate-judge-in-4 t c = search needs
 judge-some-judge-in-requires : (t : ℕ) → judge-some-lts.Need-judge-in-requires (judge-some-callees t) (judge-some-at t) judge-some.Post
 judge-some-judge-in-requires t c κs =
     let s = c .before .before .before .before .before .before in
-    (s .pre .1 .0, room 128 (s .pre .1 .1) (omega arith))
+    (s .pre .1 .0, room 128 (s .pre .1 .1) (omega arith), s .pre .1 .2)
 
 judge-some-returns-2 : (t : ℕ) → judge-some-lts.Need-returns-2 (judge-some-callees t) (judge-some-at t) judge-some.Post
 judge-some-returns-2 t c = search needs

@@ -20,7 +20,7 @@ slice-aggregate-judge-in-4 c = search needs
 judge-in-requires : tie.Need-judge-in-requires
 judge-in-requires c κs =
     let s = c .before .before .before .before .before in
-    (s .pre .0, room 32 (s .pre .1) (omega arith))
+    (s .pre .0, room 32 (s .pre .1) (omega arith), s .pre .2)
 
 returns : tie.Need-returns
 returns c = search needs

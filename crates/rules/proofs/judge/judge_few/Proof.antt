@@ -27,6 +27,7 @@ judge-in-requires c κs =
         first = getD-replicate 32 0 0 0 (omega arith);
         ones = λ w h. getD-replicate 32 w 1 0 (omega (arith, few));
       },
+      start .pre .3,
     )
 
 returns : tie.Need-returns

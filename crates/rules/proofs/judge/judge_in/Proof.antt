@@ -10,7 +10,7 @@ use Rattle.rules.proofs.judge.judge_in.Tie as tie
 
 fill-owners-requires : tie.Need-fill-owners-requires
 fill-owners-requires c κs =
-    let (L, _, F) = c .before .before .before .before .before .before .before .before .pre in
+    let (L, _, F, _) = c .before .before .before .before .before .before .before .before .pre in
     (L .some, record { few = L .columns .few; room = (L .columns .rules, L .columns .links, F .room .0) }, F .ownerless)
 
 enum-told : tie.Need-enum-told
@@ -19,9 +19,9 @@ enum-told c = search needs
 judge-tree-requires : tie.Need-judge-tree-requires
 judge-tree-requires c κs =
     let start = c .before .before .before .before .before .before .before .before .before .before .before .before .before .before .before .before in
-    let (L, M, F) = start .pre in
+    let (L, M, F, N) = start .pre in
     let filled = rw (c .before .before .before .enum-told .given .1) at (c .before .before .before .before .before .before .before .fill-owners .ensures) in (
-      (filled-judged filled L, M),
+      (filled-judged filled L N, M),
       (
         record { some = L .some; few = L .columns .few; room = search needs; parented = filled-parented _ _ _ _ filled },
         filled .owned refl,

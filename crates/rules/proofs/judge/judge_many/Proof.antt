@@ -27,6 +27,7 @@ judge-in-requires c κs =
         first = getD-replicate 1024 0 0 0 (omega arith);
         ones = λ w h. getD-replicate 1024 w 1 0 (omega (arith, few));
       },
+      start .pre .2,
     )
 
 returns : tie.Need-returns

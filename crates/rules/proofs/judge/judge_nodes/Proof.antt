@@ -16,11 +16,11 @@ use Rattle.rules.proofs.judge.judge_nodes.Statement.{statement}
 use Rattle.rules.proofs.judge.judge_nodes.Tie as tie
 
 abbrev Inv-loop : tie.InvT-loop
-Inv-loop kinds a b count rules links starts codes nodes entries exits v₀ v =
+Inv-loop kinds a b canon count rules links starts codes nodes entries exits v₀ v =
     (v ≤ nodes) × ((ms : List ℕ) (k : ℕ) → Passed (keeps (heldClaim kinds a b count ms k) (plain (proofOf rules links starts codes nodes))) v)
 
 abbrev μ-loop : tie.MeasureT-loop
-μ-loop kinds a b count rules links starts codes nodes entries exits v₀ v = nodes - v
+μ-loop kinds a b canon count rules links starts codes nodes entries exits v₀ v = nodes - v
 
 loop-holds : tie.Need-loop-holds Inv-loop μ-loop
 loop-holds c = (omega arith, λ ms k w h. absurd (omega arith))
@@ -34,8 +34,8 @@ shared-slice-read-refusal-of c = omega (arith, c .before .before .before .before
 refusal-of-requires : tie.Need-refusal-of-requires Inv-loop μ-loop
 refusal-of-requires c κs = search needs
 
-cast-t18 : tie.Need-cast-t18 Inv-loop μ-loop
-cast-t18 c = omega (arith, c .before .before .before .before .before .before .before .before .before .before .before .before .pre .judged .columns .few)
+cast-t19 : tie.Need-cast-t19 Inv-loop μ-loop
+cast-t19 c = omega (arith, c .before .before .before .before .before .before .before .before .before .before .before .before .pre .judged .columns .few)
 
 returns : tie.Need-returns Inv-loop μ-loop
 returns c ms k =
@@ -65,7 +65,7 @@ judge-nodes-spec =
     node-keeps-requires
     shared-slice-read-refusal-of
     refusal-of-requires
-    cast-t18
+    cast-t19
     returns
     add-v
     loop-less

@@ -1,12 +1,15 @@
 -- a back leaf keeps its rule when its companion fits and has its sequent; any other node when it keeps what it owes its children
-use mathlib.Core.Path.{sym, _∙_}
+use mathlib.Core.Path.{ap₂, sym, _∙_}
+use mathlib.Core.Bool.{Bool}
 use borrow.Author.Needs.{needs}
 use borrow.Author.Tests.{not-true, not-false}
+use Rattle.verdict.specs.Tests.{same}
 use Rattle.formula.specs.Held.{heldClaim}
 use Rattle.formula.specs.Claim.{Claim}
 use mathlib.Core.List.{List, []}
-use Prim.Native.Nat.{ℕ}
-use Rattle.principal_rules.specs.Judged.{placed}
+use Prim.Native.Nat.{ℕ, _+_, _*_, _<_}
+use lib.ListN.{getD}
+use Rattle.principal_rules.specs.Judged.{placed, keys-here}
 use Rattle.rules.specs.JudgeStages.{other-keeps, leaf-refused, companion-inside, leaf-compared}
 use Rattle.rules.proofs.judge.node_keeps.Statement.{statement}
 use Rattle.rules.proofs.judge.node_keeps.Tie as tie
@@ -49,18 +52,28 @@ shared-slice-read-wide c = search needs
 wide-requires : tie.Need-wide-requires
 wide-requires c κs = search needs
 
+-- where the companion fits, it is a node
+companion-real : (c : tie.Else2) → let start = c .before .before .before .before .before .before .before .before .before .before in
+    getD (start .args .links .now) (4 * start .args .v + 3) 0 < start .args .nodes
+companion-real c =
+    let start = c .before .before .before .before .before .before .before .before .before .before in
+    companion-inside (start .pre .0) (claim start [] 0) (start .args .v) (start .pre .1) (c .before .before .if1 .left) (c .before .companion .ensures) (not-false _ (c .if2 .left))
+
 same-sequent-requires : tie.Need-same-sequent-requires
 same-sequent-requires c κs =
-    let start = c .before .before .before .before .before .before .before .before .before .before .before .before in
+    let fit = c .before .before in
+    let start = fit .before .before .before .before .before .before .before .before .before .before in
     let J = start .pre .0 .judged in
-    let inside = companion-inside (start .pre .0) (claim start [] 0) (start .args .v) (start .pre .1) (c .before .before .before .before .if1 .left) (c .before .before .before .companion .ensures) (not-false _ (c .before .before .if2 .left)) in
-    (placed J (start .args .v) (start .pre .1), rw (c .wide .ensures) (placed J _ inside))
+    (J .numbers .narrow, placed J (start .args .v) (start .pre .1), rw (c .wide .ensures) (placed J _ (companion-real fit)))
 
 returns-3 : tie.Need-returns-3
 returns-3 c ms k =
-    let start = c .before .before .before .before .before .before .before .before .before .before .before .before .before in
+    let fit = c .before .before .before in
+    let start = fit .before .before .before .before .before .before .before .before .before .before in
+    let J = start .pre .0 .judged in
     (rw (c .before .wide .ensures) at (c .same-sequent .ensures))
-    ∙ sym (leaf-compared (start .pre .0) (claim start ms k) _ (start .pre .1) (c .before .before .before .before .before .if1 .left) (c .before .before .before .before .companion .ensures) (not-false _ (c .before .before .before .if2 .left)))
+    ∙ ap₂ {C = Bool} same (keys-here J (start .args .v) (start .pre .1)) (keys-here J _ (companion-real fit))
+    ∙ sym (leaf-compared (start .pre .0) (claim start ms k) _ (start .pre .1) (fit .before .before .if1 .left) (fit .before .companion .ensures) (not-false _ (fit .if2 .left)))
 
 pub node-keeps-spec : {M : Type 1} → statement M
 node-keeps-spec =

@@ -25,7 +25,9 @@ wide-requires-2 : tie.Need-wide-requires-2
 wide-requires-2 c κs = search needs
 
 clash-requires : tie.Need-clash-requires
-clash-requires c κs = rw (c .before .before .wide .ensures, c .wide2 .ensures) (c .before .before .before .before .before .before .pre .span)
+clash-requires c κs =
+    let p = c .before .before .before .before .before .before .pre in
+    rw (c .before .before .wide .ensures, c .wide2 .ensures) (p .0, p .1 .span)
 
 returns : tie.Need-returns
 returns c ys n E = rw (c .before .before .before .wide .ensures, c .before .wide2 .ensures) at (c .clash .ensures) ys n E

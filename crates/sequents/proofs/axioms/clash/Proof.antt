@@ -1,86 +1,136 @@
--- `clash` meets its contract: two codes, in either order.
-use mathlib.Core.Path.{refl, sym}
-use Prim.Native.Nat.{_+_}
+-- `clash` meets its contract: the first member and the first that is another are all, and opposite.
+use mathlib.Core.Path.{refl, sym, _∙_}
+use mathlib.Core.Logic.{_≢_}
+use Prim.Native.Nat.{_<_}
 use native.Mathlib.Omega.{arith}
-use lib.ListN.{getD}
 use borrow.Author.Needs.{needs}
 use Rattle.verdict.specs.Sets.{elements}
-use Rattle.sequents.specs.Part.{part, part-member}
-use Rattle.sequents.specs.AxiomParts.{clash-two, clash-other}
+use Rattle.sequents.specs.Keys.{keysOf}
+use Rattle.sequents.specs.Part.{part, span-small}
+use Rattle.sequents.specs.AxiomParts.{clash-alone, clash-pair, none-axiom, keys-none, key-member, other-within, other-none, other-key}
+use Rattle.sequents.specs.KeptLaws.{was-false, was-true}
 use Rattle.sequents.proofs.axioms.clash.Statement.{statement}
 use Rattle.sequents.proofs.axioms.clash.Tie as tie
 
--- the two codes belong to the part
-both : (c : tie.Else1) → let a = c .before .before .args in
-    elements (part (a .codes .now) (a .from) (a .to)) (getD (a .codes .now) (a .from) 0) × elements (part (a .codes .now) (a .from) (a .to)) (getD (a .codes .now) (a .from + 1) 0)
-both c =
-    let s = c .before .before in
-    let a = s .args in (
-      part-member (a .codes .now) (a .from) (a .to) (a .from) (omega arith) (omega arith) (s .pre .long),
-      part-member (a .codes .now) (a .from) (a .to) (a .from + 1) (omega arith) (omega arith) (s .pre .long),
-    )
+-- the first member, the other, and that it is another
+one : (c : tie.After-key-of) → let a = c .before .before .before .before .args in elements (keysOf (a .canon .now) (part (a .codes .now) (a .from) (a .to))) (c .key-of .result)
+one c =
+    let s = c .before .before .before .before in
+    let a = s .args in
+    rw (c .key-of .ensures .1) (key-member (a .canon .now) (s .pre .1) (a .from) (omega arith) (omega (arith, s .pre .1 .order, c .before .before .if1 .left)))
 
-add-if1 : tie.Need-add-if1
-add-if1 c = search needs
+within : (c : tie.Else2) → c .before .other-member .result < c .before .before .before .before .before .before .args .to
+within c =
+    let s = c .before .before .before .before .before .before in
+    omega (arith, s .pre .1 .order, c .if2 .left, c .before .other-member .ensures, other-within (s .args .canon .now) (s .pre .1) (c .before .before .key-of .result))
+
+-- the first member that is another
+two : (c : tie.After-key-of2) → let a = c .before .before .before .before .before .before .before .before .args in
+    elements (keysOf (a .canon .now) (part (a .codes .now) (a .from) (a .to))) (c .key-of2 .result)
+two c =
+    let s = c .before .before .before .before .before .before .before .before in
+    let a = s .args in
+    rw (c .key-of2 .ensures .1) (key-member (a .canon .now) (s .pre .1) (c .before .before .before .other-member .result)
+    (omega (arith, c .before .before .before .other-member .ensures)) (within (c .before .before)))
+
+another : (c : tie.After-key-of2) → c .key-of2 .result ≢ c .before .before .before .before .key-of .result
+another c e =
+    let s = c .before .before .before .before .before .before .before .before in
+    let a = s .args in
+    let o = c .before .before .before .other-member .ensures in
+    let w = within (c .before .before) in
+    other-key (a .canon .now) (s .pre .1) (c .before .before .before .before .key-of .result) (omega (arith, o, w))
+    (rw (← o) (sym (c .key-of2 .ensures .1) ∙ e))
 
 returns : tie.Need-returns
-returns c ys n E = let s = c .before .before in sym (clash-other _ (s .args .codes .now) (s .args .from) (s .args .to) (s .pre .order) (s .pre .long) (c .if1 .taken))
+returns c ys n E =
+    let s = c .before .before in
+    rw (keys-none (s .args .canon .now) (s .args .codes .now) (s .args .from) (s .args .to) (s .pre .1 .long) (omega (arith, c .if1 .taken))) (sym (none-axiom _ .0))
 
-mul-x : tie.Need-mul-x
-mul-x c = search needs
+mul-key-of : tie.Need-mul-key-of
+mul-key-of c = search needs
 
-shared-slice-read-x : tie.Need-shared-slice-read-x
-shared-slice-read-x c = search needs
+shared-slice-read-key-of : tie.Need-shared-slice-read-key-of
+shared-slice-read-key-of c = search needs
 
-add-y : tie.Need-add-y
-add-y c = search needs
+key-of-requires : tie.Need-key-of-requires
+key-of-requires c κs =
+    let s = c .before .before .before in
+    (s .pre .0, span-small (s .pre .1) (s .args .from) (omega arith) (omega (arith, s .pre .1 .order, c .before .if1 .left)))
 
-mul-y : tie.Need-mul-y
-mul-y c = search needs
-
-shared-slice-read-y : tie.Need-shared-slice-read-y
-shared-slice-read-y c = search needs
-
-opposite-requires : tie.Need-opposite-requires
-opposite-requires c κs = let (x, y) = both (c .before .before) in let p = c .before .before .before .before .pre in (p .small _ x, p .small _ y)
+other-member-requires : tie.Need-other-member-requires
+other-member-requires c κs = search needs
 
 returns-2 : tie.Need-returns-2
 returns-2 c ys n E =
-    let e = c .before .before .before .before in
-    let s = e .before .before in
-    let (x, y) = both e in
-    rw (
-      clash-two _ (s .args .codes .now) (s .args .from) (s .args .to) (s .pre .order) (s .pre .long) (e .if1 .left),
-      ← c .before .opposite .ensures ys n (E _ x) (E _ y),
-      c .if2 .taken,
-    ) refl
+    let s = c .before .before .before .before .before .before in
+    let a = s .args in
+    sym (clash-alone _ _ (c .before .before .key-of .result) (other-none (a .canon .now) (s .pre .1) _ (omega (arith, s .pre .1 .order, c .if2 .taken, c .before .other-member .ensures))))
 
-opposite-requires-2 : tie.Need-opposite-requires-2
-opposite-requires-2 c κs = let (x, y) = both (c .before .before .before .before) in let p = c .before .before .before .before .before .before .pre in (p .small _ y, p .small _ x)
+mul-key-of-2 : tie.Need-mul-key-of-2
+mul-key-of-2 c = let w = within c in search needs
+
+shared-slice-read-key-of-2 : tie.Need-shared-slice-read-key-of-2
+shared-slice-read-key-of-2 c = let w = within (c .before) in search needs
+
+key-of-requires-2 : tie.Need-key-of-requires-2
+key-of-requires-2 c κs =
+    let s = c .before .before .before .before .before .before .before in
+    let o = c .before .before .other-member in
+    (s .pre .0, span-small (s .pre .1) (o .result) (omega (arith, o .ensures)) (within (c .before)))
+
+only-requires : tie.Need-only-requires
+only-requires c κs = search needs
 
 returns-3 : tie.Need-returns-3
 returns-3 c ys n E =
-    let e = c .before .before .before .before .before in
-    let s = e .before .before in
-    let (x, y) = both e in
+    let k = c .before .before in
+    rw (clash-pair _ _ _ _ (one (k .before .before .before .before)) (two k) (another k), was-false (c .before .only .ensures) (c .if3 .taken)) refl
+
+opposite-requires : tie.Need-opposite-requires
+opposite-requires c κs = search needs
+
+returns-4 : tie.Need-returns-4
+returns-4 c ys n E =
+    let k = c .before .before .before .before in
+    let x = one (k .before .before .before .before) in
     rw (
-      clash-two _ (s .args .codes .now) (s .args .from) (s .args .to) (s .pre .order) (s .pre .long) (e .if1 .left),
-      ← c .before .before .opposite .ensures ys n (E _ x) (E _ y),
-      c .before .if2 .left,
-    ) (c .opposite2 .ensures ys n (E _ y) (E _ x))
+      clash-pair _ _ _ _ x (two k) (another k),
+      was-true (c .before .before .before .only .ensures) (c .before .before .if3 .left),
+      ← c .before .opposite .ensures ys n (E _ x) (E _ (two k)),
+      c .if4 .taken,
+    ) refl
+
+opposite-requires-2 : tie.Need-opposite-requires-2
+opposite-requires-2 c κs = search needs
+
+returns-5 : tie.Need-returns-5
+returns-5 c ys n E =
+    let k = c .before .before .before .before .before in
+    let x = one (k .before .before .before .before) in
+    rw (
+      clash-pair _ _ _ _ x (two k) (another k),
+      was-true (c .before .before .before .before .only .ensures) (c .before .before .before .if3 .left),
+      ← c .before .before .opposite .ensures ys n (E _ x) (E _ (two k)),
+      c .before .if4 .left,
+    ) (c .opposite2 .ensures ys n (E _ (two k)) (E _ x))
 
 pub clash-spec : {M : Type 1} → statement M
 clash-spec =
     tie.close
     (tie.spec
-    add-if1
     returns
-    mul-x
-    shared-slice-read-x
-    add-y
-    mul-y
-    shared-slice-read-y
-    opposite-requires
+    mul-key-of
+    shared-slice-read-key-of
+    key-of-requires
+    other-member-requires
     returns-2
+    mul-key-of-2
+    shared-slice-read-key-of-2
+    key-of-requires-2
+    only-requires
+    returns-3
+    opposite-requires
+    returns-4
     opposite-requires-2
-    returns-3)
+    returns-5)

@@ -6,45 +6,50 @@ use borrow.Author.Needs.{needs}
 use Rattle.verdict.specs.Tests.{each}
 use Rattle.sequents.specs.Part.{part, part-all, part-member}
 use Rattle.sequents.specs.CodeSet.{Holds, each-before, each-end}
-use Rattle.sequents.specs.Placed.{inFocus}
+use Rattle.sequents.specs.Keys.{inFocus}
 use Rattle.sequents.proofs.sets.put_claim.Statement.{statement}
 use Rattle.sequents.proofs.sets.put_claim.Tie as tie
 
 abbrev Inv-loop : tie.InvT-loop
-Inv-loop set₀ members count i₀ set i = (i ≤ count) × Holds set (each inFocus (part members i count))
+Inv-loop set₀ canon members count i₀ set i = (i ≤ count) × Holds set (each (inFocus canon) (part members i count))
 
 abbrev μ-loop : tie.MeasureT-loop
-μ-loop set₀ members count i₀ set i = i
+μ-loop set₀ canon members count i₀ set i = i
 
 loop-holds : tie.Need-loop-holds Inv-loop μ-loop
-loop-holds c = (search needs, each-end inFocus (c .args .members .now) (c .args .count) (c .pre .1))
+loop-holds c = (search needs, each-end (inFocus (c .args .canon .now)) (c .args .members .now) (c .args .count) (c .pre .2))
 
 sub-i : tie.Need-sub-i Inv-loop μ-loop
 sub-i c = search needs
 
-mul-code-of : tie.Need-mul-code-of Inv-loop μ-loop
-mul-code-of c = search needs
+mul-wide : tie.Need-mul-wide Inv-loop μ-loop
+mul-wide c = search needs
 
-element-copy-out-code-of : tie.Need-element-copy-out-code-of Inv-loop μ-loop
-element-copy-out-code-of c = search needs
+element-copy-out-wide : tie.Need-element-copy-out-wide Inv-loop μ-loop
+element-copy-out-wide c = search needs
 
-code-of-requires : tie.Need-code-of-requires Inv-loop μ-loop
-code-of-requires c κs =
-    let s = c .before .before .before .before in
-    (s .pre .0 .small _ (rw part-all at (part-member (s .args .members .now) 0 (s .args .count) (c .before .before .before .loop .i - 1) zero-le (omega arith) (s .pre .0 .long))), search needs)
+wide-requires : tie.Need-wide-requires Inv-loop μ-loop
+wide-requires c κs = search needs
+
+key-requires : tie.Need-key-requires Inv-loop μ-loop
+key-requires c κs =
+    let s = c .before .before .before .before .before in
+    let here = rw part-all at (part-member (s .args .members .now) 0 (s .args .count) (c .before .before .before .before .loop .i - 1) zero-le (omega arith) (s .pre .1 .long)) in
+    (s .pre .0, rw (c .wide .ensures) (s .pre .1 .inside _ here), search needs)
 
 put-requires : tie.Need-put-requires Inv-loop μ-loop
-put-requires c κs = c .code-of .ensures .0
+put-requires c κs = c .key .ensures .0
 
 loop-less : tie.Need-loop-less Inv-loop μ-loop
 loop-less c = search needs
 
 loop-again : tie.Need-loop-again Inv-loop μ-loop
 loop-again c =
-    let s = c .before .before .before .before .before .before in
-    let l = c .before .before .before .before .before .loop in (
+    let s = c .before .before .before .before .before .before .before in
+    let l = c .before .before .before .before .before .before .loop in
+    let here = rw (c .before .before .wide .ensures) at (c .before .key .ensures .1) in (
       search needs,
-      each-before inFocus (s .args .members .now) (l .i) (s .args .count) _ (omega arith) (omega arith) (s .pre .0 .long) (c .before .code-of .ensures .1)
+      each-before (inFocus (s .args .canon .now)) (s .args .members .now) (l .i) (s .args .count) _ (omega arith) (omega arith) (s .pre .1 .long) here
           (c .put .ensures _ (l .inv .1)),
     )
 
@@ -61,9 +66,10 @@ put-claim-spec =
     μ-loop
     loop-holds
     sub-i
-    mul-code-of
-    element-copy-out-code-of
-    code-of-requires
+    mul-wide
+    element-copy-out-wide
+    wide-requires
+    key-requires
     put-requires
     loop-less
     loop-again

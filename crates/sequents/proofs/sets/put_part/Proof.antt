@@ -1,48 +1,51 @@
--- `put_part` meets its contract. The invariant: the set holds the codes from i on.
+-- `put_part` meets its contract. The invariant: the set holds the members from i on.
 use mathlib.Core.Path.{_≡_}
 use Prim.Native.Nat.{_≤_, _-_}
 use native.Mathlib.Omega.{arith}
-use native.Mathlib.Nat.{le-refl}
 use borrow.Author.Needs.{needs}
-use Rattle.sequents.specs.CodeSet.{Holds}
-use Rattle.sequents.specs.Part.{part, part-none, part-before, part-member}
+use Rattle.sequents.specs.CodeSet.{Holds, each-before, each-end}
+use Rattle.sequents.specs.Keys.{keyOf, keysOf}
+use Rattle.sequents.specs.Part.{part, span-small}
 use Rattle.sequents.proofs.sets.put_part.Statement.{statement}
 use Rattle.sequents.proofs.sets.put_part.Tie as tie
 
 abbrev Inv-loop : tie.InvT-loop
-Inv-loop set₀ codes from to i₀ set i = (from ≤ i) × (i ≤ to) × Holds set (part codes i to)
+Inv-loop set₀ canon codes from to i₀ set i = (from ≤ i) × (i ≤ to) × Holds set (keysOf canon (part codes i to))
 
 abbrev μ-loop : tie.MeasureT-loop
-μ-loop set₀ codes from to i₀ set i = i - from
+μ-loop set₀ canon codes from to i₀ set i = i - from
 
 loop-holds : tie.Need-loop-holds Inv-loop μ-loop
-loop-holds c = (search needs, search needs, rw (part-none _ _ _ (le-refl _)) (c .before .pre .1))
+loop-holds c = (search needs, search needs, each-end (keyOf (c .before .args .canon .now)) (c .before .args .codes .now) (c .before .args .to) (c .before .pre .2))
 
 sub-i : tie.Need-sub-i Inv-loop μ-loop
 sub-i c = search needs
 
-mul-put : tie.Need-mul-put Inv-loop μ-loop
-mul-put c = search needs
+mul-key-of : tie.Need-mul-key-of Inv-loop μ-loop
+mul-key-of c = search needs
 
-shared-slice-read-put : tie.Need-shared-slice-read-put Inv-loop μ-loop
-shared-slice-read-put c = search needs
+shared-slice-read-key-of : tie.Need-shared-slice-read-key-of Inv-loop μ-loop
+shared-slice-read-key-of c = search needs
+
+key-of-requires : tie.Need-key-of-requires Inv-loop μ-loop
+key-of-requires c κs =
+    let s = c .before .before .before .before .before in
+    (s .pre .0, span-small (s .pre .1) (c .before .before .before .loop .i - 1) (omega arith) (omega arith))
 
 put-requires : tie.Need-put-requires Inv-loop μ-loop
-put-requires c κs =
-    let a = c .before .before .before .before .before .args in
-    c .before .before .before .before .before .pre .0 .small _ (part-member (a .codes .now) (a .from) (a .to) (c .before .before .before .loop .i - 1) (omega arith) (omega arith) (search needs))
+put-requires c κs = c .key-of .ensures .0
 
 loop-less : tie.Need-loop-less Inv-loop μ-loop
 loop-less c = search needs
 
 loop-again : tie.Need-loop-again Inv-loop μ-loop
 loop-again c =
-    let a = c .before .before .before .before .before .before .args in
-    let l = c .before .before .before .before .loop in (
+    let s = c .before .before .before .before .before .before .before in
+    let l = c .before .before .before .before .before .loop in (
       search needs,
       search needs,
-      rw (part-before (a .codes .now) (l .i) (a .to) (omega arith) (omega arith) (search needs))
-          (c .put .ensures (part (a .codes .now) (l .i) (a .to)) (l .inv .2)),
+      each-before (keyOf (s .args .canon .now)) (s .args .codes .now) (l .i) (s .args .to) _ (omega arith) (omega arith) (s .pre .1 .long) (c .before .key-of .ensures .1)
+          (c .put .ensures _ (l .inv .2)),
     )
 
 returns : tie.Need-returns Inv-loop μ-loop
@@ -58,8 +61,9 @@ put-part-spec =
     μ-loop
     loop-holds
     sub-i
-    mul-put
-    shared-slice-read-put
+    mul-key-of
+    shared-slice-read-key-of
+    key-of-requires
     put-requires
     loop-less
     loop-again

@@ -27,7 +27,7 @@ wide-requires-2 c κs = search needs
 put-part-requires : tie.Need-put-part-requires
 put-part-requires c κs =
     let p = c .before .before .before .before .before .before .before .pre in
-    rw (c .before .before .wide .ensures, c .wide2 .ensures) (p .0 .span, p .1)
+    rw (c .before .before .wide .ensures, c .wide2 .ensures) (p .0, p .1 .span, p .2)
 
 returns : tie.Need-returns
 returns c = rw (c .before .before .before .wide .ensures, c .before .wide2 .ensures) at (c .put-part .ensures)
