@@ -26,7 +26,7 @@ use Rattle.numbering.specs.Forms.{names}
 use Rattle.numbering.specs.Count.{tally, tally-local}
 use Rattle.numbering.specs.FilledCanon.{free-test}
 use Rattle.thinning.specs.Marked.{among}
-use Rattle.thinning.specs.Columns.{Prepared}
+use Rattle.thinning.specs.Columns.{IsTwo, Prepared}
 use Rattle.one_level.specs.Kinds.{kindOf, firstOf, secondOf, kind-back, first-back, second-back, kind-two}
 use Rattle.rounds.specs.Stand.{left, left-is, left-place, none-stand}
 use Rattle.rounds.specs.Rounds.{Fixed, Between}
@@ -44,7 +44,7 @@ marks-alike g g' h h' (suc m) i G H =
     go true z = rw (G i (omega arith)) (ap (λ (l : List Bool). g' i ∷ l) z)
     go false z = z
 
-module _ {ks xs ys : List ℕ} {n : ℕ} {fs ts us vs bs : List ℕ} (given : Numberable ks xs ys n) (P : Prepared xs ys n fs ts bs us vs n)
+module _ {ks xs ys : List ℕ} {n : ℕ} {fs ts us vs bs : List ℕ} (given : Numberable ks xs ys n) (P : Prepared ks xs ys n fs ts bs us vs n)
     (rows : RowsBelow (rowOf fs) (freeSet (tableOf ks xs ys n)) n) (room : 4 * n ≤ length fs) where
   abbrev T : Table
   T = tableOf ks xs ys n
@@ -74,6 +74,9 @@ module _ {ks xs ys : List ℕ} {n : ℕ} {fs ts us vs bs : List ℕ} (given : Nu
     of-kind : kindOf (two o a b) ≡ getD ks e 0
     of-kind = sym (ap kindOf plain) ∙ kind-back (getD xs e 0) (getD ys e 0) (getD ks e 0) (given .known e E)
 
+    is-two : IsTwo (getD ks e 0)
+    is-two = let (lo, hi) = kind-two o a b in (omega (arith, of-kind), omega (arith, of-kind))
+
     a-is : a ≡ getD xs e 0
     a-is =
         let (lo, hi) = kind-two o a b in
@@ -88,13 +91,13 @@ module _ {ks xs ys : List ℕ} {n : ℕ} {fs ts us vs bs : List ℕ} (given : Nu
     firsts =
         let l = operand-below T (given .wf) e a q (inl refl) in
         subst (λ (m : List Bool). Bits (rowOf us e) m)
-        (ap (λ (m : ℕ). among (rowOf fs e) (rowOf fs m) n) (sym a-is) ∙ in-rows a e (omega arith) E) (P .firsts e E (omega (arith, a-is)))
+        (ap (λ (m : ℕ). among (rowOf fs e) (rowOf fs m) n) (sym a-is) ∙ in-rows a e (omega arith) E) (P .firsts e E is-two (omega (arith, a-is)))
 
     seconds : Bits (rowOf vs e) (marks (p b) (names T p e))
     seconds =
         let l = operand-below T (given .wf) e b q (inr refl) in
         subst (λ (m : List Bool). Bits (rowOf vs e) m)
-        (ap (λ (m : ℕ). among (rowOf fs e) (rowOf fs m) n) (sym b-is) ∙ in-rows b e (omega arith) E) (P .seconds e E (omega (arith, b-is)))
+        (ap (λ (m : ℕ). among (rowOf fs e) (rowOf fs m) n) (sym b-is) ∙ in-rows b e (omega arith) E) (P .seconds e E is-two (omega (arith, b-is)))
 
   fixed : Fixed ks xs ys n fs ts us vs
   fixed = record {

@@ -62,8 +62,19 @@ fn fill_numbers(
 {
     let mut totals = [0u16; 256];
     let mut bound = [0u16; 256];
+    let mut hints = [0u8; 512];
     fill_free_rows(kinds, a, b, count, free);
-    prepare_all(a, b, count, free, &mut totals, &mut bound, firsts, seconds);
+    prepare_all(
+        kinds,
+        a,
+        b,
+        count,
+        free,
+        &mut totals,
+        &mut bound,
+        firsts,
+        seconds,
+    );
     fill(
         kinds,
         a,
@@ -76,6 +87,7 @@ fn fill_numbers(
         &mut bound,
         numbers,
         marks,
+        &mut hints,
     );
 }
 

@@ -1,5 +1,6 @@
 // The rounds that fill the table of numbers. In the first every entry gets the number that it has with all its free names bound; then, for
 // each fixpoint from the highest down, every entry in which it is free gets that with one name fewer bound: the fixpoint is written out.
+// `hints` only guide the search, and nothing depends on them.
 ghost use mathlib.Core.Path.{_≡_};
 ghost use mathlib.Core.Bool.{_||_};
 ghost use Prim.Native.Nat.{_+_, _*_, _<_, _≤_};
@@ -29,6 +30,7 @@ fn place(
     bound: &mut [u16; 256],
     numbers: &mut [u8],
     marks: &mut [u64],
+    hints: &mut [u8; 512],
     e: usize,
 )
     requires { ⌜ (e < count) × (0 < getD (now bound) e 0) × (getD (now bound) e 0 ≤ count) × (8 * count ≤ length (now marks)) ⌝ }
@@ -48,6 +50,7 @@ fn place(
         bound,
         numbers,
         marks,
+        hints,
         k,
         e,
     );
@@ -79,6 +82,7 @@ fn visit(
     bound: &mut [u16; 256],
     numbers: &mut [u8],
     marks: &mut [u64],
+    hints: &mut [u8; 512],
     own: Names,
     q: usize,
     e: usize,
@@ -102,6 +106,7 @@ fn visit(
         bound,
         numbers,
         marks,
+        hints,
         e,
     );
 }
@@ -119,6 +124,7 @@ fn round(
     bound: &mut [u16; 256],
     numbers: &mut [u8],
     marks: &mut [u64],
+    hints: &mut [u8; 512],
     q: usize,
 )
     requires { ⌜ Between (now kinds) (now a) (now b) count (now free) (now totals) (now firsts) (now seconds)
@@ -141,6 +147,7 @@ fn round(
             bound,
             numbers,
             marks,
+            hints,
             own,
             q,
             e,
@@ -162,6 +169,7 @@ fn turn(
     bound: &mut [u16; 256],
     numbers: &mut [u8],
     marks: &mut [u64],
+    hints: &mut [u8; 512],
     q: usize,
 )
     requires { ⌜ Between (now kinds) (now a) (now b) count (now free) (now totals) (now firsts) (now seconds)
@@ -186,6 +194,7 @@ fn turn(
         bound,
         numbers,
         marks,
+        hints,
         q,
     );
 }
@@ -203,6 +212,7 @@ pub fn fill(
     bound: &mut [u16; 256],
     numbers: &mut [u8],
     marks: &mut [u64],
+    hints: &mut [u8; 512],
 )
     requires { ⌜ Between (now kinds) (now a) (now b) count (now free) (now totals) (now firsts) (now seconds)
         (now numbers) (now bound) (now marks) (count + 1) ⌝ }
@@ -224,6 +234,7 @@ pub fn fill(
             bound,
             numbers,
             marks,
+            hints,
             q,
         );
     }

@@ -47,22 +47,22 @@ pub record NameNumber (rs : List ℕ) (k x v : ℕ) : Type 0 where
 abbrev pub markIn : ℕ → ℕ → ℕ → ℕ → ℕ
 markIn k x n m =
     choose (ltb k Kind.LETTER) k
-    (choose (ltb k Kind.OR) ((k + x) % 512)
-    (choose (ltb Kind.AND k) ((k + n) % 512) ((k + n + 37 * m) % 512)))
+    (choose (ltb k Kind.OR) ((53 * k + x) % 512)
+    (choose (ltb Kind.AND k) ((53 * k + n) % 512) ((53 * k + n + 37 * m) % 512)))
 
 module _ (k x n m : ℕ) where
   pub mark-constant : k < Kind.LETTER → markIn k x n m ≡ k
   mark-constant h = rw (lt-ltb k Kind.LETTER h) refl
 
   module _ (h : Kind.LETTER ≤ k) where
-    pub mark-letter : k < Kind.OR → markIn k x n m ≡ (k + x) % 512
+    pub mark-letter : k < Kind.OR → markIn k x n m ≡ (53 * k + x) % 512
     mark-letter l = rw (le-ltb k Kind.LETTER h, lt-ltb k Kind.OR l) refl
 
     module _ (l : Kind.OR ≤ k) where
-      pub mark-one : Kind.AND < k → markIn k x n m ≡ (k + n) % 512
+      pub mark-one : Kind.AND < k → markIn k x n m ≡ (53 * k + n) % 512
       mark-one z = rw (le-ltb k Kind.LETTER h, le-ltb k Kind.OR l, lt-ltb Kind.AND k z) refl
 
-      pub mark-two : k ≤ Kind.AND → markIn k x n m ≡ (k + n + 37 * m) % 512
+      pub mark-two : k ≤ Kind.AND → markIn k x n m ≡ (53 * k + n + 37 * m) % 512
       mark-two z = rw (le-ltb k Kind.LETTER h, le-ltb k Kind.OR l, le-ltb Kind.AND k z) refl
 
 -- the mark of entry e, i and j names bound in its operands

@@ -1,5 +1,7 @@
 // The number for an entry with some names bound: that of an entry that is the same form, or a fresh one. Entries that are the same form have
 // the same mark, one of 512 for each number of bound names, so where that mark does not stand yet there is none, and nothing is searched.
+// Where it stands, the last entry that had that mark, with whatever number of names bound, is tried before all others are: a twin is mostly
+// found there.
 ghost use mathlib.Core.Path.{_≡_};
 ghost use mathlib.Core.Bool.{_||_};
 ghost use Prim.Native.Nat.{ℕ, _+_, _*_, _<_, _≤_};
@@ -96,7 +98,7 @@ fn find(
     count
 }
 
-// The number of the first such entry, or e, which is a fresh one.
+// The number of an entry that is the same form, the one guessed or else the first, or e, which is a fresh one.
 fn search(
     kinds: &[u8; 256],
     a: &[u16; 256],
@@ -111,6 +113,7 @@ fn search(
     i: usize,
     j: usize,
     e: usize,
+    guess: usize,
 ) -> u8
     requires { ⌜ (k < count) × (i < 65536) × (j < 65536) × (e < count) ⌝ }
     requires { ⌜ Room count (now totals) (now firsts) (now seconds) (now bound) (now numbers) ⌝ }
@@ -118,6 +121,26 @@ fn search(
         (now (firsts .entry)) (now (seconds .entry)) (now (bound .entry)) (now (numbers .entry)) k i j e)
         (cell (now (numbers .entry)) k) e r ⌝ }
 {
+    if guess < count {
+        if candidate(
+            kinds,
+            a,
+            b,
+            count,
+            totals,
+            firsts,
+            seconds,
+            bound,
+            numbers,
+            k,
+            i,
+            j,
+            e,
+            guess,
+        ) {
+            return numbers[256 * k + guess];
+        }
+    }
     let f = find(
         kinds,
         a,
@@ -149,7 +172,8 @@ fn name_number(numbers: &[u8], k: usize, x: u16) -> u8
     255
 }
 
-// The mark of an entry of the kind and first field x, whose operands have the numbers. It goes by what `fit` compares, and by no more.
+// The mark of an entry of the kind and first field x, whose operands have the numbers. It goes by what `fit` compares, and by no more. The kind
+// counts 53 times, so that entries of different kinds seldom share a mark.
 fn mark_in(kind: u8, x: u16, first: u8, second: u8) -> usize
     ensures { λ r. ⌜ (r ≡ markIn kind x first second) × (r < 512) ⌝ }
 {
@@ -157,9 +181,9 @@ fn mark_in(kind: u8, x: u16, first: u8, second: u8) -> usize
         return kind as usize;
     }
     if kind < Kind::OR {
-        return (kind as usize + as_index(x)) % 512;
+        return (53 * kind as usize + as_index(x)) % 512;
     }
-    let left = kind as usize + first as usize;
+    let left = 53 * kind as usize + first as usize;
     if Kind::AND < kind {
         return left % 512;
     }
@@ -204,7 +228,15 @@ fn mark(marks: &mut [u64], x: usize)
     marks[i] = marks[i] | (1u64 << (x % 64));
 }
 
-// The number for entry e with k names bound, where its operands' numbers stand. Its mark stands afterwards.
+// The entry that a hint names. A parameter is known to be a byte; of what stands in the table that would have to be asked.
+fn as_entry(hint: u8) -> usize
+    ensures { λ r. ⌜ r ≡ hint ⌝ }
+{
+    hint as usize
+}
+
+// The number for entry e with k names bound, where its operands' numbers stand. Its mark stands afterwards. `hints` has for each mark the last
+// entry that had it, with whatever number of names bound: a guess to be tried first, of which nothing is asked or promised.
 pub fn choose(
     kinds: &[u8; 256],
     a: &[u16; 256],
@@ -216,6 +248,7 @@ pub fn choose(
     bound: &[u16; 256],
     numbers: &[u8],
     marks: &mut [u64],
+    hints: &mut [u8; 512],
     k: usize,
     e: usize,
 ) -> u8
@@ -229,9 +262,12 @@ pub fn choose(
     }
     let i = at(bound, a[e]);
     let j = at(bound, b[e]);
-    let place = 512 * k + mark_of(kinds, a, b, numbers, i, j, e);
+    let own = mark_of(kinds, a, b, numbers, i, j, e);
+    let place = 512 * k + own;
     let seen = marked(marks, place);
     mark(marks, place);
+    let guess = as_entry(hints[own]);
+    hints[own] = e as u8;
     if !seen {
         return e as u8;
     }
@@ -249,5 +285,6 @@ pub fn choose(
         i,
         j,
         e,
+        guess,
     )
 }

@@ -74,7 +74,7 @@ module _ (own inner : Names) where
       ap (marks (holds inner)) (only-split (holds own) x 1 0 (suc x) x (omega arith) (omega arith))
       ∙ append-marks (holds inner) (only (holds own) (range 0 x)) (only (holds own) (range x 1))
 
-  among-length : (x : ℕ) → length (among own inner x) ≡ tally (holds own) x
+  pub among-length : (x : ℕ) → length (among own inner x) ≡ tally (holds own) x
   among-length x = length-marks (holds inner) (only (holds own) (range 0 x)) ∙ length-tally (holds own) x
 
   none-passed : (s : Passed) → s .size ≡ 0 → Marks (s .marks) (λ n. false) → Thinned own inner 0 s

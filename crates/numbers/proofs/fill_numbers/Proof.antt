@@ -19,12 +19,12 @@ prepare-all-requires : tie.Need-prepare-all-requires
 prepare-all-requires c κs =
     let filled = c .before .before .before .before .before .before in
     let given = start filled .pre in
-    let none = prepared-none _ _ _ _ _ _ _ _ refl refl (given .1 .firsts) (given .1 .seconds) in
+    let none = prepared-none _ _ _ _ _ _ _ _ _ refl refl (given .1 .firsts) (given .1 .seconds) in
     ((given .0 .small, omega (arith, given .1 .free, filled .free .given)), none)
 
 fill-requires : tie.Need-fill-requires
 fill-requires c κs =
-    let prepared = c .before .before .before .before .before .before .before .before .before .before .before in
+    let prepared = c .before .before .before .before .before .before .before .before .before .before .before .before in
     let filled = prepared .before .before .before .before .before .before .before in
     let given = start filled .pre in
     begins (given .0) (prepared .prepare-all .ensures) (filled .before .fill-free-rows .ensures)

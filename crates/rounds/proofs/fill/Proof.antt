@@ -8,15 +8,15 @@ use Rattle.rounds.proofs.fill.Statement.{statement}
 use Rattle.rounds.proofs.fill.Tie as tie
 
 abbrev Inv-loop : tie.InvT-loop
-Inv-loop kinds a b count free totals firsts seconds bound₀ numbers₀ marks₀ q₀ bound numbers marks q =
+Inv-loop kinds a b count free totals firsts seconds bound₀ numbers₀ marks₀ hints₀ q₀ bound numbers marks hints q =
     (length numbers ≡ length numbers₀) × (length marks ≡ length marks₀) × Between kinds a b count free totals firsts seconds numbers bound marks q
 
 abbrev μ-loop : tie.MeasureT-loop
-μ-loop kinds a b count free totals firsts seconds bound₀ numbers₀ marks₀ q₀ bound numbers marks q = q
+μ-loop kinds a b count free totals firsts seconds bound₀ numbers₀ marks₀ hints₀ q₀ bound numbers marks hints q = q
 
 -- the turn that a round has been made in
 abbrev made : tie.After-slice-known4 Inv-loop μ-loop → tie.In-loop Inv-loop μ-loop
-made c = c .before .before .before .before .before .before .before .before
+made c = c .before .before .before .before .before .before .before .before .before
 
 add-q : tie.Need-add-q Inv-loop μ-loop
 add-q c = record { fits = omega (arith, c .before .before .before .before .before .pre .stands .room .small) }
@@ -29,7 +29,7 @@ sub-q c = omega (arith, c .loop-test .taken)
 
 turn-requires : tie.Need-turn-requires Inv-loop μ-loop
 turn-requires c κs =
-    let now = c .before .before .before in
+    let now = c .before .before .before .before in
     let head = now .before .loop in
     let same : head .q ≡ head .q - 1 + 1 = omega (arith, now .loop-test .taken) in
     rw same at (head .inv .2)

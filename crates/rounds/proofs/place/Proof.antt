@@ -48,7 +48,7 @@ same-length-2 c = search needs
 returns : tie.Need-returns
 returns c =
     let chose = c .before .before in
-    let index = chose .before .before .before .before in
+    let index = chose .before .before .before .before .before in
     let given = index .before .before .before .before .before .before .pre in
     record {
       k = index .as-index .result - 1;

@@ -8,15 +8,15 @@ use Rattle.rounds.proofs.round.Statement.{statement}
 use Rattle.rounds.proofs.round.Tie as tie
 
 abbrev Inv-loop : tie.InvT-loop
-Inv-loop kinds a b count free totals firsts seconds bound₀ numbers₀ marks₀ q own e₀ bound numbers marks e =
+Inv-loop kinds a b count free totals firsts seconds bound₀ numbers₀ marks₀ hints₀ q own e₀ bound numbers marks hints e =
     (length numbers ≡ length numbers₀) × (length marks ≡ length marks₀) × Round kinds a b count free totals firsts seconds numbers bound marks q e
 
 abbrev μ-loop : tie.MeasureT-loop
-μ-loop kinds a b count free totals firsts seconds bound₀ numbers₀ marks₀ q own e₀ bound numbers marks e = q - e
+μ-loop kinds a b count free totals firsts seconds bound₀ numbers₀ marks₀ hints₀ q own e₀ bound numbers marks hints e = q - e
 
 -- the turn that an entry has been visited in
 abbrev turn : tie.After-slice-known4 Inv-loop μ-loop → tie.In-loop Inv-loop μ-loop
-turn c = c .before .before .before .before .before .before .before .before
+turn c = c .before .before .before .before .before .before .before .before .before
 
 only-requires : tie.Need-only-requires Inv-loop μ-loop
 only-requires c κs = tt
@@ -26,7 +26,7 @@ loop-holds c = (refl, refl, round-begins _ (c .before .before .before .before .b
 
 visit-requires : tie.Need-visit-requires Inv-loop μ-loop
 visit-requires c κs =
-    let now = c .before .before .before in
+    let now = c .before .before .before .before in
     ((now .loop-test .taken, now .before .before .only .ensures), now .before .loop .inv .2)
 
 add-e : tie.Need-add-e Inv-loop μ-loop

@@ -42,7 +42,7 @@ returns c =
 
 place-requires : tie.Need-place-requires
 place-requires c κs =
-    let more = c .before .before .before in
+    let more = c .before .before .before .before in
     let given = start (more .before) .pre in
     let room = given .1 .stands in
     let level = here (given .1) (given .0 .0) (now-due more) in
@@ -58,7 +58,7 @@ same-length-2 c = search needs
 returns-2 : tie.Need-returns-2
 returns-2 c =
     let placed = c .before .before .before .before in
-    let more = placed .before .before .before .before in
+    let more = placed .before .before .before .before .before in
     let given = start (more .before) .pre in
     round-places (given .1) (given .0 .0) (now-due more) (placed .place .ensures)
 

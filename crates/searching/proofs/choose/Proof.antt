@@ -59,11 +59,11 @@ element-copy-out-at-2 c = search needs
 at-requires-2 : tie.Need-at-requires-2
 at-requires-2 c κs = search needs
 
-mul-place : tie.Need-mul-place
-mul-place c = search needs
-
 mark-of-requires : tie.Need-mark-of-requires
 mark-of-requires c κs = search needs
+
+mul-place : tie.Need-mul-place
+mul-place c = search needs
 
 add-place : tie.Need-add-place
 add-place c = search needs
@@ -74,6 +74,18 @@ marked-requires c κs = search needs
 mark-requires : tie.Need-mark-requires
 mark-requires c κs = search needs
 
+element-copy-out-as-entry : tie.Need-element-copy-out-as-entry
+element-copy-out-as-entry c = search needs
+
+as-entry-requires : tie.Need-as-entry-requires
+as-entry-requires c κs = search needs
+
+cast-hints : tie.Need-cast-hints
+cast-hints c = search needs
+
+element-write-hints : tie.Need-element-write-hints
+element-write-hints c = search needs
+
 cast-result : tie.Need-cast-result
 cast-result c = search needs
 
@@ -82,7 +94,7 @@ same-length c = search needs
 
 returns-2 : tie.Need-returns-2
 returns-2 c =
-    let now = c .before in
+    let now = c .before .before .before in
     chosen-unseen (now .before .marks .given) (formula now .if1 .left) (first now .at .ensures .0) (second now .at2 .ensures .0)
     (told now .mark-of .ensures .0) (set now .mark .ensures) (sym (seen now .marked .ensures) ∙ not-true _ (c .if2 .taken)) refl
 
@@ -94,7 +106,7 @@ same-length-2 c = search needs
 
 returns-3 : tie.Need-returns-3
 returns-3 c =
-    let now = c .before .before in
+    let now = c .before .before .before .before in
     chosen-searched (now .before .marks .given) (formula now .if1 .left) (first now .at .ensures .0) (second now .at2 .ensures .0)
     (told now .mark-of .ensures .0) (set now .mark .ensures) (c .search .ensures)
 
@@ -113,11 +125,15 @@ choose-spec =
     mul-at-2
     element-copy-out-at-2
     at-requires-2
-    mul-place
     mark-of-requires
+    mul-place
     add-place
     marked-requires
     mark-requires
+    element-copy-out-as-entry
+    as-entry-requires
+    cast-hints
+    element-write-hints
     cast-result
     same-length
     returns-2

@@ -8,6 +8,9 @@ use Rattle.searching.proofs.mark_in.Tie as tie
 returns : tie.Need-returns
 returns c = (sym (mark-constant _ _ _ _ (c .if1 .taken)), omega (arith, c .if1 .taken))
 
+mul-result : tie.Need-mul-result
+mul-result c = search needs
+
 as-index-requires : tie.Need-as-index-requires
 as-index-requires c κs = search needs
 
@@ -17,14 +20,17 @@ add-result c = search needs
 returns-2 : tie.Need-returns-2
 returns-2 c = (rw (c .as-index .ensures .0) (sym (mark-letter _ _ _ _ (c .before .before .if1 .left) (c .before .if2 .taken))), omega arith)
 
+mul-left : tie.Need-mul-left
+mul-left c = search needs
+
 add-left : tie.Need-add-left
 add-left c = search needs
 
 returns-3 : tie.Need-returns-3
 returns-3 c = (sym (mark-one _ _ _ _ (c .before .before .if1 .left) (c .before .if2 .left) (c .if3 .taken)), omega arith)
 
-mul-result : tie.Need-mul-result
-mul-result c = search needs
+mul-result-2 : tie.Need-mul-result-2
+mul-result-2 c = search needs
 
 add-result-2 : tie.Need-add-result-2
 add-result-2 c = search needs
@@ -37,11 +43,13 @@ mark-in-spec =
     tie.close
     (tie.spec
     returns
+    mul-result
     as-index-requires
     add-result
     returns-2
+    mul-left
     add-left
     returns-3
-    mul-result
+    mul-result-2
     add-result-2
     returns-4)

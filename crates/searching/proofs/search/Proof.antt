@@ -5,8 +5,8 @@ use borrow.Author.Needs.{needs}
 use Rattle.searching.proofs.search.Statement.{statement}
 use Rattle.searching.proofs.search.Tie as tie
 
-find-requires : tie.Need-find-requires
-find-requires c κs = search needs
+candidate-requires : tie.Need-candidate-requires
+candidate-requires c κs = search needs
 
 mul-result : tie.Need-mul-result
 mul-result c = search needs
@@ -18,24 +18,47 @@ shared-slice-read-result : tie.Need-shared-slice-read-result
 shared-slice-read-result c = search needs
 
 returns : tie.Need-returns
-returns c = inl (_, c .before .if1 .taken, c .before .before .find .ensures .is-one (c .before .if1 .taken), refl)
+returns c =
+    let tried = c .before in
+    let guessed = tried .before .before in
+    inl (_, guessed .if1 .taken, tried .before .candidate .ensures .says (tried .if2 .taken), refl)
+
+find-requires : tie.Need-find-requires
+find-requires c κs = search needs
+
+mul-result-2 : tie.Need-mul-result-2
+mul-result-2 c = search needs
+
+add-result-2 : tie.Need-add-result-2
+add-result-2 c = search needs
+
+shared-slice-read-result-2 : tie.Need-shared-slice-read-result-2
+shared-slice-read-result-2 c = search needs
+
+returns-2 : tie.Need-returns-2
+returns-2 c = inl (_, c .before .if3 .taken, c .before .before .find .ensures .is-one (c .before .if3 .taken), refl)
 
 cast-result : tie.Need-cast-result
 cast-result c = search needs
 
-returns-2 : tie.Need-returns-2
-returns-2 c =
+returns-3 : tie.Need-returns-3
+returns-3 c =
     let found = c .before .find .ensures in
-    inr (λ f h. found .none-before f (omega (arith, found .within, c .if1 .left)), refl)
+    inr (λ f h. found .none-before f (omega (arith, found .within, c .if3 .left)), refl)
 
 pub search-spec : {M : Type 1} → statement M
 search-spec =
     tie.close
     (tie.spec
-    find-requires
+    candidate-requires
     mul-result
     add-result
     shared-slice-read-result
     returns
+    find-requires
+    mul-result-2
+    add-result-2
+    shared-slice-read-result-2
+    returns-2
     cast-result
-    returns-2)
+    returns-3)

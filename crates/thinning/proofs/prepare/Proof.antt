@@ -8,41 +8,23 @@ use borrow.Author.Needs.{needs}
 use Rattle.thinning.proofs.prepare.Statement.{statement}
 use Rattle.thinning.proofs.prepare.Tie as tie
 
--- where the names of both operands are marked: what was given, the row of free names read, the first operand's marks
-module _ (c : tie.After-thin-operand2) where
-  abbrev given : tie.Start
-  given = c .before .before .before .before .before .before .before .before
-
+-- where the names are counted: what was given, and the row of free names read
+module _ (c : tie.After-size-of) where
   abbrev own : tie.After-row
-  own = c .before .before .before .before
+  own = c .before
 
-  abbrev left : tie.After-thin-operand
-  left = c .before .before
+  abbrev given : tie.Start
+  given = own .before .before .before .before
 
   -- no more names than numbers
-  small : left .thin-operand .result .size ≤ 256
-  small = omega (arith, left .thin-operand .ensures .0, tally-bound (holds (own .row .result)) (given .args .count), given .pre .0 .0)
+  small : c .size-of .result ≤ 256
+  small = omega (arith, c .size-of .ensures, tally-bound (holds (own .row .result)) (given .args .count), given .pre .0 .0)
 
 row-requires : tie.Need-row-requires
 row-requires c κs = search needs
 
-mul-thin-operand : tie.Need-mul-thin-operand
-mul-thin-operand c = search needs
-
-element-copy-out-thin-operand : tie.Need-element-copy-out-thin-operand
-element-copy-out-thin-operand c = search needs
-
-thin-operand-requires : tie.Need-thin-operand-requires
-thin-operand-requires c κs = search needs
-
-mul-thin-operand-2 : tie.Need-mul-thin-operand-2
-mul-thin-operand-2 c = search needs
-
-element-copy-out-thin-operand-2 : tie.Need-element-copy-out-thin-operand-2
-element-copy-out-thin-operand-2 c = search needs
-
-thin-operand-requires-2 : tie.Need-thin-operand-requires-2
-thin-operand-requires-2 c κs = search needs
+size-of-requires : tie.Need-size-of-requires
+size-of-requires c κs = search needs
 
 cast-totals : tie.Need-cast-totals
 cast-totals c = record { fits = omega (arith, small c) }
@@ -65,11 +47,23 @@ mul-bound c = search needs
 element-write-bound : tie.Need-element-write-bound
 element-write-bound c = search needs
 
-put-row-requires : tie.Need-put-row-requires
-put-row-requires c κs = search needs
+element-copy-out-put-operands : tie.Need-element-copy-out-put-operands
+element-copy-out-put-operands c = search needs
 
-put-row-requires-2 : tie.Need-put-row-requires-2
-put-row-requires-2 c κs = search needs
+mul-put-operands : tie.Need-mul-put-operands
+mul-put-operands c = search needs
+
+element-copy-out-put-operands-2 : tie.Need-element-copy-out-put-operands-2
+element-copy-out-put-operands-2 c = search needs
+
+mul-put-operands-2 : tie.Need-mul-put-operands-2
+mul-put-operands-2 c = search needs
+
+element-copy-out-put-operands-3 : tie.Need-element-copy-out-put-operands-3
+element-copy-out-put-operands-3 c = search needs
+
+put-operands-requires : tie.Need-put-operands-requires
+put-operands-requires c κs = search needs
 
 same-length : tie.Need-same-length
 same-length c = search needs
@@ -79,23 +73,18 @@ same-length-2 c = search needs
 
 returns : tie.Need-returns
 returns c =
-    let both = c .before .before .before .before .before .before .before .before in
-    let start = given both in
-    let one = left both .thin-operand .ensures in
-    rw (c .before .before .before .before .before .before .put-row .ensures, c .before .before .put-row2 .ensures)
-    (prepared-more (start .pre .0 .0) (start .pre .0 .1) (start .pre .1) (own both .row .ensures) (one .0) _ _ (one .1) (both .thin-operand2 .ensures .1))
+    let put = c .before .before .before .before in
+    let counted = put .before .before .before .before .before .before in
+    let start = given counted in
+    prepared-more (start .pre .0 .0) (start .pre .0 .1) (start .pre .1) (own counted .row .ensures) (counted .size-of .ensures)
+    (put .put-operands .ensures .0) (put .put-operands .ensures .1)
 
 pub prepare-spec : {M : Type 1} → statement M
 prepare-spec =
     tie.close
     (tie.spec
     row-requires
-    mul-thin-operand
-    element-copy-out-thin-operand
-    thin-operand-requires
-    mul-thin-operand-2
-    element-copy-out-thin-operand-2
-    thin-operand-requires-2
+    size-of-requires
     cast-totals
     mul-totals
     element-write-totals
@@ -103,8 +92,12 @@ prepare-spec =
     cast-bound
     mul-bound
     element-write-bound
-    put-row-requires
-    put-row-requires-2
+    element-copy-out-put-operands
+    mul-put-operands
+    element-copy-out-put-operands-2
+    mul-put-operands-2
+    element-copy-out-put-operands-3
+    put-operands-requires
     same-length
     same-length-2
     returns)

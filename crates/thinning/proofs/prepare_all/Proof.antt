@@ -8,12 +8,12 @@ use Rattle.thinning.proofs.prepare_all.Statement.{statement}
 use Rattle.thinning.proofs.prepare_all.Tie as tie
 
 abbrev Inv-loop : tie.InvT-loop
-Inv-loop a b count free totals₀ bound₀ firsts₀ seconds₀ e₀ totals bound firsts seconds e =
+Inv-loop kinds a b count free totals₀ bound₀ firsts₀ seconds₀ e₀ totals bound firsts seconds e =
     (e ≤ count) × (length firsts ≡ length firsts₀) × (length seconds ≡ length seconds₀)
-    × Prepared a b count free totals bound firsts seconds e
+    × Prepared kinds a b count free totals bound firsts seconds e
 
 abbrev μ-loop : tie.MeasureT-loop
-μ-loop a b count free totals₀ bound₀ firsts₀ seconds₀ e₀ totals bound firsts seconds e = count - e
+μ-loop kinds a b count free totals₀ bound₀ firsts₀ seconds₀ e₀ totals bound firsts seconds e = count - e
 
 abbrev start : tie.In-loop Inv-loop μ-loop → tie.Start Inv-loop μ-loop
 start c = c .before .before .before .before .before
