@@ -1,4 +1,4 @@
-// The test of each rule (refusal 37). Those of 2 to 9 are in the crate principal_rules, those of 0 and 1 in sequents.
+// The test of each rule (refusal 37). Those of 2 to 9 are in the crate principal_rules, those of 0 and 1 in axioms.
 ghost use mathlib.Core.Path.{_≡_};
 ghost use Prim.Native.Nat.{_<_};
 ghost use Rattle.formula.specs.Plain.{tableOf};
@@ -6,11 +6,11 @@ ghost use Rattle.formula.specs.PlainNodes.{proofOf};
 ghost use Rattle.calculus.specs.View.{plain};
 ghost use Rattle.calculus.specs.Judge.{step-kept};
 ghost use Rattle.principal_rules.specs.Judged.{Judged};
+use axioms::ax1_kept;
+use axioms::ax2_kept;
 use bits::wide;
 use formula::Rule;
 use principal_rules::principal_kept;
-use sequents::axioms::ax1_kept;
-use sequents::axioms::ax2_kept;
 use sequents::sets::same_sequent;
 
 // Whether node v keeps what it owes its children (refusal 37); a back leaf owes them nothing that it keeps.

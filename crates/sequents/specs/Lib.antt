@@ -5,4 +5,3 @@ pub mod Keys
 -- nodes as they stand in the lists, and the test of each rule over them
 pub mod Placed
 pub mod KeptLaws
-pub mod AxiomParts

@@ -1,4 +1,3 @@
 // Sequents as sets of members, and what a rule makes of them by a node's principal. What the rules ask is in the crate calculus.
-pub mod axioms; // axioms.rt: rules 0 and 1, which no child follows
 pub mod principal; // principal.rt: a principal's operands as members, and the side with one of them
 pub mod sets; // sets.rt: sequents as sets, and the root, refusal 36

@@ -1,6 +1,6 @@
 -- What has no two operands keeps the rows that stood there.
 use native.Mathlib.Omega.{arith}
-use Rattle.thinning.specs.Columns.{IsTwo, RowMade, row-left, row-for}
+use Rattle.thinning.specs.Columns.{row-left, row-for}
 use borrow.Author.Needs.{needs}
 use Rattle.thinning.proofs.put_operands.Statement.{statement}
 use Rattle.thinning.proofs.put_operands.Tie as tie

@@ -5,12 +5,12 @@ use Prim.Native.Nat.{_<_}
 use native.Mathlib.Omega.{arith}
 use borrow.Author.Needs.{needs}
 use Rattle.verdict.specs.Sets.{elements}
 use Rattle.sequents.specs.Keys.{keysOf}
 use Rattle.sequents.specs.Part.{part, span-small}
-use Rattle.sequents.specs.AxiomParts.{clash-alone, clash-pair, none-axiom, keys-none, key-member, other-within, other-none, other-key}
+use Rattle.axioms.specs.AxiomParts.{clash-alone, clash-pair, none-axiom, keys-none, key-member, other-within, other-none, other-key}
 use Rattle.sequents.specs.KeptLaws.{was-false, was-true}
-use Rattle.sequents.proofs.axioms.clash.Statement.{statement}
-use Rattle.sequents.proofs.axioms.clash.Tie as tie
+use Rattle.axioms.proofs.clash.Statement.{statement}
+use Rattle.axioms.proofs.clash.Tie as tie
 
 -- the first member, the other, and that it is another
 one : (c : tie.After-key-of) → let a = c .before .before .before .before .args in elements (keysOf (a .canon .now) (part (a .codes .now) (a .from) (a .to))) (c .key-of .result)

@@ -1,7 +1,7 @@
--- `ax2_kept` meets its contract, from what `truth` promises.
+-- `ax1_kept` meets its contract, from what `clash` promises.
 use borrow.Author.Needs.{needs}
-use Rattle.sequents.proofs.axioms.ax2_kept.Statement.{statement}
-use Rattle.sequents.proofs.axioms.ax2_kept.Tie as tie
+use Rattle.axioms.proofs.ax1_kept.Statement.{statement}
+use Rattle.axioms.proofs.ax1_kept.Tie as tie
 
 mul-wide : tie.Need-mul-wide
 mul-wide c = search needs
@@ -24,16 +24,16 @@ shared-slice-read-wide-2 c = search needs
 wide-requires-2 : tie.Need-wide-requires-2
 wide-requires-2 c κs = search needs
 
-truth-requires : tie.Need-truth-requires
-truth-requires c κs =
+clash-requires : tie.Need-clash-requires
+clash-requires c κs =
     let p = c .before .before .before .before .before .before .pre in
     rw (c .before .before .wide .ensures, c .wide2 .ensures) (p .0, p .1 .span)
 
 returns : tie.Need-returns
-returns c xs ys n E = rw (c .before .before .before .wide .ensures, c .before .wide2 .ensures) at (c .truth .ensures) xs ys n E
+returns c ys n E = rw (c .before .before .before .wide .ensures, c .before .wide2 .ensures) at (c .clash .ensures) ys n E
 
-pub ax2-kept-spec : {M : Type 1} → statement M
-ax2-kept-spec =
+pub ax1-kept-spec : {M : Type 1} → statement M
+ax1-kept-spec =
     tie.close
     (tie.spec
     mul-wide
@@ -43,5 +43,5 @@ ax2-kept-spec =
     mul-wide-2
     shared-slice-read-wide-2
     wide-requires-2
-    truth-requires
+    clash-requires
     returns)

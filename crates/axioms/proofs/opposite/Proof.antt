@@ -5,8 +5,8 @@ use borrow.Author.Needs.{needs}
 use Rattle.formula.specs.Plain.{tableOf-kind, tableOf-a}
 use Rattle.formula.specs.Codes.{entryOf}
 use Rattle.calculus.specs.Judge.{opposite as Opposite}
-use Rattle.sequents.proofs.axioms.opposite.Statement.{statement}
-use Rattle.sequents.proofs.axioms.opposite.Tie as tie
+use Rattle.axioms.proofs.opposite.Statement.{statement}
+use Rattle.axioms.proofs.opposite.Tie as tie
 
 entry-of-requires : tie.Need-entry-of-requires
 entry-of-requires c κs = search needs

@@ -5,11 +5,11 @@ use borrow.Author.Needs.{needs}
 use borrow.Author.Tests.{eq-eqb, ne-eqb}
 use Rattle.verdict.specs.Sets.{elements}
 use Rattle.formula.specs.Plain.{tableOf-kind}
 use Rattle.sequents.specs.Keys.{keysOf}
 use Rattle.sequents.specs.Part.{part, span-small}
-use Rattle.sequents.specs.AxiomParts.{truth-one, none-axiom, keys-none, key-member}
-use Rattle.sequents.proofs.axioms.truth.Statement.{statement}
-use Rattle.sequents.proofs.axioms.truth.Tie as tie
+use Rattle.axioms.specs.AxiomParts.{truth-one, none-axiom, keys-none, key-member}
+use Rattle.axioms.proofs.truth.Statement.{statement}
+use Rattle.axioms.proofs.truth.Tie as tie
 
 -- the first member is one of the members
 one : (c : tie.After-key-of) → let a = c .before .before .before .before .args in elements (keysOf (a .canon .now) (part (a .codes .now) (a .from) (a .to))) (c .key-of .result)

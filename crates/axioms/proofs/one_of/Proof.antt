@@ -2,8 +2,8 @@
 use mathlib.Core.Path.{refl}
 use borrow.Author.Tests.{eq-eqb, ne-eqb}
 use borrow.Author.Needs.{needs}
-use Rattle.sequents.proofs.axioms.one_of.Statement.{statement}
-use Rattle.sequents.proofs.axioms.one_of.Tie as tie
+use Rattle.axioms.proofs.one_of.Statement.{statement}
+use Rattle.axioms.proofs.one_of.Tie as tie
 
 returns : tie.Need-returns
 returns c = rw (eq-eqb _ _ (c .if1 .taken)) refl

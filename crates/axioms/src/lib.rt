@@ -1,4 +1,4 @@
-// Rules 0 and 1, the axioms.
+// Rules 0 and 1, the axioms, which no child follows.
 ghost use mathlib.Core.Path.{_≡_};
 ghost use mathlib.Core.List.{List};
 ghost use Prim.Native.Nat.{ℕ, _+_, _<_};
@@ -6,15 +6,15 @@ ghost use Rattle.verdict.specs.Tests.{all};
 ghost use Rattle.formula.specs.Plain.{tableOf};
 ghost use Rattle.formula.specs.Codes.{entryOf};
 ghost use Rattle.formula.specs.PlainNodes.{codesAt};
 ghost use Rattle.sequents.specs.Keys.{Narrow, keysOf};
-ghost use Rattle.sequents.specs.AxiomParts.{firstOther, oneOf};
+ghost use Rattle.axioms.specs.AxiomParts.{firstOther, oneOf};
 ghost use Rattle.sequents.specs.Placed.{Placed, Entries};
 ghost use Rattle.sequents.specs.Part.{part, Span};
 ghost use Rattle.calculus.specs.Judge.{opposite as Opposite, clash as Clash, truth as Truth};
-use super::sets::entry_of;
-use super::sets::key_of;
 use bits::wide;
 use formula::Kind;
+use sequents::sets::entry_of;
+use sequents::sets::key_of;
 
 // Whether one member is a letter and the other its negation.
 fn opposite(kinds: &[u8; 256], a: &[u16; 256], plain: u16, negated: u16) -> bool

@@ -4,12 +4,12 @@ use Prim.Native.Nat.{_≤_, _-_}
 use native.Mathlib.Omega.{arith}
 use borrow.Author.Needs.{needs}
 use Rattle.verdict.specs.Tests.{all}
 use Rattle.sequents.specs.Keys.{keysOf}
 use Rattle.sequents.specs.Part.{part, span-small}
-use Rattle.sequents.specs.AxiomParts.{oneOf, only-on, only-stop, only-end}
+use Rattle.axioms.specs.AxiomParts.{oneOf, only-on, only-stop, only-end}
 use Rattle.sequents.specs.KeptLaws.{was-false, was-true}
-use Rattle.sequents.proofs.axioms.only.Statement.{statement}
-use Rattle.sequents.proofs.axioms.only.Tie as tie
+use Rattle.axioms.proofs.only.Statement.{statement}
+use Rattle.axioms.proofs.only.Tie as tie
 
 abbrev Inv-loop : tie.InvT-loop
 Inv-loop canon codes from to x y i₀ i = (from ≤ i) × (i ≤ to) × (all (oneOf x y) (keysOf canon (part codes from to)) ≡ all (oneOf x y) (keysOf canon (part codes i to)))

@@ -3,11 +3,11 @@ use mathlib.Core.Path.{_≡_, sym, _∙_}
 use Prim.Native.Nat.{_≤_, _+_, _-_}
 use native.Mathlib.Omega.{arith}
 use borrow.Author.Needs.{needs}
 use Rattle.sequents.specs.Keys.{keysOf}
 use Rattle.sequents.specs.Part.{part, span-small}
-use Rattle.sequents.specs.AxiomParts.{firstOther, other-on, other-here, other-end}
-use Rattle.sequents.proofs.axioms.other_member.Statement.{statement}
-use Rattle.sequents.proofs.axioms.other_member.Tie as tie
+use Rattle.axioms.specs.AxiomParts.{firstOther, other-on, other-here, other-end}
+use Rattle.axioms.proofs.other_member.Statement.{statement}
+use Rattle.axioms.proofs.other_member.Tie as tie
 
 abbrev Inv-loop : tie.InvT-loop
 Inv-loop canon codes from to one i₀ i =
