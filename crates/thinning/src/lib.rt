@@ -91,7 +91,7 @@ fn has_all(inner: Names, own: Names) -> bool
     !meet(lacking, lacking)
 }
 
-// The number, or 0 if there is no such entry: what stands in an unused field is read too, and does not matter.
+// The number, or 0 if there is no such entry: that a field names one is not asked here.
 fn near(x: u16, count: usize) -> usize
     requires { ⌜ 0 < count ⌝ }
     ensures { λ r. ⌜ (r < count) × (x < count → r ≡ x) ⌝ }
