@@ -52,11 +52,36 @@ pub fn all() -> Vec<Numbering> {
         Numbering::of("32 names free in a chain", &crowd(32)),
         Numbering::of("64 names free in a chain", &crowd(64)),
         Numbering::of("80 names free in a chain", &crowd(80)),
+        Numbering::of("12 names, a chain of one mark", &one_mark(12)),
+        Numbering::of("32 names, a chain of one mark", &one_mark(32)),
         Numbering::of("256 letters", &letters),
         Numbering::of("or tower of 255", &tower(Kind::Or, 255)),
         Numbering::new("typical claim", TYPICAL_LIMIT, &once.0, &once.1),
         Numbering::new("typical claim twice", TYPICAL_LIMIT, &twice.0, &twice.1),
     ]
+}
+
+/// As `crowd`, with a chain of entries no two of which are alike and nearly all of
+/// which have the gate's one mark (`mark_in` of the crate searching), so that for
+/// each of them all others are gone through in vain: the worst found.
+fn one_mark(depth: u16) -> Vec<Entry> {
+    const MARK: u16 = 37;
+    let first = 256 - depth;
+    let lowest = 2 * depth - 2;
+    let mut entries = crowd(depth)[..=usize::from(lowest)].to_vec();
+    for at in lowest + 1..first {
+        let pairs = (lowest..at)
+            .rev()
+            .flat_map(|a| (lowest..at).map(move |b| (a, b)));
+        let fit = pairs
+            .flat_map(|(a, b)| [Kind::And, Kind::Or].map(|kind| Entry::new(kind, a, b)))
+            .filter(|entry| (53 * entry.kind as u16 + entry.a + 37 * entry.b) % 512 == MARK)
+            .find(|entry| !entries.contains(entry));
+        entries.push(fit.unwrap_or(Entry::new(Kind::Box, at - 1, 0)));
+    }
+    entries[usize::from(first) - 1] = Entry::new(Kind::Box, first - 2, 0);
+    entries.extend((first..256).map(|at| Entry::new(Kind::Nu, at - 1, 0)));
+    entries
 }
 
 /// The typical claim of so many pupils, each with entries of their own.
