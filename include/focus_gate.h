@@ -1,10 +1,10 @@
 /* The Focus proof gate for a loader written in C: link target/staticlib/libgate.a.
  *
- * An answer is 0 for done or accepted, else refusal x 65,536 + place; focus_take
- * and the two calls that write files answer otherwise. For every call: no pointer
- * is null, each leads to as many elements as its length says, and what the call
- * may write overlaps nothing else that it is lent. The gate keeps no pointer and
- * has no memory of its own. */
+ * An answer is 0 for done or accepted, else refusal x 65,536 + place; focus_take,
+ * focus_evaluate and the two calls that write files answer otherwise. For every
+ * call: no pointer is null, each leads to as many elements as its length says, and
+ * what the call may write overlaps nothing else that it is lent. The gate keeps no
+ * pointer and has no memory of its own. */
 #ifndef FOCUS_GATE_H
 #define FOCUS_GATE_H
 
@@ -24,6 +24,10 @@ extern "C" {
 /* Output slices of these lengths are long enough for every claim and every proof. */
 #define FOCUS_CLAIM_BYTES 1592
 #define FOCUS_PROOF_BYTES 58374
+
+/* No model that is evaluated is longer: what a longer one earns lies within these
+ * bytes and the first that follows. */
+#define FOCUS_MODEL_BYTES 67013
 
 /* The phases of a gate. Any other number reads as closed. */
 enum {
@@ -66,15 +70,21 @@ enum {
     FOCUS_MODEL_OPENING = 60, /* wrong or short opening (0) */
     FOCUS_MODEL_LENGTH = 61,  /* ends early (its length), or bytes follow (offset) */
     FOCUS_MODEL_COUNT = 62,   /* a count out of range (its offset) */
-    FOCUS_MODEL_MAP = 63,     /* map unfit, a zero mask or successor count (offset of the map) */
+    FOCUS_MODEL_MAP = 63,     /* map unfit, or a zero mask, action map or count (offset of the map) */
     FOCUS_MODEL_MEMBER = 64,  /* a successor not rising or out of range (its offset) */
 
-    FOCUS_OUTPUT_SHORT = 70   /* an output slice shorter than the file (0) */
+    FOCUS_OUTPUT_SHORT = 70,  /* an output slice shorter than the file (0) */
+    FOCUS_ACTION = 71         /* an action above 15, or a 0 written out in B (entry) */
 };
 
 /* The two parts of an answer that is not 0. */
 #define FOCUS_NUMBER(answer) ((uint32_t)(answer) >> 16)
 #define FOCUS_PLACE(answer) ((uint32_t)(answer) & 0xffff)
+
+/* The same of what focus_evaluate answered: a place in a model may need more than
+ * 16 bits. Kept in 32 bits, such an answer would lose its number. */
+#define FOCUS_EVALUATE_NUMBER(answer) ((uint32_t)((uint64_t)(answer) >> 32))
+#define FOCUS_EVALUATE_PLACE(answer) ((uint32_t)(answer))
 
 /* What focus_take answered: a tag, or a refusal whose parts FOCUS_NUMBER and
  * FOCUS_PLACE give. Every 32-bit tag is a tag, 0 too. */
@@ -90,7 +100,8 @@ typedef struct {
     uint32_t tag;
 } focus_gate;
 
-/* A decoded entry of a claim. A field that its kind does not have is 0. */
+/* A decoded entry of a claim. A field that its kind does not have is 0; b of a box
+ * or diamond is its action. */
 typedef struct {
     uint8_t kind;
     uint16_t a, b;
@@ -126,8 +137,9 @@ uint32_t focus_present(focus_gate *gate, uint32_t tag,
                        uint16_t *codes, size_t codes_len);
 
 /* Evaluates a claim in a model: 0, and word i has bit s where entry i is true at state s.
- * With 0 the entries are written too; beyond the last one, and else, nothing is written. */
-uint32_t focus_evaluate(const uint8_t *claim, size_t claim_len,
+ * With 0 the entries are written too; beyond the last one, and else, nothing is written.
+ * Else refusal x 2^32 + place, the claim's refusals too. */
+uint64_t focus_evaluate(const uint8_t *claim, size_t claim_len,
                         const uint8_t *model, size_t model_len,
                         focus_entry *entries, size_t entries_len,
                         uint64_t *words, size_t words_len);
@@ -138,9 +150,10 @@ uint32_t focus_check(const uint8_t *claim, size_t claim_len,
                      const uint8_t *proof, size_t proof_len);
 
 /* Writes the claim of the first entry_count entries and of all members to the start of out and
- * answers its length. Else 2^32 + refusal x 65,536 + place, and nothing is written: 1; 12 to 14 and
- * 20 to 23 as that claim would earn them; 70. A field that the entry's kind does not have must be 0,
- * else 13. Nothing is read beyond the counts, and nothing written beyond the file. */
+ * answers its length. Else 2^32 + refusal x 65,536 + place, and nothing is written: 1; 12 to 14, 20
+ * to 23 and 71 as that claim would earn them; 70. A field that the entry's kind does not have must
+ * be 0, else 13; action 0 is never written out. Nothing is read beyond the counts, and nothing
+ * written beyond the file. */
 uint64_t focus_write_claim(const focus_entry *entries, size_t entries_len, size_t entry_count,
                            const uint16_t *members, size_t members_len,
                            uint8_t *out, size_t out_len);

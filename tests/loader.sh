@@ -86,6 +86,17 @@ pair letter-unfocused
 granted 'focus left inside the loop' 7 "${files[@]}"
 pair twins
 granted 'one formula under two entry numbers' 7 "${files[@]}"
+pair slew
+granted 'a box and a diamond of one action' 7 "${files[@]}"
+pair slew-and-park
+denied 'a box and a diamond of two actions' 'refuse 37 at 0' "${files[@]}"
+
+# The box of `slew` is entry 2, its action byte 18.
+pair slew
+for action in '\0' '\20' '\377'; do
+    { head -c 18 "${files[0]}"; printf "$action"; tail -c +20 "${files[0]}"; } >"$scratch/unfit.bin"
+    denied "action $action" 'refuse 71 at 2' "$scratch/unfit.bin" "${files[1]}"
+done
 
 # Damaged copies of the good pair, each in one thing.
 pair nu-of-box
@@ -117,7 +128,29 @@ program=evaluate
 run 'mu of box on a circle' 0 $'entry 0, kind 10:\nentry 1, kind 7:\nentry 2, kind 8:' "$samples/mu-of-box/claim.bin" "$samples/evaluate/circle.bin"
 run 'nu of box on a circle' 0 $'entry 0, kind 10: 0\nentry 1, kind 7: 0\nentry 2, kind 9: 0' "$samples/nu-of-box/claim.bin" "$samples/evaluate/circle.bin"
 run 'mu of box on a dead end' 0 $'entry 0, kind 10: 0 1\nentry 1, kind 7: 0 1\nentry 2, kind 8: 0 1' "$samples/mu-of-box/claim.bin" "$samples/evaluate/dead-end.bin"
+run 'a box and a diamond of two actions on a mount' 0 $'entry 0, kind 2: 0 2\nentry 1, kind 3: 1\nentry 2, kind 7, action 1: 1 2\nentry 3, kind 6, action 2:' "$samples/slew-and-park/claim.bin" "$samples/evaluate/mount.bin"
+run 'actions that an old model does not have' 0 $'entry 0, kind 2:\nentry 1, kind 3: 0\nentry 2, kind 7, action 1: 0\nentry 3, kind 6, action 1:' "$samples/slew/claim.bin" "$samples/evaluate/circle.bin"
+run 'an unfit action in an evaluation' 1 'refuse 71 at 2' "$scratch/unfit.bin" "$samples/evaluate/mount.bin"
 run 'a proof in place of a model' 1 'refuse 60 at 0' "$samples/nu-of-box/claim.bin" "$samples/nu-of-box/proof.bin"
+
+# The longest model: 64 states, each with all letters, and all states its successors
+# by each action. A place beyond 65,535 is whole.
+longest() {
+    local list state
+    list=$(printf '\\x40'; printf '\\x%02x' {0..63})
+    state='\x03\xff\xff\xff\xff\xff\xff'$(for _ in {0..15}; do printf '%s' "$list"; done)
+    printf 'MDL2\x40'
+    for _ in {0..63}; do printf "$state"; done
+}
+longest >"$scratch/longest.bin"
+states=$(seq -s ' ' 0 63)
+lines="entry 0, kind 10: $states"$'\n'"entry 1, kind 7: $states"$'\n'"entry 2, kind 9: $states"
+run 'the longest model' 0 "$lines" "$samples/nu-of-box/claim.bin" "$scratch/longest.bin"
+{ cat "$scratch/longest.bin"; head -c 100000 /dev/zero; } >"$scratch/longer.bin"
+run 'a model longer than the buffer' 1 'refuse 61 at 67013' "$samples/nu-of-box/claim.bin" "$scratch/longer.bin"
+head -c 67012 "$scratch/longest.bin" >"$scratch/shorter.bin"
+run 'the longest model cut by a byte' 1 'refuse 61 at 67012' "$samples/nu-of-box/claim.bin" "$scratch/shorter.bin"
+
 run 'a missing model' 2 '' "$samples/nu-of-box/claim.bin" "$scratch/none.bin"
 
 # same NAME FILE SAMPLE: a file that was written is the sample's, byte by byte.

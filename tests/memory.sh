@@ -5,7 +5,10 @@ set -euo pipefail
 cd "$(dirname "$0")/.."
 
 archive=target/staticlib/libgate.a
-corpora=(tests/vectors/{base/eval,t01/write,base/check,t02/check,t03/check}.bin)
+vectors=tests/vectors
+corpora=(narrow $vectors/base/eval.bin evals $vectors/t04/eval.bin)
+for request in t01 t04; do corpora+=(writes $vectors/$request/write.bin); done
+for request in base t02 t03 t04; do corpora+=(checks $vectors/$request/check.bin); done
 if [ ! -f "$archive" ]; then
     echo "memory: $archive is not there: build it first" >&2
     exit 1

@@ -104,6 +104,8 @@ for claim in "$samples"/*/claim.bin; do
         loop-without-box) line='refuse 39 at 1' ;;
         letter-unfocused) line='accept' ;;
         twins) line='accept' ;;
+        slew) line='accept' ;;
+        slew-and-park) line='refuse 37 at 0' ;;
         *) line='(no line is written down for this sample)' ;;
     esac
     fresh "$sample"

@@ -3,7 +3,7 @@
 use crate::growth::Family;
 use gate_tests::hard;
 use reference::generate::{extremes, Rng};
-use reference::{draft, Entry, Kind};
+use reference::{draft, Entry, Kind, ACTIONS};
 
 const STATES: usize = 64;
 
@@ -32,9 +32,32 @@ pub fn all() -> Vec<Evaluation> {
     let (mixed_mu, mixed_nu) = (hard::mixed(Kind::Mu, 21), hard::mixed(Kind::Nu, 21));
     let in_a_row = hard::relay(Kind::Mu, 50, 0);
     let padded = hard::relay(Kind::Nu, 40, 50);
+    let one = typical_by(&[5]);
+    let all = typical_by(&ALL_ACTIONS);
     vec![
         typical("typical claim, random graph", &random),
         typical("typical claim, complete graph", &complete),
+        by("typical, 1 action, random graph", &one, &graphs(3, &[5])),
+        by(
+            "typical, 1 action, complete graph",
+            &one,
+            &graphs(STATES, &[5]),
+        ),
+        by(
+            "typical, 16 actions, random graphs",
+            &all,
+            &graphs(3, &ALL_ACTIONS),
+        ),
+        by(
+            "typical, 16 actions, complete",
+            &all,
+            &graphs(STATES, &ALL_ACTIONS),
+        ),
+        by(
+            "typical, 1 of 16 actions, complete",
+            &one,
+            &graphs(STATES, &ALL_ACTIONS),
+        ),
         Evaluation::new("or tower of 250, random graph", &tower, &random),
         Evaluation::new("80 nested mu, random graph", &nested, &random),
         Evaluation::new("80 nested mu, state by state", &nested, &descent),
@@ -118,25 +141,104 @@ fn typical(name: &str, model: &[u8]) -> Evaluation {
     }
 }
 
+const ALL_ACTIONS: [u16; ACTIONS] = [0, 1, 2, 3, 4, 5, 6, 7, 8, 9, 10, 11, 12, 13, 14, 15];
+
+type Claim = (Vec<Entry>, Vec<u16>);
+
+/// The typical claim with each of its steps by any of these actions: a box of all of
+/// them, a diamond of some.
+fn typical_by(actions: &[u16]) -> Claim {
+    // Where each entry's formula stands, names before their fixpoints.
+    let mut place: Vec<u16> = Vec::new();
+    let mut next = 0;
+    for (kind, ..) in TYPICAL {
+        next += match kind {
+            Kind::Diamond | Kind::Box => 2 * actions.len() as u16 - 1,
+            _ => 1,
+        };
+        place.push(next - 1);
+    }
+    let at = |entry: u16| place[usize::from(entry)];
+    let mut entries = Vec::new();
+    for (kind, a, b) in TYPICAL {
+        match kind {
+            Kind::Diamond => by_any(&mut entries, kind, Kind::Or, at(a), actions),
+            Kind::Box => by_any(&mut entries, kind, Kind::And, at(a), actions),
+            Kind::Or | Kind::And => entries.push(Entry::new(kind, at(a), at(b))),
+            Kind::Mu | Kind::Nu | Kind::Name => entries.push(Entry::new(kind, at(a), 0)),
+            _ => entries.push(Entry::new(kind, a, b)),
+        }
+    }
+    (entries, TYPICAL_MEMBERS.map(at).to_vec())
+}
+
+/// A step by each action, joined.
+fn by_any(entries: &mut Vec<Entry>, kind: Kind, join: Kind, operand: u16, actions: &[u16]) {
+    for (number, &action) in actions.iter().enumerate() {
+        let before = entries.len() as u16;
+        entries.push(Entry::new(kind, operand, action));
+        if number > 0 {
+            entries.push(Entry::new(join, before - 1, before));
+        }
+    }
+}
+
+fn by(name: &str, (entries, members): &Claim, model: &[u8]) -> Evaluation {
+    Evaluation {
+        name: name.to_string(),
+        claim: draft::claim(entries, members).bytes,
+        model: model.to_vec(),
+    }
+}
+
 /// A random graph with that many successors for each state on average, and
 /// letters that are rarer the higher they are.
 fn graph(successors: usize) -> Vec<u8> {
     let mut rng = Rng::new(64);
-    let letters: Vec<u32> = (0..STATES)
-        .map(|_| (0..4).fold(0, |mask, p| mask | u32::from(rng.chance(1, 2 + 2 * p)) << p))
-        .collect();
-    let leads: Vec<Vec<bool>> = (0..STATES)
-        .map(|_| {
-            (0..STATES)
-                .map(|_| rng.chance(successors, STATES))
-                .collect()
-        })
-        .collect();
+    let (letters, leads) = (letters(&mut rng), leads(&mut rng, successors));
     hard::model(
         STATES,
         |state| letters[state],
         |state, next| leads[state][next],
     )
+}
+
+/// Such a graph for each of these actions.
+fn graphs(successors: usize, actions: &[u16]) -> Vec<u8> {
+    let mut rng = Rng::new(64);
+    let letters = letters(&mut rng);
+    let graphs: Vec<_> = (0..ACTIONS as u16)
+        .map(|action| {
+            actions
+                .contains(&action)
+                .then(|| leads(&mut rng, successors))
+        })
+        .collect();
+    hard::action_model(
+        STATES,
+        |state| letters[state],
+        |action, state, next| {
+            graphs[action]
+                .as_ref()
+                .is_some_and(|leads| leads[state][next])
+        },
+    )
+}
+
+fn letters(rng: &mut Rng) -> Vec<u32> {
+    let letter = |rng: &mut Rng, p: usize| u32::from(rng.chance(1, 2 + 2 * p)) << p;
+    (0..STATES)
+        .map(|_| (0..4).fold(0, |mask, p| mask | letter(rng, p)))
+        .collect()
+}
+
+fn leads(rng: &mut Rng, successors: usize) -> Vec<Vec<bool>> {
+    let row = |rng: &mut Rng| {
+        (0..STATES)
+            .map(|_| rng.chance(successors, STATES))
+            .collect()
+    };
+    (0..STATES).map(|_| row(rng)).collect()
 }
 
 /// Each state leads to all below it, so that boxes become true one by one.

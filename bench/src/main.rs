@@ -17,7 +17,6 @@ use evaluations::Evaluation;
 use gate_tests::lent::{Lengths, Lent, LentRecords, LentWords, RecordSlices, Slices, PROOF_BYTES};
 use gate_tests::{Gate, Records};
 use numbering::Numbering;
-use reference::Refusal;
 use std::hint::black_box;
 use timing::Row;
 use writings::{Call, Writing};
@@ -132,10 +131,7 @@ fn evaluated(case: &Evaluation) -> Row {
     assert!(lent.words.lend().starts_with(&words), "{name}");
     timing::side_by_side(
         || gate_tests::evaluate(claim, model, &mut lent),
-        || match black_box(reference::evaluate(claim, model)) {
-            Ok(_) => 0,
-            Err(refusal) => Refusal::packed(refusal),
-        },
+        || reference::answer_wide(&black_box(reference::evaluate(claim, model))),
     )
 }
 

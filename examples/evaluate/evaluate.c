@@ -10,7 +10,7 @@
 
 /* More than any good claim or model has, so that a longer file is refused by its
  * start alone. */
-#define FILE_BYTES 65536
+#define FILE_BYTES (FOCUS_MODEL_BYTES + 1)
 
 static uint8_t claim[FILE_BYTES];
 static uint8_t model[FILE_BYTES];
@@ -27,6 +27,11 @@ static long read_file(const char *path, uint8_t *bytes) {
     int failed = ferror(file);
     fclose(file);
     return failed ? -1 : (long)count;
+}
+
+/* Diamonds and boxes: their b is an action. */
+static int is_modal(const focus_entry *entry) {
+    return entry->kind == 6 || entry->kind == 7;
 }
 
 /* The states of a word, by rising number. */
@@ -50,16 +55,21 @@ int main(int argc, char **argv) {
         perror(argv[claim_len < 0 ? 1 : 2]);
         return 2;
     }
-    uint32_t answer = focus_evaluate(claim, (size_t)claim_len, model, (size_t)model_len,
+    uint64_t answer = focus_evaluate(claim, (size_t)claim_len, model, (size_t)model_len,
                                      entries, FOCUS_ENTRIES, words, FOCUS_WORDS);
     if (answer != 0) {
-        printf("refuse %u at %u\n", FOCUS_NUMBER(answer), FOCUS_PLACE(answer));
+        printf("refuse %u at %u\n", (unsigned)FOCUS_EVALUATE_NUMBER(answer),
+               (unsigned)FOCUS_EVALUATE_PLACE(answer));
         return 1;
     }
     /* The entry count stands in the claim's bytes 4 and 5. */
     size_t count = claim[4] + 256u * claim[5];
     for (size_t e = 0; e < count; e++) {
-        printf("entry %zu, kind %u:", e, entries[e].kind);
+        printf("entry %zu, kind %u", e, entries[e].kind);
+        if (is_modal(&entries[e]) && entries[e].b != 0) {
+            printf(", action %u", entries[e].b);
+        }
+        printf(":");
         print_states(words[e]);
     }
     return 0;

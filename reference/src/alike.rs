@@ -5,7 +5,7 @@
 //! formula gets a number instead, and a part met again the one that it has. Bound
 //! names do not show in parts: each is a hole, and a fixpoint tells which holes
 //! of its body are its own. So two formulas are the same if their numbers are,
-//! and only then.
+//! and only then. The action of a box or diamond is part of it.
 
 use crate::bits::Bits;
 use crate::claim::{Entry, Kind};
@@ -111,7 +111,7 @@ impl<'a> Parts<'a> {
             Kind::Name => return HOLE,
             Kind::False | Kind::True | Kind::Letter | Kind::Negated => (a.into(), 0),
             Kind::Or | Kind::And => (part(a), part(b)),
-            Kind::Diamond | Kind::Box => (part(a), 0),
+            Kind::Diamond | Kind::Box => (part(a), b.into()),
             Kind::Mu | Kind::Nu => (part(a), self.own[number]),
         };
         self.numbers.of(kind, a, b)

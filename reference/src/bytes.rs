@@ -4,8 +4,8 @@
 use crate::refusal::Refusal;
 use std::ops::RangeInclusive;
 
-/// One of the three kinds of file. Their refusals run in parallel: 10, 30, 60
-/// for the opening, then one number each for length, count, map and member.
+/// One of the kinds of file. Their refusals run in parallel: 10, 30, 60 for the
+/// opening, then one number each for length, count, map and member.
 pub struct Form {
     pub opening: [u8; 4],
     pub number: u16,
@@ -21,6 +21,11 @@ pub const PROOF: Form = Form {
 };
 pub const MODEL: Form = Form {
     opening: *b"MDL1",
+    number: 60,
+};
+/// A model with lists of successors by action.
+pub const ACTION_MODEL: Form = Form {
+    opening: *b"MDL2",
     number: 60,
 };
 
@@ -71,7 +76,7 @@ impl<'a> Cursor<'a> {
                 self.at += N;
                 Ok(*chunk)
             }
-            None => Err(self.refusal(Fault::Length, self.bytes.len())),
+            None => Err(self.ends()),
         }
     }
 
@@ -142,6 +147,19 @@ impl<'a> Cursor<'a> {
             list.push(member);
         }
         Ok(())
+    }
+
+    /// Up to `count` bytes, as many as there are.
+    pub fn up_to(&mut self, count: usize) -> &'a [u8] {
+        let rest = self.bytes.get(self.at..).unwrap_or_default();
+        let list = rest.get(..count).unwrap_or(rest);
+        self.at += list.len();
+        list
+    }
+
+    /// "file ends early (its length)"
+    pub fn ends(&self) -> Refusal {
+        self.refusal(Fault::Length, self.bytes.len())
     }
 
     /// "or bytes follow (offset of the first)"

@@ -1,7 +1,7 @@
 //! The calls without a gate: the single check and the evaluation.
 
 use crate::claim::Claim;
-use crate::evaluate::meanings;
+use crate::evaluate::{actions, meanings};
 use crate::formula;
 use crate::model::Model;
 use crate::proof::Proof;
@@ -16,8 +16,8 @@ pub struct Decoded {
 }
 
 /// A verdict with the records that go with it: "Refusals 1 to 34 ... write
-/// nothing to lent slices. With 35 to 39, with acceptance ... record slices hold
-/// the whole decoding".
+/// nothing to lent slices", nor does 71. "With 35 to 39, with acceptance ...
+/// record slices hold the whole decoding".
 #[derive(Clone, Debug, PartialEq, Eq)]
 pub struct Judgement {
     pub verdict: Result<(), Refusal>,
@@ -57,12 +57,12 @@ pub fn check(claim: &[u8], proof: &[u8]) -> u32 {
 /// One word per entry, "bit s for state s".
 pub fn evaluate(claim: &[u8], model: &[u8]) -> Result<Vec<u64>, Refusal> {
     let claim = read_claim(claim)?;
-    let model = Model::read(model)?;
+    let model = Model::read_for(model, actions(&claim.entries))?;
     Ok(meanings(&claim.entries, &model))
 }
 
-/// "the claim by bytes; 20 over all entries; 21, 22, 23 entry by entry; then
-/// proof or model by bytes"
+/// "the claim by bytes; 20 over all entries [with 71]; 21, 22, 23 entry by entry;
+/// then proof or model by bytes"
 fn decode(claim: &[u8], proof: &[u8]) -> Result<Decoded, Refusal> {
     let claim = read_claim(claim)?;
     let proof = Proof::read(proof, &claim.entries)?;
@@ -71,6 +71,6 @@ fn decode(claim: &[u8], proof: &[u8]) -> Result<Decoded, Refusal> {
 
 fn read_claim(bytes: &[u8]) -> Result<Claim, Refusal> {
     let claim = Claim::read(bytes)?;
-    formula::judge(&claim.entries)?;
+    formula::judge_read(&claim)?;
     Ok(claim)
 }

@@ -38,7 +38,8 @@ impl Kind {
         Kind::ALL.get(usize::from(byte)).copied()
     }
 
-    /// The one bit map an entry of this kind has: bit 0 for A, bit 1 for B.
+    /// The bit map an entry of this kind has: bit 0 for A, bit 1 for B. That of a
+    /// box or diamond is of one with action 0.
     pub fn map(self) -> u8 {
         match self {
             Kind::False | Kind::True => 0,
@@ -47,12 +48,26 @@ impl Kind {
         }
     }
 
+    /// T-04: "A box or diamond may carry an action from 1 to 15 in field B (map
+    /// 3)".
+    pub fn fits(self, map: u8) -> bool {
+        map == self.map() || map == 3 && self.is_modal()
+    }
+
     pub fn is_fixpoint(self) -> bool {
         matches!(self, Kind::Mu | Kind::Nu)
     }
+
+    pub fn is_modal(self) -> bool {
+        matches!(self, Kind::Diamond | Kind::Box)
+    }
 }
 
-/// "An entry's record is its kind, A and B"; a field that is not there is 0.
+/// The actions are 0 to 15.
+pub const ACTIONS: usize = 16;
+
+/// "An entry's record is its kind, A and B"; a field that is not there is 0. So
+/// B of a box or diamond is its action: "map 1 means action 0".
 #[derive(Clone, Copy, Debug, PartialEq, Eq)]
 pub struct Entry {
     pub kind: Kind,
@@ -65,17 +80,35 @@ impl Entry {
         Entry { kind, a, b }
     }
 
-    fn read(cursor: &mut Cursor) -> Result<Entry, Refusal> {
+    /// The map it is written with.
+    pub fn map(self) -> u8 {
+        match self.kind.is_modal() && self.b != 0 {
+            true => 3,
+            false => self.kind.map(),
+        }
+    }
+
+    /// The same with other operands; a name's fixpoint is one, an action is not.
+    pub(crate) fn over(self, mut other: impl FnMut(u16) -> u16) -> Entry {
+        let Entry { kind, a, b } = self;
+        match kind {
+            Kind::False | Kind::True | Kind::Letter | Kind::Negated => self,
+            Kind::Or | Kind::And => Entry::new(kind, other(a), other(b)),
+            _ => Entry::new(kind, other(a), b),
+        }
+    }
+
+    /// The entry, and whether it has an action that need not be written.
+    fn read(cursor: &mut Cursor) -> Result<(Entry, bool), Refusal> {
         let place = cursor.offset();
         let map = cursor.byte()?;
         let kind = Kind::from_byte(cursor.byte()?)
-            .filter(|kind| kind.map() == map)
+            .filter(|kind| kind.fits(map))
             .ok_or(cursor.refusal(Fault::Map, place))?;
-        Ok(Entry {
-            kind,
-            a: cursor.two_if(map & 1 != 0)?,
-            b: cursor.two_if(map & 2 != 0)?,
-        })
+        let a = cursor.two_if(map & 1 != 0)?;
+        let b = cursor.two_if(map & 2 != 0)?;
+        let entry = Entry::new(kind, a, b);
+        Ok((entry, entry.map() != map))
     }
 }
 
@@ -83,6 +116,9 @@ impl Entry {
 pub struct Claim {
     pub entries: Vec<Entry>,
     pub members: Vec<u16>,
+    /// The first box or diamond with "a 0 written out in B", which its record does
+    /// not tell.
+    pub(crate) written_out: Option<usize>,
 }
 
 impl Claim {
@@ -91,8 +127,13 @@ impl Claim {
         let mut cursor = Cursor::open(bytes, &CLAIM)?;
         let count = cursor.count(1..=256)?;
         let mut entries = Vec::with_capacity(count);
-        for _ in 0..count {
-            entries.push(Entry::read(&mut cursor)?);
+        let mut written_out = None;
+        for number in 0..count {
+            let (entry, needless) = Entry::read(&mut cursor)?;
+            if needless && written_out.is_none() {
+                written_out = Some(number);
+            }
+            entries.push(entry);
         }
         let count = cursor.count(1..=24)?;
         let mut members = Vec::with_capacity(count);
@@ -100,7 +141,11 @@ impl Claim {
             may_be_member(&entries, member)
         })?;
         cursor.finish()?;
-        Ok(Claim { entries, members })
+        Ok(Claim {
+            entries,
+            members,
+            written_out,
+        })
     }
 }
 

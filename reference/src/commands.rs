@@ -1,7 +1,7 @@
 //! The commands of the program. Each answers a text for the output and whether
 //! all is good, or a failure for the error output.
 
-use reference::corpus::{self, CheckRecord, EvalRecord};
+use reference::corpus::{self, CheckRecord, Damaged, EvalRecord};
 use reference::generate::{self, Tally};
 use reference::{check, describe, evaluate, Refusal, Written};
 use std::fmt::Write;
@@ -9,6 +9,7 @@ use std::fmt::Write;
 pub const USAGE: &str = "usage:
   reference check FILE                      run a corpus of claims and proofs
   reference eval FILE                       run a corpus of claims and models
+  reference eval-narrow FILE                the same with answers of 32 bits
   reference write FILE                      run a corpus of records to be written
   reference verdict CLAIM PROOF             judge one claim and proof
   reference generate check SEED COUNT FILE  write a corpus of claims and proofs
@@ -35,10 +36,18 @@ pub fn run_checks(file: &str) -> Outcome {
 }
 
 pub fn run_evals(file: &str) -> Outcome {
-    let records = corpus::read_evals(&read(file)?).map_err(|damage| about(file, damage))?;
+    compare_evals(file, corpus::read_evals(&read(file)?))
+}
+
+pub fn run_narrow_evals(file: &str) -> Outcome {
+    compare_evals(file, corpus::read_narrow_evals(&read(file)?))
+}
+
+fn compare_evals(file: &str, records: Result<Vec<EvalRecord>, Damaged>) -> Outcome {
+    let records = records.map_err(|damage| about(file, damage))?;
     Ok(compare(&records, |record| {
         let got = evaluate(&record.claim, &record.model);
-        let expected = match Refusal::unpack(record.answer) {
+        let expected = match Refusal::unpack_wide(record.answer) {
             None => Ok(record.words.clone()),
             Some(refusal) => Err(refusal),
         };
@@ -68,7 +77,7 @@ pub fn generate_checks(seed: &str, count: &str, file: &str) -> Outcome {
         .take(number(count)? as usize)
         .collect();
     write(file, &corpus::write_checks(&records))?;
-    Ok(tally(records.iter().map(|record| record.answer)))
+    Ok(tally(records.iter().map(CheckRecord::number)))
 }
 
 pub fn generate_evals(seed: &str, count: &str, file: &str) -> Outcome {
@@ -76,7 +85,7 @@ pub fn generate_evals(seed: &str, count: &str, file: &str) -> Outcome {
         .take(number(count)? as usize)
         .collect();
     write(file, &corpus::write_evals(&records))?;
-    Ok(tally(records.iter().map(|record| record.answer)))
+    Ok(tally(records.iter().map(EvalRecord::number)))
 }
 
 fn compare<T>(records: &[T], mismatch: impl Fn(&T) -> Option<String>) -> Report {
@@ -121,9 +130,9 @@ fn show_files(files: &[Written; 2]) -> String {
 }
 
 /// The share of each outcome in a generated corpus.
-fn tally(answers: impl Iterator<Item = u32>) -> Report {
+fn tally(numbers: impl Iterator<Item = u32>) -> Report {
     Report {
-        text: Tally::of(answers).to_string(),
+        text: Tally::of(numbers).to_string(),
         good: true,
     }
 }

@@ -13,13 +13,27 @@ pub struct CheckRecord {
     pub answer: u32,
 }
 
-/// `[u32 claim length][claim][u32 model length][model][u32 answer][u32 n][n × u64]`
+/// `[u32 claim length][claim][u32 model length][model][u64 answer][u32 n][n × u64]`
 #[derive(Clone, Debug, PartialEq, Eq)]
 pub struct EvalRecord {
     pub claim: Vec<u8>,
     pub model: Vec<u8>,
-    pub answer: u32,
+    /// 0, or refusal × 2^32 + place.
+    pub answer: u64,
     pub words: Vec<u64>,
+}
+
+impl CheckRecord {
+    /// The refusal's number; 0 is acceptance.
+    pub fn number(&self) -> u32 {
+        self.answer >> 16
+    }
+}
+
+impl EvalRecord {
+    pub fn number(&self) -> u32 {
+        (self.answer >> 32) as u32
+    }
 }
 
 /// What is given to the two calls of the writer, and what they answer:
@@ -63,13 +77,15 @@ pub fn read_checks(bytes: &[u8]) -> Result<Vec<CheckRecord>, Damaged> {
 }
 
 pub fn read_evals(bytes: &[u8]) -> Result<Vec<EvalRecord>, Damaged> {
+    read_all(bytes, |reader| reader.eval(Reader::eight))
+}
+
+/// Evaluations with a u32 in place of the u64, refusal × 65,536 + place, as they
+/// were answered before T-04: the same refusals.
+pub fn read_narrow_evals(bytes: &[u8]) -> Result<Vec<EvalRecord>, Damaged> {
+    let widened = |answer| Refusal::unpack(answer).map_or(0, Refusal::packed_wide);
     read_all(bytes, |reader| {
-        Some(EvalRecord {
-            claim: reader.file()?,
-            model: reader.file()?,
-            answer: reader.four()?,
-            words: reader.list(Reader::eight)?,
-        })
+        reader.eval(|reader| reader.four().map(widened))
     })
 }
 
@@ -208,6 +224,15 @@ impl Reader<'_> {
         (0..count).map(|_| item(self)).collect()
     }
 
+    fn eval(&mut self, answer: impl Fn(&mut Self) -> Option<u64>) -> Option<EvalRecord> {
+        Some(EvalRecord {
+            claim: self.file()?,
+            model: self.file()?,
+            answer: answer(self)?,
+            words: self.list(Reader::eight)?,
+        })
+    }
+
     fn entry(&mut self) -> Option<EntryRecord> {
         Some(EntryRecord {
             kind: self.one()?,
@@ -259,6 +284,17 @@ mod tests {
             words: vec![u64::MAX, 1],
         }];
         assert_eq!(read_evals(&write_evals(&evals)), Ok(evals));
+    }
+
+    #[test]
+    fn narrow_answers_are_widened() {
+        let narrow = [0, 0, 0, 0, 0, 0, 0, 0, 5, 0, 63, 0, 0, 0, 0, 0];
+        let evals = read_narrow_evals(&narrow).expect("a whole record");
+        let [record] = &evals[..] else {
+            panic!("one record");
+        };
+        assert_eq!(record.answer, 63 << 32 | 5);
+        assert_eq!(record.number(), 63);
     }
 
     /// A record without entries, members, nodes, codes, goal counts and roots.

@@ -1,13 +1,15 @@
 //! Lays down claim, proof and model files without judging them, and remembers
 //! where the fields lie, so that the generator can damage them on purpose.
 
-use crate::bytes::{Form, CLAIM, MODEL, PROOF};
-use crate::claim::Entry;
+use crate::bytes::{Form, ACTION_MODEL, CLAIM, MODEL, PROOF};
+use crate::claim::{Entry, ACTIONS};
 use crate::proof::Rule;
 
 #[derive(Clone, Copy, Debug, PartialEq, Eq)]
 pub enum Mark {
     Map,
+    /// A state's map of actions.
+    Actions,
     Count,
     Field,
     Member,
@@ -26,6 +28,10 @@ impl File {
             bytes: form.opening.to_vec(),
             marks: Vec::new(),
         }
+    }
+
+    pub fn has(&self, mark: Mark) -> bool {
+        self.marks.iter().any(|&(other, ..)| other == mark)
     }
 
     fn put(&mut self, mark: Mark, field: &[u8]) {
@@ -47,13 +53,35 @@ impl File {
             self.put_two(Mark::Member, member.into());
         }
     }
+
+    /// A count and a list for each action that has successors.
+    fn put_successors(&mut self, lists: &[Vec<u8>]) {
+        for list in lists.iter().filter(|list| !list.is_empty()) {
+            self.put(Mark::Count, &[list.len() as u8]);
+            for &successor in list {
+                self.put(Mark::Member, &[successor]);
+            }
+        }
+    }
 }
 
 pub fn claim(entries: &[Entry], members: &[u16]) -> File {
+    claim_written_out(entries, members, |_| false)
+}
+
+/// The same with "a 0 written out in B" of these boxes and diamonds.
+pub fn claim_written_out(
+    entries: &[Entry],
+    members: &[u16],
+    written_out: impl Fn(usize) -> bool,
+) -> File {
     let mut file = File::new(&CLAIM);
     file.put_two(Mark::Count, entries.len());
-    for entry in entries {
-        let map = entry.kind.map();
+    for (number, entry) in entries.iter().enumerate() {
+        let map = match entry.kind.is_modal() && written_out(number) {
+            true => 3,
+            false => entry.map(),
+        };
         file.put_map(map, entry.kind as u8);
         for field in [entry.a, entry.b]
             .into_iter()
@@ -116,25 +144,65 @@ pub fn proof(nodes: &[DraftNode]) -> File {
 #[derive(Clone, Debug, Default, PartialEq, Eq)]
 pub struct DraftState {
     pub letters: u32,
-    pub successors: Vec<u8>,
+    /// The successors by each action.
+    pub successors: [Vec<u8>; ACTIONS],
 }
 
+impl DraftState {
+    /// With successors by action 0 alone.
+    pub fn new(letters: u32, successors: Vec<u8>) -> DraftState {
+        let mut state = DraftState {
+            letters,
+            ..DraftState::default()
+        };
+        state.successors[0] = successors;
+        state
+    }
+
+    /// "bit n for action n"
+    fn actions(&self) -> u16 {
+        let lists = self.successors.iter().enumerate();
+        lists.fold(0, |map, (action, list)| {
+            map | u16::from(!list.is_empty()) << action
+        })
+    }
+}
+
+/// The model opened by `MDL1`, with the successors by action 0.
 pub fn model(states: &[DraftState]) -> File {
-    let mut file = File::new(&MODEL);
+    model_of(states, &MODEL, |file, state| {
+        file.put_successors(&state.successors[..1])
+    })
+}
+
+/// The model opened by `MDL2`, with all of them.
+pub fn action_model(states: &[DraftState]) -> File {
+    model_of(states, &ACTION_MODEL, |file, state| match state.actions() {
+        0 => {}
+        actions => {
+            file.put_two(Mark::Actions, actions.into());
+            file.put_successors(&state.successors);
+        }
+    })
+}
+
+/// What follows a state's letters is put down by the function, if anything.
+fn model_of(
+    states: &[DraftState],
+    form: &Form,
+    put_successors: impl Fn(&mut File, &DraftState),
+) -> File {
+    let mut file = File::new(form);
     file.put(Mark::Count, &[states.len() as u8]);
     for state in states {
-        let letters = u8::from(state.letters != 0);
-        let successors = u8::from(!state.successors.is_empty());
-        file.put(Mark::Map, &[letters | successors << 1]);
-        if letters == 1 {
+        let map = file.bytes.len();
+        file.put(Mark::Map, &[u8::from(state.letters != 0)]);
+        if state.letters != 0 {
             file.put(Mark::Field, &state.letters.to_le_bytes());
         }
-        if successors == 1 {
-            file.put(Mark::Count, &[state.successors.len() as u8]);
-            for &successor in &state.successors {
-                file.put(Mark::Member, &[successor]);
-            }
-        }
+        let before = file.bytes.len();
+        put_successors(&mut file, state);
+        file.bytes[map] |= u8::from(file.bytes.len() > before) << 1;
     }
     file
 }

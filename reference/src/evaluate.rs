@@ -9,7 +9,7 @@
 //! 64 times and only its users are computed again: the whole is polynomial.
 
 use crate::bits::Bits;
-use crate::claim::{Entry, Kind};
+use crate::claim::{Entry, Kind, ACTIONS};
 use crate::model::Model;
 
 /// One word per entry, each entry by itself. The entries have passed 20 to 23.
@@ -17,6 +17,8 @@ pub fn meanings(entries: &[Entry], model: &Model) -> Vec<u64> {
     let mut solver = Solver {
         entries,
         model,
+        all: model.all(),
+        tables: model.tables(),
         users: users(entries),
         words: vec![0; entries.len()],
     };
@@ -24,6 +26,12 @@ pub fn meanings(entries: &[Entry], model: &Model) -> Vec<u64> {
         solver.solve(&block);
     }
     solver.words
+}
+
+/// The actions of boxes and diamonds, bit n for action n.
+pub fn actions(entries: &[Entry]) -> u16 {
+    let modal = entries.iter().filter(|entry| entry.kind.is_modal());
+    modal.fold(0, |actions, entry| actions | 1 << entry.b)
 }
 
 /// What an entry's word is computed from.
@@ -49,6 +57,9 @@ fn users(entries: &[Entry]) -> Vec<Bits> {
 struct Solver<'a> {
     entries: &'a [Entry],
     model: &'a Model,
+    all: u64,
+    /// The rows of each action.
+    tables: [&'a [u64]; ACTIONS],
     users: Vec<Bits>,
     words: Vec<u64>,
 }
@@ -60,7 +71,7 @@ impl Solver<'_> {
             return;
         }
         let nu = block.iter().any(|&e| self.entries[e].kind == Kind::Nu);
-        let start = if nu { self.model.all() } else { 0 };
+        let start = if nu { self.all } else { 0 };
         let mut members = Bits::default();
         for &entry in block {
             self.words[entry] = start;
@@ -83,15 +94,24 @@ impl Solver<'_> {
         let letter = |letter: u16| self.model.valuation[usize::from(letter)];
         match kind {
             Kind::False => 0,
-            Kind::True => self.model.all(),
+            Kind::True => self.all,
             Kind::Letter => letter(a),
-            Kind::Negated => self.model.all() & !letter(a),
+            Kind::Negated => self.all & !letter(a),
             Kind::Or => word(a) | word(b),
             Kind::And => word(a) & word(b),
-            Kind::Diamond => self.model.diamond(word(a)),
-            Kind::Box => self.model.boxed(word(a)),
+            Kind::Diamond => self.diamond(b, word(a)),
+            // "a box is true where no successor exists"
+            Kind::Box => self.all & !self.diamond(b, !word(a)),
             Kind::Mu | Kind::Nu | Kind::Name => word(a),
         }
+    }
+
+    /// The states with some successor by an action in `set`.
+    fn diamond(&self, action: u16, set: u64) -> u64 {
+        let rows = self.tables[usize::from(action)].iter().enumerate();
+        rows.fold(0, |word, (state, row)| {
+            word | u64::from(row & set != 0) << state
+        })
     }
 }
 

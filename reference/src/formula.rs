@@ -1,22 +1,38 @@
-//! Entries as formulas: bounds, free names, alternation and guardedness
-//! (refusals 20 to 23).
+//! Entries as formulas: bounds, actions, free names, alternation and guardedness
+//! (refusals 20 to 23 and 71).
 
 use crate::bits::Bits;
-use crate::claim::{Entry, Kind};
+use crate::claim::{Claim, Entry, Kind, ACTIONS};
 use crate::refusal::Refusal;
 
 const LETTERS: u16 = 32;
 
-/// "20 over all entries; 21, 22, 23 entry by entry"
+/// The entries of a claim as it was read.
+pub fn judge_read(claim: &Claim) -> Result<(), Refusal> {
+    judge_all(&claim.entries, claim.written_out)
+}
+
+/// Entries of which none has a 0 written out.
 pub fn judge(entries: &[Entry]) -> Result<(), Refusal> {
+    judge_all(entries, None)
+}
+
+/// "20 over all entries", with 71 "judged after 20 at each entry in the same
+/// walk"; "21, 22, 23 entry by entry"
+fn judge_all(entries: &[Entry], written_out: Option<usize>) -> Result<(), Refusal> {
     for (number, entry) in entries.iter().enumerate() {
         if !in_bounds(entries, number, entry) {
             return Err(Refusal::new(20, number));
         }
+        if !action_fits(entry) || written_out == Some(number) {
+            return Err(Refusal::new(71, number));
+        }
     }
     let mut below = Vec::with_capacity(entries.len());
     for (number, entry) in entries.iter().enumerate() {
-        below.push(judge_names(entries, number, entry, &below)?);
+        let names = names_at(number, entry, &below);
+        judge_names(entries, number, entry, &names)?;
+        below.push(names);
     }
     Ok(())
 }
@@ -33,6 +49,11 @@ fn in_bounds(entries: &[Entry], number: usize, entry: &Entry) -> bool {
     }
 }
 
+/// "71, an action above 15 or a 0 written out in B"
+fn action_fits(entry: &Entry) -> bool {
+    !entry.kind.is_modal() || usize::from(entry.b) < ACTIONS
+}
+
 /// The names an entry leaves open. Kept for every entry, so that operands used
 /// many times are walked once.
 #[derive(Clone, Copy, Default)]
@@ -46,12 +67,8 @@ fn judge_names(
     entries: &[Entry],
     number: usize,
     entry: &Entry,
-    below: &[Names],
-) -> Result<Names, Refusal> {
-    let mut names = names_of(entry, below);
-    if entry.kind.is_fixpoint() {
-        names.free.remove(number);
-    }
+    names: &Names,
+) -> Result<(), Refusal> {
     if names.free.iter().any(|name| name <= number) {
         return Err(Refusal::new(21, number));
     }
@@ -67,7 +84,16 @@ fn judge_names(
             return Err(Refusal::new(23, number));
         }
     }
-    Ok(names)
+    Ok(())
+}
+
+/// The names of an entry, a fixpoint's own not among the free ones.
+fn names_at(number: usize, entry: &Entry, below: &[Names]) -> Names {
+    let mut names = names_of(entry, below);
+    if entry.kind.is_fixpoint() {
+        names.free.remove(number);
+    }
+    names
 }
 
 /// The names of the operands together, before a fixpoint takes its own away.
@@ -95,9 +121,7 @@ fn names_of(entry: &Entry, below: &[Names]) -> Names {
 pub fn free_names(entries: &[Entry]) -> Vec<Bits> {
     let mut below: Vec<Names> = Vec::with_capacity(entries.len());
     for (number, entry) in entries.iter().enumerate() {
-        let mut names = names_of(entry, &below);
-        names.free.remove(number);
-        below.push(names);
+        below.push(names_at(number, entry, &below));
     }
     below.into_iter().map(|names| names.free).collect()
 }

@@ -5,7 +5,7 @@
 //!
 //! The layers, from the bytes up:
 //! * `bytes`, `claim`, `proof`, `model` read files (refusals 10–14, 30–34, 60–64);
-//! * `formula` judges entries (20–23), `tree` child numbers (35);
+//! * `formula` judges entries (20–23, 71), `tree` child numbers (35);
 //! * `alike` tells which entries are the same formula, `sequent` reads codes by it;
 //! * `rules` and `loops` judge a decoded proof (36–39);
 //! * `evaluate` gives each entry its meaning in a model;
@@ -35,11 +35,11 @@ pub mod generate;
 
 pub use alike::least_alike;
 pub use check::{check, evaluate, judge, Decoded, Judgement};
-pub use claim::{Claim, Entry, Kind};
+pub use claim::{Claim, Entry, Kind, ACTIONS};
 pub use gate::Gate;
 pub use model::Model;
 pub use proof::{Node, Proof, Rule};
-pub use refusal::{describe, Refusal};
+pub use refusal::{answer_wide, describe, describe_wide, Refusal};
 pub use write::{
     write_claim, write_proof, written, ClaimRecords, EntryRecord, NodeRecord, ProofRecords,
     Records, Written,

@@ -12,6 +12,7 @@ fn main() -> ExitCode {
     let outcome = match args[..] {
         ["check", file] => commands::run_checks(file),
         ["eval", file] => commands::run_evals(file),
+        ["eval-narrow", file] => commands::run_narrow_evals(file),
         ["write", file] => commands::run_writes(file),
         ["verdict", claim, proof] => commands::verdict(claim, proof),
         ["generate", "check", seed, count, file] => commands::generate_checks(seed, count, file),

@@ -138,12 +138,14 @@ impl<'a> Rules<'a> {
     }
 
     /// "the principal is a box, all others are diamonds; the child has the
-    /// targets of the principal and of those diamonds, each with its focus"
+    /// targets of the principal and of those diamonds, each with its focus".
+    /// T-04: "diamonds of the principal's own action".
     fn box_kept(&mut self, node: &Node, sequent: &[u16], principal: u16) -> bool {
+        let action = self.entry(principal).b;
         self.wanted.clear();
         for &member in sequent {
             let entry = self.entry(member);
-            if member != principal && entry.kind != Kind::Diamond {
+            if member != principal && (entry.kind != Kind::Diamond || entry.b != action) {
                 return false;
             }
             let target = self.kept_focus(entry.a, member);

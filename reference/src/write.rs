@@ -1,6 +1,6 @@
 //! The writer: judges the records of a claim or a proof, with the number and
 //! place that a reader would give for their file, and lays its bytes down in a
-//! lent slice (refusals 1, 12 to 14, 20 to 23, 32 to 35 and 70).
+//! lent slice (refusals 1, 12 to 14, 20 to 23, 71, 32 to 35 and 70).
 
 use crate::bytes::{Fault, Form, CLAIM, PROOF};
 use crate::claim::{may_be_member, Entry, Kind};
@@ -107,7 +107,7 @@ fn judge_claim(claim: ClaimRecords) -> Result<(Vec<Entry>, usize), Refusal> {
     let mut entries = Vec::with_capacity(claim.entry_count);
     for record in &claim.entries[..claim.entry_count] {
         let entry = record.entry().ok_or(walk.refusal(Fault::Map))?;
-        walk.head(entry.kind.map());
+        walk.head(entry.map());
         entries.push(entry);
     }
     walk.count(claim.members.len(), MEMBERS, 2)?;
@@ -139,10 +139,11 @@ fn judge_proof(proof: ProofRecords, entries: &[Entry]) -> Result<(Vec<Node>, usi
 
 impl EntryRecord {
     /// "A value other than 0 in a field that the kind or rule lacks counts as an
-    /// unfit map."
+    /// unfit map." A box or diamond has B, and any action stands there until the
+    /// entries are judged.
     fn entry(self) -> Option<Entry> {
-        let kind = Kind::from_byte(self.kind)?;
-        fit(kind.map(), [self.a, self.b]).then_some(Entry::new(kind, self.a, self.b))
+        let entry = Entry::new(Kind::from_byte(self.kind)?, self.a, self.b);
+        fit(entry.map(), [self.a, self.b]).then_some(entry)
     }
 }
 
@@ -241,7 +242,7 @@ fn lay_claim(entries: &[Entry], members: &[u16], file: &mut [u8]) {
     pen.put(CLAIM.opening);
     pen.two(entries.len() as u16);
     for entry in entries {
-        let map = entry.kind.map();
+        let map = entry.map();
         pen.put([map, entry.kind as u8]);
         pen.fields(map, [entry.a, entry.b]);
     }

@@ -32,7 +32,10 @@ fn write(entries: &[Entry], at: u16, passed: &mut Vec<u16>, text: &mut Vec<u16>)
             write(entries, a, passed, text);
             write(entries, b, passed, text);
         }
-        Diamond | Box => write(entries, a, passed, text),
+        Diamond | Box => {
+            text.push(b);
+            write(entries, a, passed, text);
+        }
         Mu | Nu => {
             passed.push(at);
             write(entries, a, passed, text);
@@ -157,7 +160,8 @@ fn any_table(rng: &mut Rng) -> Vec<Entry> {
         Letter | Negated => Entry::new(kind, rng.below(2) as u16, 0),
         Or | And => Entry::new(kind, rng.below(at) as u16, rng.below(at) as u16),
         Name => Entry::new(kind, rng.pick(&fixpoints).unwrap_or(0), 0),
-        _ => Entry::new(kind, rng.below(at) as u16, 0),
+        Diamond | Box => Entry::new(kind, rng.below(at) as u16, rng.below(2) as u16),
+        Mu | Nu => Entry::new(kind, rng.below(at) as u16, 0),
     };
     kinds.iter().enumerate().map(&mut entry).collect()
 }
@@ -178,7 +182,7 @@ fn tables_drawn_at_random() {
 /// A formula but for its names.
 enum Skeleton {
     Name,
-    Step(std::boxed::Box<Skeleton>),
+    Step(u16, std::boxed::Box<Skeleton>),
     Join(std::boxed::Box<[Skeleton; 2]>),
     Fixpoint(std::boxed::Box<Skeleton>),
 }
@@ -189,7 +193,7 @@ fn skeleton(rng: &mut Rng, depth: usize) -> Skeleton {
     }
     match rng.below(8) {
         0 => Skeleton::Name,
-        1 => Skeleton::Step(skeleton(rng, depth - 1).into()),
+        1 => Skeleton::Step(rng.below(16) as u16, skeleton(rng, depth - 1).into()),
         2..=4 => Skeleton::Join([(); 2].map(|()| skeleton(rng, depth - 1)).into()),
         _ => Skeleton::Fixpoint(skeleton(rng, depth - 1).into()),
     }
@@ -204,7 +208,7 @@ fn lay_down(rng: &mut Rng, skeleton: &Skeleton, around: u16, entries: &mut Vec<E
             entries.push(e(Name, 1000 + rng.below(around.into()) as u16, 0));
             e(Box, entries.len() as u16 - 1, 0)
         }
-        Skeleton::Step(below) => e(Diamond, lay_down(rng, below, around, entries), 0),
+        Skeleton::Step(action, below) => e(Diamond, lay_down(rng, below, around, entries), *action),
         Skeleton::Join(below) => {
             let [a, b] = below
                 .each_ref()
@@ -272,6 +276,29 @@ fn which_fixpoint_a_name_is_of_counts() {
     same[11] = e(Or, 9, 10);
     let least = least(&same);
     assert_eq!((least[12], least[13]), (5, 6));
+}
+
+/// Boxes of a letter by all actions, and again; box by 1 is not diamond by 1.
+#[test]
+fn the_action_counts() {
+    let mut entries = vec![e(Letter, 0, 0)];
+    entries.extend((0..32).map(|at| e(Box, 0, at % 16)));
+    entries.extend((0..16).map(|action| e(Diamond, 0, action)));
+    let boxes = (1..17).chain(1..17);
+    let all: Vec<u16> = [0].into_iter().chain(boxes).chain(33..49).collect();
+    assert_eq!(least(&entries), all);
+}
+
+/// nu x box x with one action inside and another, each twice, and box of each by
+/// the other's action.
+#[test]
+fn an_action_inside_counts() {
+    let nu = |at: u16, action: u16| [e(Name, at + 2, 0), e(Box, at, action), e(Nu, at + 1, 0)];
+    let entries = [nu(0, 1), nu(3, 2), nu(6, 1), nu(9, 2)].concat();
+    let boxes = [e(Box, 2, 2), e(Box, 8, 1), e(Box, 11, 1), e(Box, 5, 2)];
+    let least = least(&[&entries[..], &boxes].concat());
+    assert_eq!(least[..12], [2, 1, 2, 5, 4, 5, 2, 1, 2, 5, 4, 5]);
+    assert_eq!(least[12..], [12, 1, 14, 4]);
 }
 
 /// nu x p, nu y p, nu x nu y box x, nu x nu y box y.

@@ -327,6 +327,61 @@ fn a_box_in_the_other_focus_is_another() {
     assert_eq!(steps(&[u(4), f(6)], &[f(0)]), "refuse 37 at 2");
 }
 
+/// Truth and letter 0, box truth by action 3, diamonds of the letter by actions 3,
+/// 3 again, 4 and 0.
+fn by_actions() -> Vec<Entry> {
+    let leaves = [e(True, 0, 0), e(Letter, 0, 0), e(Box, 0, 3)];
+    let diamonds = [3, 3, 4, 0].map(|action| e(Diamond, 1, action));
+    leaves.into_iter().chain(diamonds).collect()
+}
+
+/// "The box rule needs diamonds of the principal's own action."
+#[test]
+fn a_box_goes_with_diamonds_of_its_action() {
+    let boxed = |codes: &[u16], child: &[u16]| {
+        let members: Vec<u16> = codes.iter().map(|code| code / 2).collect();
+        let nodes = [n(Rule::Box, f(2), codes), end(child)];
+        verdict(&by_actions(), &members, &nodes)
+    };
+    assert_eq!(boxed(&[f(2)], &[f(0)]), "refuse 37 at 1");
+    assert_eq!(boxed(&[f(2), f(3)], &[f(0), f(1)]), "refuse 37 at 1");
+    assert_eq!(boxed(&[f(2), f(3), f(4)], &[f(0), f(1)]), "refuse 37 at 1");
+    for other in [5, 6] {
+        let codes = [f(2), f(other)];
+        assert_eq!(boxed(&codes, &[f(0), f(1)]), "refuse 37 at 0");
+        assert_eq!(boxed(&codes, &[f(0)]), "refuse 37 at 0");
+        let codes = [f(2), f(3), f(other)];
+        assert_eq!(boxed(&codes, &[f(0), f(1)]), "refuse 37 at 0");
+    }
+}
+
+/// Boxes that differ in the action are two formulas: one stays when the other is
+/// taken away, and beside the other it is another.
+#[test]
+fn boxes_of_two_actions_are_two_members() {
+    let mut entries = vec![e(True, 0, 0), e(Box, 0, 1), e(Box, 0, 2), e(Box, 0, 1)];
+    entries.push(e(Or, 1, 2));
+    let weakened = |child: &[u16]| {
+        let nodes = [n(Rule::W, f(3), &[f(1), f(2)]), end(child)];
+        verdict(&entries, &[1, 2], &nodes)
+    };
+    assert_eq!(weakened(&[f(2)]), "refuse 37 at 1");
+    assert_eq!(weakened(&[f(1)]), "refuse 37 at 0");
+    let boxed = |codes: &[u16]| {
+        let members: Vec<u16> = codes.iter().map(|code| code / 2).collect();
+        let nodes = [n(Rule::Box, f(1), codes), n(Rule::Ax2, 0, &[f(0)])];
+        verdict(&entries, &members, &nodes)
+    };
+    assert_eq!(boxed(&[f(1), f(3)]), "accept");
+    assert_eq!(boxed(&[f(1), f(2)]), "refuse 37 at 0");
+    let root = |codes: &[u16]| verdict(&entries, &[1], &[end(codes)]);
+    assert_eq!(root(&[f(3)]), "refuse 37 at 0");
+    assert_eq!(root(&[f(2)]), "refuse 36 at 0");
+    let or = |child: &[u16]| step(&entries, Rule::Or, 4, child);
+    assert_eq!(or(&[f(2), f(3)]), "refuse 37 at 1");
+    assert_eq!(or(&[f(1), f(3)]), "refuse 37 at 0");
+}
+
 /// nu x box x: D, nu, box, and a leaf linked to the D.
 fn looped(codes: [u16; 4]) -> String {
     let [d, nu, boxed, leaf] = codes;

@@ -81,6 +81,7 @@ fn presenting_agrees_with_the_single_check() {
         };
         assert_eq!(gate, after);
         let number = judgement.answer() >> 16;
-        assert_eq!(judgement.decoded.is_some(), number == 0 || number >= 35);
+        let decoded = matches!(number, 0 | 35..=39);
+        assert_eq!(judgement.decoded.is_some(), decoded);
     }
 }

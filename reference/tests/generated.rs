@@ -3,7 +3,8 @@
 
 use reference::corpus::CheckRecord;
 use reference::generate::{self, Tally};
-use reference::{check, corpus, describe, evaluate, judge, Claim, Kind, Proof, Rule};
+use reference::{check, corpus, describe, draft, evaluate, judge};
+use reference::{Claim, Entry, Kind, Model, Proof, Rule};
 
 #[test]
 fn the_same_seed_gives_the_same_inputs() {
@@ -23,9 +24,10 @@ fn assert_occur(tally: &Tally, numbers: impl IntoIterator<Item = u32>) {
 
 #[test]
 fn every_outcome_of_a_check_occurs() {
-    let tally = Tally::of(generate::checks(1).take(20_000).map(|record| record.answer));
+    let records = generate::checks(1).take(20_000);
+    let tally = Tally::of(records.map(|record| record.number()));
     println!("{tally}");
-    assert_occur(&tally, (10..=14).chain(20..=23).chain(30..=39));
+    assert_occur(&tally, (10..=14).chain(20..=23).chain(30..=39).chain([71]));
     assert!(
         tally.count(0) * 100 >= tally.total() * 15,
         "few accepted in\n{tally}"
@@ -34,9 +36,10 @@ fn every_outcome_of_a_check_occurs() {
 
 #[test]
 fn every_outcome_of_an_evaluation_occurs() {
-    let tally = Tally::of(generate::evals(1).take(20_000).map(|record| record.answer));
+    let records = generate::evals(1).take(20_000);
+    let tally = Tally::of(records.map(|record| record.number()));
     println!("{tally}");
-    assert_occur(&tally, (10..=14).chain(20..=23).chain(60..=64));
+    assert_occur(&tally, (10..=14).chain(20..=23).chain(60..=64).chain([71]));
     assert!(
         tally.count(0) * 100 >= tally.total() * 15,
         "few finished in\n{tally}"
@@ -132,7 +135,7 @@ fn loops_that_leave_focus_are_good_and_bad() {
         let decoded = judge(&record.claim, &record.proof).decoded.expect("nodes");
         assert!(generate::leaves_focus(&decoded.proof));
     }
-    let tally = Tally::of(records().map(|record| record.answer));
+    let tally = Tally::of(records().map(|record| record.number()));
     println!("{tally}");
     assert_occur(&tally, [36, 37, 38, 39]);
     assert!(
@@ -163,7 +166,7 @@ fn files_with_twins_use_them() {
         compound += usize::from(kinds.iter().any(|&kind| kind as u8 >= Kind::Or as u8));
         fixpoints += usize::from(kinds.iter().any(|kind| matches!(kind, Kind::Mu | Kind::Nu)));
     }
-    let tally = Tally::of(records().map(|record| record.answer));
+    let tally = Tally::of(records().map(|record| record.number()));
     println!("of 5000 {compound} have compound twins, {fixpoints} fixpoints\n{tally}");
     assert!(compound * 3 > 5_000 && fixpoints * 6 > 5_000);
     assert_occur(&tally, [36, 37, 38, 39]);
@@ -180,4 +183,162 @@ fn a_third_of_all_files_use_twins() {
     let used = used.count();
     println!("{used} of 20000 files use twins");
     assert!(used * 3 > 20_000);
+}
+
+fn is_modal(entry: &&Entry) -> bool {
+    matches!(entry.kind, Kind::Box | Kind::Diamond)
+}
+
+/// The actions of a table, bit n for action n.
+fn actions(entries: &[Entry]) -> u32 {
+    let modal = entries.iter().filter(is_modal);
+    modal.fold(0, |actions, entry| actions | 1 << entry.b)
+}
+
+#[test]
+fn accepted_proofs_step_by_every_action() {
+    let (mut steps, mut several, mut many) = ([0; 16], 0, 0);
+    for (claim, proof) in generate::accepted(10).take(5000) {
+        let decoded = judge(&claim, &proof).decoded.expect("accepted");
+        let count = actions(&decoded.claim.entries).count_ones();
+        several += usize::from(count >= 2);
+        many += usize::from(count >= 6);
+        let mut actions = generate::stepped_by(&decoded);
+        actions.sort_unstable();
+        actions.dedup();
+        for action in actions {
+            steps[usize::from(action)] += 1;
+        }
+    }
+    println!("of 5000 {several} with several actions, {many} with many; steps {steps:?}");
+    assert!(several > 1500 && many > 200);
+    assert!(steps.iter().all(|&count| count > 50), "{steps:?}");
+}
+
+/// The claim with action 0 for all boxes and diamonds.
+fn without_actions(claim: &[u8]) -> Vec<u8> {
+    let Claim {
+        mut entries,
+        members,
+        ..
+    } = Claim::read(claim).expect("well formed");
+    for entry in &mut entries {
+        if is_modal(&&*entry) {
+            entry.b = 0;
+        }
+    }
+    draft::claim(&entries, &members).bytes
+}
+
+#[test]
+fn the_actions_decide_of_many_proofs() {
+    let (mut decoded, mut refused, mut accepted) = (0, 0, 0);
+    for record in generate::checks(13).take(20_000) {
+        if !matches!(record.number(), 0 | 36..=39) {
+            continue;
+        }
+        decoded += 1;
+        let plain = check(&without_actions(&record.claim), &record.proof);
+        refused += usize::from(record.answer != 0 && plain == 0);
+        accepted += usize::from(record.answer == 0 && plain != 0);
+    }
+    println!("of {decoded} the actions refuse {refused} and accept {accepted}");
+    assert!(refused * 100 > decoded && accepted * 100 > decoded);
+}
+
+#[test]
+fn the_actions_decide_of_many_words() {
+    let (mut forms, mut evaluated, mut other) = ([0; 2], 0, 0);
+    for record in generate::evals(14).filter(|r| r.answer == 0).take(5000) {
+        evaluated += 1;
+        forms[usize::from(record.model[3] - b'1')] += 1;
+        let plain = evaluate(&without_actions(&record.claim), &record.model);
+        other += usize::from(plain != Ok(record.words));
+    }
+    println!("of {evaluated} in {forms:?} models {other} have other words");
+    assert!(forms[0] > 1000 && forms[1] > 2000 && other * 5 > evaluated);
+}
+
+/// Each action of a model that has all, and models with places beyond two bytes.
+#[test]
+fn models_have_every_action_and_every_length() {
+    let mut seen = [0; 16];
+    for model in generate::models(15).take(3000) {
+        let model = Model::read(&model).expect("well formed");
+        for (action, seen) in (0..).zip(&mut seen) {
+            let leads = |state| model.successors(action, state) != 0;
+            *seen += usize::from((0..model.states()).any(leads));
+        }
+    }
+    assert!(seen.iter().all(|&count| count > 300), "{seen:?}");
+    let far = generate::evals(16).take(20_000);
+    let far = far.filter(|record| record.answer as u32 > 65_535).count();
+    println!("models by action {seen:?}, {far} of 20000 places beyond two bytes");
+    assert!(far > 20);
+}
+
+/// Where the entries of a claim begin, and their maps, kinds and fields B.
+fn laid_entries(claim: &[u8]) -> Vec<(usize, u8, u8, u16)> {
+    let count = u16::from_le_bytes([claim[4], claim[5]]);
+    let mut at = 6;
+    let entry = |_| {
+        let (map, kind) = (claim[at], claim[at + 1]);
+        let b = match map {
+            3 => u16::from_le_bytes([claim[at + 4], claim[at + 5]]),
+            _ => 0,
+        };
+        let found = (at, map, kind, b);
+        at += 2 + 2 * map.count_ones() as usize;
+        found
+    };
+    (0..count).map(entry).collect()
+}
+
+/// Those that 71 is for, by their bytes.
+fn unfit_actions(claim: &[u8]) -> Vec<usize> {
+    let unfit = |&(_, map, kind, b): &(usize, u8, u8, u16)| {
+        map == 3 && matches!(kind, 6 | 7) && !(1..=15).contains(&b)
+    };
+    let entries = laid_entries(claim);
+    (0..entries.len())
+        .filter(|&at| unfit(&entries[at]))
+        .collect()
+}
+
+/// What a claim earns once the action of that entry is 1.
+fn with_action_1(claim: &[u8], entry: usize) -> u32 {
+    let at = laid_entries(claim)[entry].0;
+    let mut mended = claim.to_vec();
+    mended[at + 4..at + 6].copy_from_slice(&[1, 0]);
+    check(&mended, b"") >> 16
+}
+
+#[test]
+fn unfit_actions_beside_other_faults() {
+    let (mut above, mut written_out, mut before, mut same, mut after) = (0, 0, 0, 0, 0);
+    let mut names = 0;
+    for record in generate::checks(17).take(30_000) {
+        let (number, place) = (record.number(), (record.answer & 0xffff) as usize);
+        if number == 71 {
+            let unfit = unfit_actions(&record.claim);
+            assert_eq!(unfit.first(), Some(&place));
+            let zero = laid_entries(&record.claim)[place].3 == 0;
+            *[&mut above, &mut written_out][usize::from(zero)] += 1;
+            let next = with_action_1(&record.claim, place);
+            before += usize::from(next == 20);
+            names += usize::from(matches!(next, 21..=23));
+        }
+        if number == 20 {
+            let unfit = unfit_actions(&record.claim);
+            assert!(unfit.iter().all(|&at| at >= place));
+            same += usize::from(unfit.contains(&place));
+            after += usize::from(unfit.iter().any(|&at| at > place));
+        }
+    }
+    println!(
+        "71 for {above} above 15, {written_out} written out; {before} before a 20, {names} before \
+         21 to 23; {same} 20 at the same entry, {after} at an earlier one"
+    );
+    assert!(above > 200 && written_out > 200);
+    assert!(before > 50 && same > 50 && after > 50 && names > 10);
 }

@@ -46,13 +46,16 @@ fn a_generated_corpus_passes() {
 }
 
 #[test]
-fn the_records_to_be_written_pass() {
-    let path = concat!(
-        env!("CARGO_MANIFEST_DIR"),
-        "/../tests/vectors/t01/write.bin"
-    );
-    let passed = run(&["write", path]);
-    assert_eq!(passed, ("640 passed, 0 failed\n".to_string(), Some(0)));
+fn vectors_pass() {
+    let folder = concat!(env!("CARGO_MANIFEST_DIR"), "/../tests/vectors");
+    for (form, file, count) in [
+        ("write", "t01/write.bin", 640),
+        ("eval-narrow", "base/eval.bin", 519),
+        ("eval", "t04/eval.bin", 399),
+    ] {
+        let passed = run(&[form, &format!("{folder}/{file}")]);
+        assert_eq!(passed, (format!("{count} passed, 0 failed\n"), Some(0)));
+    }
 }
 
 #[test]
@@ -76,6 +79,7 @@ fn damaged_and_missing_files_are_errors() {
     for args in [
         &["check", &cut][..],
         &["eval", &cut],
+        &["eval-narrow", &cut],
         &["write", &cut],
         &["check", "no such file"],
         &["generate", "check", "one", "2", &cut],

@@ -1,6 +1,7 @@
 //! Every record of the vectors.
 
-use reference::{check, corpus, describe, evaluate, Refusal};
+use reference::corpus::{self, EvalRecord};
+use reference::{check, describe, evaluate, Refusal};
 use std::path::Path;
 
 fn vectors(file: &str) -> Vec<u8> {
@@ -14,6 +15,7 @@ fn every_check_agrees() {
         ("base/check.bin", 3551),
         ("t02/check.bin", 1527),
         ("t03/check.bin", 1534),
+        ("t04/check.bin", 1435),
     ];
     for (file, count) in files {
         let checks = corpus::read_checks(&vectors(file)).expect("whole records");
@@ -27,30 +29,42 @@ fn every_check_agrees() {
     }
 }
 
-#[test]
-fn every_evaluation_agrees() {
-    let evals = corpus::read_evals(&vectors("base/eval.bin")).expect("whole records");
-    assert_eq!(evals.len(), 519);
+fn assert_evaluated(file: &str, evals: &[EvalRecord], count: usize) {
+    assert_eq!(evals.len(), count, "{file}");
     for (index, record) in evals.iter().enumerate() {
         let got = evaluate(&record.claim, &record.model);
-        let expected = match Refusal::unpack(record.answer) {
+        let expected = match Refusal::unpack_wide(record.answer) {
             None => Ok(record.words.clone()),
             Some(refusal) => Err(refusal),
         };
-        assert_eq!(got, expected, "eval record {index}");
+        assert_eq!(got, expected, "{file}, record {index}");
     }
-    println!("vectors: {} evaluations agree", evals.len());
+    println!("vectors: {count} evaluations of {file} agree");
+}
+
+#[test]
+fn every_evaluation_agrees() {
+    let file = "base/eval.bin";
+    let evals = corpus::read_narrow_evals(&vectors(file)).expect("whole records");
+    assert_evaluated(file, &evals, 519);
+    let file = "t04/eval.bin";
+    let evals = corpus::read_evals(&vectors(file)).expect("whole records");
+    assert_evaluated(file, &evals, 399);
+    let far = |record: &&EvalRecord| record.answer as u32 > 65_535;
+    assert_eq!(evals.iter().filter(far).count(), 10);
 }
 
 #[test]
 fn every_record_to_be_written_agrees() {
-    let writes = corpus::read_writes(&vectors("t01/write.bin")).expect("whole records");
-    assert_eq!(writes.len(), 640);
-    for (index, record) in writes.iter().enumerate() {
-        let got = record.records.write_claim();
-        assert_eq!(got, record.claim, "write record {index}: claim");
-        let got = record.records.write_proof();
-        assert_eq!(got, record.proof, "write record {index}: proof");
+    for (file, count) in [("t01/write.bin", 640), ("t04/write.bin", 337)] {
+        let writes = corpus::read_writes(&vectors(file)).expect("whole records");
+        assert_eq!(writes.len(), count, "{file}");
+        for (index, record) in writes.iter().enumerate() {
+            let got = record.records.write_claim();
+            assert_eq!(got, record.claim, "{file}, record {index}: claim");
+            let got = record.records.write_proof();
+            assert_eq!(got, record.proof, "{file}, record {index}: proof");
+        }
+        println!("vectors: {count} records to be written of {file} agree");
     }
-    println!("vectors: {} records to be written agree", writes.len());
 }

@@ -8,7 +8,7 @@ use reference::{
     Kind, NodeRecord, ProofRecords, Records, Refusal, Rule,
 };
 
-fn refusal<T>(number: u16, place: u16) -> Result<T, Refusal> {
+fn refusal<T>(number: u16, place: u32) -> Result<T, Refusal> {
     Err(Refusal { number, place })
 }
 
@@ -84,11 +84,11 @@ fn an_answer_is_a_length_or_a_refusal() {
 }
 
 /// Both calls with changed records, the claim's refusal being the proof's too.
-fn assert_refused(change: impl Fn(&mut Records), number: u16, place: u16) {
+fn assert_refused(change: impl Fn(&mut Records), number: u16, place: u32) {
     let mut records = nu_of_box();
     change(&mut records);
     let expected = refusal(number, place);
-    if number < 30 {
+    if number < 30 || number == 71 {
         assert_eq!(records.write_claim(), expected);
     } else {
         assert_eq!(records.write_claim(), Ok(CLAIM.to_vec()));
@@ -145,6 +145,56 @@ fn tables_and_trees() {
         records.nodes[2] = node(Rule::Ax2, [0; 4], 1);
     };
     assert_refused(orphan, 35, 3);
+}
+
+/// "B above 15 is 71", after 20 at the same entry; "B other than 0 with another
+/// kind still 13".
+#[test]
+fn actions() {
+    for action in [16, 17, 255, 256, 65_535] {
+        assert_refused(|records| records.entries[1].b = action, 71, 1);
+        let both = |records: &mut Records| {
+            records.entries[1].b = action;
+            records.entries[1].a = 1;
+        };
+        assert_refused(both, 20, 1);
+        assert_refused(|records| records.entries[2].b = action, 13, 14);
+    }
+    let later = |records: &mut Records| {
+        records.entries[1].b = 16;
+        records.entries[2].a = 2;
+    };
+    assert_refused(later, 71, 1);
+    let earlier = |records: &mut Records| {
+        records.entries[1].b = 16;
+        records.entries[0].a = 1;
+    };
+    assert_refused(earlier, 20, 0);
+    let unguarded = |records: &mut Records| {
+        records.entries[1].b = 16;
+        records.entries[2].a = 0;
+    };
+    assert_refused(unguarded, 71, 1);
+}
+
+/// "map 1 means action 0": the writer never writes a 0 out.
+#[test]
+fn actions_are_laid_down_as_they_must_be_read() {
+    for action in 0..=15 {
+        for kind in [Kind::Diamond, Kind::Box] {
+            let mut records = nu_of_box();
+            records.entries[1] = entry(kind, 0, action);
+            let claim = records.write_claim().expect("a claim");
+            let boxed = match action {
+                0 => vec![1, kind as u8, 0, 0],
+                _ => vec![3, kind as u8, 0, 0, action as u8, 0],
+            };
+            let expected = [&CLAIM[..10], &boxed, &CLAIM[14..]].concat();
+            assert_eq!(claim, expected);
+            let proof = records.write_proof().expect("a proof");
+            assert_gives_back(&records, &claim, &proof);
+        }
+    }
 }
 
 /// The claim's records come before the proof's own.
@@ -213,7 +263,8 @@ fn bytes_beyond_the_end_are_untouched() {
 #[test]
 fn the_longest_files() {
     let mut entries = vec![entry(Kind::Letter, 31, 0)];
-    entries.resize(256, entry(Kind::Or, 0, 0));
+    entries.resize(200, entry(Kind::Or, 0, 0));
+    entries.resize(256, entry(Kind::Box, 0, 15));
     let members: Vec<u16> = (232..256).collect();
     let mut nodes: Vec<_> = (1..1024)
         .map(|child| node(Rule::W, [9, child, 0, 0], 24))
@@ -266,17 +317,19 @@ fn the_same_seed_gives_the_same_records() {
 
 #[test]
 fn every_outcome_of_writing_occurs() {
-    let number = |outcome: Result<_, Refusal>| outcome.map_or_else(Refusal::packed, |_: Vec<u8>| 0);
+    let number = |outcome: Result<Vec<u8>, Refusal>| {
+        outcome.err().map_or(0, |refusal| refusal.number.into())
+    };
     let writes = generate::writes(1).take(10_000);
     let (claims, proofs): (Vec<u32>, Vec<u32>) = writes
         .map(|record| (number(record.claim), number(record.proof)))
         .unzip();
     let (claims, proofs) = (Tally::of(claims.into_iter()), Tally::of(proofs.into_iter()));
     println!("{claims}\n{proofs}");
-    for number in (12..=14).chain(20..=23) {
+    for number in (12..=14).chain(20..=23).chain([71]) {
         assert!(claims.count(number) > 0, "no refusal {number} in\n{claims}");
     }
-    for number in (12..=14).chain(20..=23).chain(32..=35) {
+    for number in (12..=14).chain(20..=23).chain(32..=35).chain([71]) {
         assert!(proofs.count(number) > 0, "no refusal {number} in\n{proofs}");
     }
     assert!(proofs.count(0) * 4 > proofs.total(), "few in\n{proofs}");

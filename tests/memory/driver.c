@@ -1,7 +1,8 @@
-/* Runs the gate's calls over three corpora of records, little-endian:
+/* Runs the gate's calls over corpora of records of these kinds, little-endian:
  *   checks  [u32 claim length][claim][u32 proof length][proof][u32 answer]
- *   evals   [u32 claim length][claim][u32 model length][model][u32 answer]
+ *   evals   [u32 claim length][claim][u32 model length][model][u64 answer]
  *           [u32 n][n x u64 word]
+ *   narrow  evals with a u32 answer, refusal x 65,536 + place
  *   writes  [u32 form][u32 entry count][u32 n][n x entry][u32 n][n x u16 goal count]
  *           [u32 n][n x u16 member][u32 node count][u32 n][n x node]
  *           [u32 n][n x u16 root][u32 n][n x u16 code]
@@ -40,6 +41,7 @@ struct file {
 struct tally {
     unsigned long passed;
     unsigned long failed;
+    int wide; /* whether the answers are those of evaluations */
 };
 
 /* All that decodings and evaluations have left in lent slices, added up. */
@@ -120,12 +122,25 @@ static int drop_file(struct file file)
     return kept;
 }
 
-/* The length of a written file shows as 0 at that length. */
-static void show_answer(const char *call, unsigned long record, uint64_t expected, uint64_t got)
+static void show_answer(uint64_t answer, int wide)
 {
-    printf("%s, record %lu: expected %u at %u, got %u at %u\n", call, record,
-           (unsigned)FOCUS_NUMBER(expected), (unsigned)FOCUS_PLACE(expected),
-           (unsigned)FOCUS_NUMBER(got), (unsigned)FOCUS_PLACE(got));
+    if (wide) {
+        printf("%u at %u", (unsigned)FOCUS_EVALUATE_NUMBER(answer),
+               (unsigned)FOCUS_EVALUATE_PLACE(answer));
+    } else {
+        printf("%u at %u", (unsigned)FOCUS_NUMBER(answer), (unsigned)FOCUS_PLACE(answer));
+    }
+}
+
+/* The length of a written file shows as 0 at that length. */
+static void show_answers(const char *call, unsigned long record, uint64_t expected, uint64_t got,
+                         int wide)
+{
+    printf("%s, record %lu: expected ", call, record);
+    show_answer(expected, wide);
+    printf(", got ");
+    show_answer(got, wide);
+    printf("\n");
 }
 
 static void count(struct tally *tally, const char *call, uint64_t expected, uint64_t got, int kept)
@@ -136,7 +151,7 @@ static void count(struct tally *tally, const char *call, uint64_t expected, uint
         return;
     }
     if (tally->failed < SHOWN) {
-        show_answer(call, record, expected, got);
+        show_answers(call, record, expected, got, tally->wide);
         if (!kept) {
             printf("  something that was lent is not as it must be\n");
         }
@@ -219,8 +234,8 @@ static int present(struct file claim, struct file proof, uint32_t tag, uint32_t 
 static struct tally run_checks(const char *path)
 {
     struct corpus corpus = read_corpus(path);
-    struct tally checked = {0, 0};
-    struct tally presented = {0, 0};
+    struct tally checked = {0, 0, 0};
+    struct tally presented = {0, 0, 0};
     while (corpus.at < corpus.length) {
         struct file claim = take_file(&corpus);
         struct file proof = take_file(&corpus);
@@ -236,21 +251,34 @@ static struct tally run_checks(const char *path)
     free(corpus.bytes);
     printf("check: %lu passed, %lu failed\n", checked.passed, checked.failed);
     printf("present: %lu passed, %lu failed\n", presented.passed, presented.failed);
-    return (struct tally){checked.passed + presented.passed, checked.failed + presented.failed};
+    return (struct tally){checked.passed + presented.passed, checked.failed + presented.failed, 0};
 }
 
-static struct tally run_evals(const char *path)
+/* What an evaluation answers for a refusal. */
+static uint64_t evaluate_refusal(uint32_t number, uint32_t place)
+{
+    return (uint64_t)number << 32 | place;
+}
+
+/* The answer of an evaluation, of 8 bytes or of 4. */
+static uint64_t take_evaluate_answer(struct corpus *corpus, size_t width)
+{
+    uint64_t answer = take_number(corpus, width);
+    return width == 8 ? answer : evaluate_refusal(FOCUS_NUMBER(answer), FOCUS_PLACE(answer));
+}
+
+static struct tally run_evals(const char *path, size_t width)
 {
     struct corpus corpus = read_corpus(path);
-    struct tally evaluated = {0, 0};
+    struct tally evaluated = {0, 0, 1};
     while (corpus.at < corpus.length) {
         struct file claim = take_file(&corpus);
         struct file model = take_file(&corpus);
-        uint32_t expected = (uint32_t)take_number(&corpus, 4);
+        uint64_t expected = take_evaluate_answer(&corpus, width);
         size_t length = (size_t)take_number(&corpus, 4);
         focus_entry *entries = block(FOCUS_ENTRIES, sizeof *entries);
         uint64_t *words = block(FOCUS_WORDS, sizeof *words);
-        uint32_t got = focus_evaluate(claim.bytes, claim.length, model.bytes, model.length, entries,
+        uint64_t got = focus_evaluate(claim.bytes, claim.length, model.bytes, model.length, entries,
                                       FOCUS_ENTRIES, words, FOCUS_WORDS);
         int right = 1;
         if (got == 0 && expected == 0) {
@@ -446,8 +474,8 @@ static void write_one(enum call call, const struct records *records, struct writ
 static struct tally run_writes(const char *path)
 {
     struct corpus corpus = read_corpus(path);
-    struct tally wrote = {0, 0};
-    struct tally refused = {0, 0};
+    struct tally wrote = {0, 0, 0};
+    struct tally refused = {0, 0, 0};
     while (corpus.at < corpus.length) {
         struct records records = take_records(&corpus);
         struct written claim = take_written(&corpus);
@@ -459,7 +487,7 @@ static struct tally run_writes(const char *path)
     free(corpus.bytes);
     printf("write: %lu passed, %lu failed\n", wrote.passed, wrote.failed);
     printf("write, output a byte short: %lu passed, %lu failed\n", refused.passed, refused.failed);
-    return (struct tally){wrote.passed + refused.passed, wrote.failed + refused.failed};
+    return (struct tally){wrote.passed + refused.passed, wrote.failed + refused.failed, 0};
 }
 
 /* Lengths of entries, nodes and codes of which one at least is too short. */
@@ -472,8 +500,9 @@ static const size_t short_records[][3] = {
 enum { SHORT_RECORDS = sizeof short_records / sizeof short_records[0] };
 
 /* The writer over records of which none is set. */
-static void write_short(struct tally *refused)
+static struct tally write_short(void)
 {
+    struct tally refused = {0, 0, 0};
     for (size_t i = 0; i < SHORT_RECORDS; i++) {
         const size_t *lengths = short_records[i];
         struct records records = {1, 1, 1, NULL, NULL, NULL, NULL};
@@ -484,25 +513,22 @@ static void write_short(struct tally *refused)
         uint8_t *out = block(FOCUS_PROOF_BYTES, 1);
         uint64_t expected = written_refusal(FOCUS_SHORT_SLICE);
         uint64_t got = lend_and_write(WRITING_PROOF, &records, lengths, out, FOCUS_PROOF_BYTES);
-        count(refused, "write proof, short", expected, got, 1);
+        count(&refused, "write proof, short", expected, got, 1);
         if (lengths[0] < FOCUS_ENTRIES) {
             got = lend_and_write(WRITING_CLAIM, &records, lengths, out, FOCUS_PROOF_BYTES);
-            count(refused, "write claim, short", expected, got, 1);
+            count(&refused, "write claim, short", expected, got, 1);
         }
         free(out);
         drop_records(records);
     }
+    return refused;
 }
 
-/* Slices that are too short, none at all included: nothing may be touched. */
-static struct tally run_short(const char *checks, const char *evals)
+/* Slices that are too short, none at all included: nothing may be touched. The
+ * files are the first of these corpora. */
+static struct tally present_short(const char *checks)
 {
-    static const size_t meanings[][2] = {
-        {FOCUS_ENTRIES - 1, FOCUS_WORDS},
-        {FOCUS_ENTRIES, FOCUS_WORDS - 1},
-        {0, 0},
-    };
-    struct tally refused = {0, 0};
+    struct tally refused = {0, 0, 0};
     struct corpus corpus = read_corpus(checks);
     struct file claim = take_file(&corpus);
     struct file proof = take_file(&corpus);
@@ -516,24 +542,38 @@ static struct tally run_short(const char *checks, const char *evals)
     drop_file(claim);
     drop_file(proof);
     free(corpus.bytes);
+    return refused;
+}
 
-    corpus = read_corpus(evals);
-    claim = take_file(&corpus);
+static struct tally evaluate_short(const char *evals)
+{
+    static const size_t meanings[][2] = {
+        {FOCUS_ENTRIES - 1, FOCUS_WORDS},
+        {FOCUS_ENTRIES, FOCUS_WORDS - 1},
+        {0, 0},
+    };
+    struct tally refused = {0, 0, 1};
+    struct corpus corpus = read_corpus(evals);
+    struct file claim = take_file(&corpus);
     struct file model = take_file(&corpus);
     for (size_t i = 0; i < sizeof meanings / sizeof meanings[0]; i++) {
         const size_t *lengths = meanings[i];
         focus_entry *entries = block(lengths[0], sizeof *entries);
         uint64_t *words = block(lengths[1], sizeof *words);
-        uint32_t got = focus_evaluate(claim.bytes, claim.length, model.bytes, model.length, entries,
+        uint64_t got = focus_evaluate(claim.bytes, claim.length, model.bytes, model.length, entries,
                                       lengths[0], words, lengths[1]);
-        count(&refused, "evaluate, short", expected, got, 1);
+        count(&refused, "evaluate, short", evaluate_refusal(FOCUS_SHORT_SLICE, 0), got, 1);
         free(entries);
         free(words);
     }
     drop_file(claim);
     drop_file(model);
     free(corpus.bytes);
-    write_short(&refused);
+    return refused;
+}
+
+static struct tally show_short(struct tally refused)
+{
     printf("short slices: %lu passed, %lu failed\n", refused.passed, refused.failed);
     return refused;
 }
@@ -544,17 +584,32 @@ static int good(struct tally run)
     return run.failed == 0 && run.passed != 0;
 }
 
+/* The calls that take records of that kind, over a corpus of them; with its first
+ * record, or with none set, also in slices that are too short. */
+static int run(const char *kind, const char *path)
+{
+    if (strcmp(kind, "checks") == 0) {
+        return good(show_short(present_short(path))) & good(run_checks(path));
+    }
+    if (strcmp(kind, "writes") == 0) {
+        return good(show_short(write_short())) & good(run_writes(path));
+    }
+    int narrow = strcmp(kind, "narrow") == 0;
+    if (!narrow && strcmp(kind, "evals") != 0) {
+        give_up("no kind of records", kind);
+    }
+    return good(show_short(evaluate_short(path))) & good(run_evals(path, narrow ? 4 : 8));
+}
+
 int main(int arguments_count, char **arguments)
 {
-    if (arguments_count < 4) {
-        fprintf(stderr, "usage: driver EVALS WRITES CHECKS...\n");
+    if (arguments_count < 3 || arguments_count % 2 == 0) {
+        fprintf(stderr, "usage: driver (checks|evals|narrow|writes CORPUS)...\n");
         return 2;
     }
-    int all_good = good(run_evals(arguments[1]));
-    all_good &= good(run_writes(arguments[2]));
-    all_good &= good(run_short(arguments[3], arguments[1]));
-    for (int i = 3; i < arguments_count; i++) {
-        all_good &= good(run_checks(arguments[i]));
+    int all_good = 1;
+    for (int i = 1; i < arguments_count; i += 2) {
+        all_good &= run(arguments[i], arguments[i + 1]);
     }
     /* Printing the sum is what makes it depend on every byte that was left. */
     printf("sum of what was left in lent slices: %llu\n", (unsigned long long)left);

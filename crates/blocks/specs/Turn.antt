@@ -22,7 +22,7 @@ use Rattle.states.specs.Words.{word}
 use Rattle.states.specs.WordLaws.{word-inside, word-past}
 use Rattle.states.specs.BitLaws.{bits-same}
 use Rattle.states.specs.StateWords.{setsOf, by-bits}
-use Rattle.states.specs.PlainModel.{rowModel}
+use Rattle.states.specs.Rows.{rowModel}
 use Rattle.forming.specs.Settled.{formed}
 use Rattle.blocks.specs.Iteration.{Block, Moving, Rests, left, left-most, moving-begin, moving-formed, onward, rests-woken, rests-same, moving-end, left-down, left-less}
 use Rattle.entry_sets.specs.Counting.{Within, count, count-mono, count-less, count-some, measure, measure-less, measure-same}

@@ -9,7 +9,7 @@ use lib.ListN.{length}
 use Rattle.formula.specs.Kind
 use Rattle.verdict.specs.Sets.{Same, _⊆_, image}
 use Rattle.verdict.specs.Tests.{all}
-use Rattle.formula.specs.Table.{Table, entry, kind}
+use Rattle.formula.specs.Table.{Table, entry, kind, action}
 use Rattle.formula.specs.ShapeLaws.{box-shape, diamond-shape}
 use Rattle.formula.specs.Target.{targetA}
 use Rattle.formula.specs.Codes.{Formula, entryOf, focusOf}
@@ -18,15 +18,19 @@ use Rattle.formula.specs.Claim.{Claim, Derivation}
 use Rattle.written.specs.SameKind.{box-like}
 use Rattle.written.specs.Canon.{key}
 use Rattle.calculus.specs.Sequents.{Member, read, listed, firstSequent, principal, formula, Belongs}
-use Rattle.calculus.specs.Rules.{stepped, Principal}
+use Rattle.calculus.specs.Rules.{DiamondOf, stepped, Principal}
 use Rattle.calculus.specs.View.{plain}
-use Rattle.calculus.specs.Judge.{codes, box-kept}
+use Rattle.calculus.specs.Judge.{diamond-of, codes, box-kept}
 use Rattle.calculus.specs.Given.{Given}
-use Rattle.verdict.specs.Tells.{Tells, tells-as, eqb-tells, or-tells, and-tells-given}
+use Rattle.verdict.specs.Tells.{Tells, tells-as, eqb-tells, or-tells, and-tells, and-tells-given}
 use Rattle.verdict.specs.SetTells.{all-tells}
 use Rattle.calculus.specs.MemberLaws.{same-member}
 use Rattle.calculus.specs.KeyLaws.{Good, key-says, key-holds, keys-image, same-keys}
 use Rattle.calculus.specs.PrincipalLaws.{code-good, operand-formula, sequent-keys, principal-tells}
+
+diamond-tells : (t : Table) (n e : ℕ) → Tells (diamond-of t n e) (DiamondOf t n e)
+unfolding diamond-of
+diamond-tells t n e = and-tells (eqb-tells (kind t e) Kind.DIAMOND) (eqb-tells (action t e) n)
 
 module _ (c : Claim) (d : Derivation) (G : Given c d) (v : ℕ) (real : v < length (d .nodes)) where
   abbrev t : Table
@@ -35,17 +39,21 @@ module _ (c : Claim) (d : Derivation) (G : Given c d) (v : ℕ) (real : v < leng
   abbrev p : Proof
   p = d .nodes
 
-  -- all other members are diamonds
+  -- a diamond of the principal's action
+  abbrev Diamond : ℕ → Type 0
+  Diamond x = DiamondOf t (action t (formula p v)) (entryOf x)
+
+  -- all other members are
   abbrev pub Others : Type 0
-  Others = (x : ℕ) → listed p v x → read t x ≢ read t (principal p v) → kind t (entryOf x) ≡ Kind.DIAMOND
+  Others = (x : ℕ) → listed p v x → read t x ≢ read t (principal p v) → Diamond x
 
   abbrev Either : ℕ → Type 0
-  Either x = (key t x ≡ key t (principal p v)) ⊎ (kind t (entryOf x) ≡ Kind.DIAMOND)
+  Either x = (key t x ≡ key t (principal p v)) ⊎ Diamond x
 
   others-say : Belongs t p v → (listed p v ⊆ Either) → Others
   others-say b f x n a = go (f x n)
     where
-      go : Either x → kind t (entryOf x) ≡ Kind.DIAMOND
+      go : Either x → Diamond x
       go (inl q) = absurd (a (key-says t x (principal p v) (G .members v x real n) (b .formula) q))
       go (inr q) = q
 
@@ -56,9 +64,9 @@ module _ (c : Claim) (d : Derivation) (G : Given c d) (v : ℕ) (real : v < leng
       go (yes q) = inl (key-holds t x (principal p v) q)
       go (no q) = inr (f x n q)
 
-  others-tells : Belongs t p v → Tells (all (λ x. eqb (key t x) (key t (principal p v)) || eqb (kind t (entryOf x)) Kind.DIAMOND) (codes (plain p) v)) Others
+  others-tells : Belongs t p v → Tells (all (λ x. eqb (key t x) (key t (principal p v)) || diamond-of t (action t (formula p v)) (entryOf x)) (codes (plain p) v)) Others
   others-tells b = tells-as (others-say b) others-hold
-      (all-tells (λ x. or-tells (eqb-tells (key t x) (key t (principal p v))) (eqb-tells (kind t (entryOf x)) Kind.DIAMOND)) (codes (plain p) v))
+      (all-tells (λ x. or-tells (eqb-tells (key t x) (key t (principal p v))) (diamond-tells t (action t (formula p v)) (entryOf x))) (codes (plain p) v))
 
   -- every member has a target: the principal's twins are boxes like it
   stepped-good : Principal c d v Kind.BOX → Others → (x : ℕ) → listed p v x → Good t (stepped t x)
@@ -71,7 +79,7 @@ module _ (c : Claim) (d : Derivation) (G : Given c d) (v : ℕ) (real : v < leng
       go (yes q) =
           let k = box-like t (G .well) (formula p v) (entryOf x) (P .of-kind) F (ap (λ (m : Member). m .0) (sym q)) .0 in
           operand-formula t (G .well) (entryOf x) (entry t (entryOf x) .a) F (box-shape t (entryOf x) k) refl
-      go (no q) = operand-formula t (G .well) (entryOf x) (entry t (entryOf x) .a) F (diamond-shape t (entryOf x) (f x n q)) refl
+      go (no q) = operand-formula t (G .well) (entryOf x) (entry t (entryOf x) .a) F (diamond-shape t (entryOf x) (f x n q .0)) refl
 
   pub box-exact : node p v .first < length p
       → Tells (box-kept t (plain p) v) (Principal c d v Kind.BOX × (Others × Same (firstSequent t p v) (image (λ x. read t (stepped t x)) (listed p v))))

@@ -5,7 +5,7 @@ use mathlib.Core.Bool.{true, false}
 use Prim.Native.Nat.{ℕ, suc, _<_}
 use Rattle.meaning.specs.States.{Model, Successor}
 use Rattle.formula.specs.Kind
-use Rattle.formula.specs.Table.{Table, entry, kind}
+use Rattle.formula.specs.Table.{Table, entry, kind, action}
 use Rattle.formula.specs.Codes.{Formula}
 use Rattle.formula.specs.Target.{targetA, targetB}
 use Rattle.written.specs.Written.{SameFormula}
@@ -19,8 +19,8 @@ pub record Passes (t : Table) (m : Model) (Here Next : Family) : Type 0 where
   pub or : (e s : ℕ) → s < m .size → kind t e ≡ Kind.OR → Here e s → Here (targetA t e) s × Here (targetB t e) s
   pub and : (e s : ℕ) → s < m .size → kind t e ≡ Kind.AND → Here e s → Here (targetA t e) s ⊎ Here (targetB t e) s
   pub nu : (e s : ℕ) → s < m .size → kind t e ≡ Kind.NU → Here e s → Here (targetA t e) s
-  pub box : (e s : ℕ) → s < m .size → kind t e ≡ Kind.BOX → Here e s → (u : ℕ) × Successor m s u × Next (targetA t e) u
-  pub diamond : (e s : ℕ) → s < m .size → kind t e ≡ Kind.DIAMOND → Here e s → (u : ℕ) → Successor m s u → Next (targetA t e) u
+  pub box : (e s : ℕ) → s < m .size → kind t e ≡ Kind.BOX → Here e s → (u : ℕ) × Successor m (action t e) s u × Next (targetA t e) u
+  pub diamond : (e s : ℕ) → s < m .size → kind t e ≡ Kind.DIAMOND → Here e s → (u : ℕ) → Successor m (action t e) s u → Next (targetA t e) u
 
 -- refuted with one step less
 abbrev pub OneLess : (ℕ → Family) → ℕ → Family

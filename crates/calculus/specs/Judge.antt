@@ -6,7 +6,7 @@ use lib.Dec.{eqb, ltb, leb}
 use lib.ListN.{length, getD}
 use Rattle.formula.specs.Kind
 use Rattle.formula.specs.Rule
-use Rattle.formula.specs.Table.{Table, entry, kind}
+use Rattle.formula.specs.Table.{Table, entry, kind, action}
 use Rattle.formula.specs.Target.{target, targetA, targetB}
 use Rattle.formula.specs.Codes.{code, entryOf, focusOf}
 use Rattle.verdict.specs.Tests.{choose, all, any, member, remove, each}
@@ -51,6 +51,10 @@ module _ (q : View) where
   unfoldable pub ancestor : ℕ → ℕ → Bool
   unfolding climb member
   ancestor c w = ltb c w && member (climb w c w) c
+
+-- a diamond of action n
+unfoldable pub diamond-of : Table → ℕ → ℕ → Bool
+diamond-of t n e = eqb (kind t e) Kind.DIAMOND && eqb (action t e) n
 
 -- a letter and its negation
 unfoldable pub opposite : Table → ℕ → ℕ → Bool
@@ -134,10 +138,10 @@ module _ (t : Table) (q : View) where
 
   -- of two boxes that are the same formula with the same focus, the other is the principal too
   unfoldable pub box-kept : ℕ → Bool
-  unfolding of-kind all each target keys canon
+  unfolding of-kind diamond-of all each target keys canon
   box-kept v =
       of-kind Kind.BOX v
-      && (all (λ c. eqb (key t c) (key t (principal q v)) || eqb (kind t (entryOf c)) Kind.DIAMOND) (codes q v)
+      && (all (λ c. eqb (key t c) (key t (principal q v)) || diamond-of t (action t (formula q v)) (entryOf c)) (codes q v)
       && q .same (firstKeys v) (each (λ c. key t (stepped t c)) (codes q v)))
 
   unfoldable pub mu-kept : ℕ → Bool

@@ -34,8 +34,8 @@ module _ (t : Table) (wf : WellFormed t) (M : Model) where
     or = λ e s l q f. two-false or _ _ s .0 (by-shape e s l (or-shape t e q) f);
     and = λ e s l q f. two-false and _ _ s .0 (by-shape e s l (and-shape t e q) f);
     nu = λ e s l q f. by-shape e s l (nu-shape t e q) f;
-    box = λ e s l q f. let (u, k, h, g) = step-false M box _ s .0 (by-shape e s l (box-shape t e q) f) in (u, (k, h), g);
-    diamond = λ e s l q f u h. step-false M diamond _ s .0 (by-shape e s l (diamond-shape t e q) f) u (h .0) (h .1);
+    box = λ e s l q f. let (u, k, h, g) = step-false M (box _) _ s .0 (by-shape e s l (box-shape t e q) f) in (u, (k, h), g);
+    diamond = λ e s l q f u h. step-false M (diamond _) _ s .0 (by-shape e s l (diamond-shape t e q) f) u (h .0) (h .1);
   }
 
   pub refuted-passes : (j : ℕ) → Passes t M (Refuted M t j) (OneLess (Refuted M t) j)
@@ -63,5 +63,5 @@ module _ (t : Table) (wf : WellFormed t) (M : Model) where
     complete = λ e s l F f. (rank M t, rw (target-other t e (F .no-name)) at (false-refuted M t wf e s l f));
     false-like = λ e f s l q h. false-like M t wf e f s l q h;
     refuted-like = λ j e f s l F q r. refuted-like M t wf j e f s l (formula-shape t f F) q r;
-    box-like = λ e f k F q. box-like t wf e f k F q .1;
+    box-like = λ e f k F q. box-like t wf e f k F q .2;
   }

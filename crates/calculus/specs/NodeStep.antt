@@ -7,7 +7,7 @@ use lib.ListN.{length}
 use Rattle.formula.specs.Kind
 use Rattle.formula.specs.Rule
 use Rattle.verdict.specs.Sets.{Set, _⊆_, image, ⊆-trans, plus-⊆, image-⊆, _plus_}
-use Rattle.formula.specs.Table.{Table, kind}
+use Rattle.formula.specs.Table.{Table, action}
 use Rattle.formula.specs.Codes.{Formula, entryOf, focusOf, code-entry, code-focus}
 use Rattle.formula.specs.Members.{kind-formula}
 use Rattle.formula.specs.Target.{targetA}
@@ -17,7 +17,7 @@ use Rattle.written.specs.Written.{written, SameFormula}
 use Rattle.calculus.specs.Tree.{Child, first, second}
 use Rattle.calculus.specs.Sequents.{Member, member, read, rule, listed, sequent, firstSequent, principal, formula, focus, side, Belongs}
 use Rattle.calculus.specs.MemberLaws.{same-member}
-use Rattle.calculus.specs.Rules.{stepped, A, B, Principal, Clash, Truth, Step, ax1, ax2, or, and, box, mu, nu, weaken, into-focus, out-of-focus, discharge}
+use Rattle.calculus.specs.Rules.{DiamondOf, stepped, A, B, Principal, Clash, Truth, Step, ax1, ax2, or, and, box, mu, nu, weaken, into-focus, out-of-focus, discharge}
 use Rattle.calculus.specs.Loops.{OnLoop}
 use Rattle.meaning.specs.States.{Model, Successor}
 use Rattle.calculus.specs.Falsity.{Falsity, Passes}
@@ -125,8 +125,8 @@ module _ (c : Claim) {m : Model} (M : Falsity (c .entries) m) (d : Derivation) (
         box-falls = λ l. absurd (l .not-F e);
       }
 
-  module _ (P : Principal c d v Kind.BOX) (diamonds : (x : ℕ) → listed p v x → read t x ≢ read t (principal p v) → kind t (entryOf x) ≡ Kind.DIAMOND)
-      (u : ℕ) (edge : Successor m s u) (o : OwedNext M j (focus p v) (A c d v) u) where
+  module _ (P : Principal c d v Kind.BOX) (diamonds : (x : ℕ) → listed p v x → read t x ≢ read t (principal p v) → DiamondOf t (action t (formula p v)) (entryOf x))
+      (u : ℕ) (edge : Successor m (action t (formula p v)) s u) (o : OwedNext M j (focus p v) (A c d v) u) where
     -- at the successor that refutes the box, every listed entry's target fails, and one in focus has a step to spare
     abbrev Next : ℕ → Type 0
     Next x = Fails M (pred j) u (read t (stepped t x)) × (focusOf x ≡ 1 → pred j < j)
@@ -139,7 +139,7 @@ module _ (c : Claim) {m : Model} (M : Falsity (c .entries) m) (d : Derivation) (
         let fails = fails-member M (pred j) u e f (edge .0) (owed-next M j f e u w) in
         (subst (Fails M (pred j) u) (ap₂ {C = Member} (λ F f. (F, f)) a b) fails, λ h. focused-next M j f e u (q ∙ h) w)
 
-    -- a twin of the principal by the principal, any other entry being a diamond
+    -- a twin of the principal by the principal, any other entry being a diamond of its action
     member-next : (x : ℕ) → listed p v x → Next x
     member-next x n = pick (same-member (read t x) (read t (principal p v)))
       where
@@ -149,7 +149,8 @@ module _ (c : Claim) {m : Model} (M : Falsity (c .entries) m) (d : Derivation) (
             by-entry x (A c d v) (focus p v) (ap (λ (k : Member). k .1) (sym q)) like o
         pick (no q) =
             let owes = entry-owed x (F x n) (x, n, refl) in
-            by-entry x (targetA t (entryOf x)) (focusOf x) refl refl (owed-passes M j (focusOf x) .diamond (entryOf x) s (r .inside) (diamonds x n q) owes u edge)
+            let (k, a) = diamonds x n q in
+            by-entry x (targetA t (entryOf x)) (focusOf x) refl refl (owed-passes M j (focusOf x) .diamond (entryOf x) s (r .inside) k owes u (rw a edge))
 
     targets-fail : image (λ x. read t (stepped t x)) (listed p v) ⊆ Fails M (pred j) u
     targets-fail = image-⊆ (Fails M (pred j) u) (λ x. read t (stepped t x)) (λ x n. member-next x n .0)

@@ -1,5 +1,5 @@
--- what T-03 asks of a principal and soundness does not: a definition, its test and its law could be changed together without these samples, each
--- computed from the judge (crate samples has more, as files)
+-- what T-03 asks of a principal and T-04 of the diamonds beside a box: where soundness does not ask it, a definition, its test and its law could
+-- be changed together without these samples, each computed from the judge (crate samples has more, as files)
 use mathlib.Core.Path.{_≡_, refl}
 use mathlib.Core.List.{List, [], _∷_}
 use Prim.Native.Nat.{ℕ}
@@ -13,6 +13,10 @@ use Rattle.calculus.specs.Judge.{judge}
 
 abbrev one : ℕ → ℕ → Entry
 one k a = record { kind = k; a = a; b = 0 }
+
+-- a box or diamond of action n
+abbrev by : ℕ → ℕ → ℕ → Entry
+by n k a = record { kind = k; a = a; b = n }
 
 -- true, and true again; true, and false
 abbrev twoTrue : Claim
@@ -51,3 +55,39 @@ out-of-range-dropped = refl
 number-dropped : (judge trueAndNu (dropped 7 (1 ∷ 7 ∷ [])) ≡ accepted) × (judge trueAndFalse (dropped 3 (1 ∷ 3 ∷ [])) ≡ accepted)
 unfolding judge ℕ-discrete
 number-dropped = (refl, refl)
+
+-- 2: a box of action m on a letter, and 3: a diamond of action n on its negation
+abbrev boxAndDiamond : ℕ → ℕ → Claim
+boxAndDiamond m n = record { entries = one Kind.LETTER 0 ∷ one Kind.NEGATED 0 ∷ by m Kind.BOX 0 ∷ by n Kind.DIAMOND 1 ∷ []; members = 2 ∷ 3 ∷ [] }
+
+-- 1: a box of action m on true, and 2: one of action n
+abbrev twoBoxes : ℕ → ℕ → Claim
+twoBoxes m n = record { entries = one Kind.TRUE 0 ∷ by m Kind.BOX 0 ∷ by n Kind.BOX 0 ∷ []; members = 1 ∷ 2 ∷ [] }
+
+-- the box step of a principal, then an axiom
+abbrev boxStep : ℕ → List ℕ → ℕ → List ℕ → Derivation
+boxStep x l r k = record {
+  nodes =
+      record { rule = Rule.BOX; principal = x; first = 1; second = 0; back = 0; codes = l }
+      ∷ record { rule = r; principal = 0; first = 0; second = 0; back = 0; codes = k } ∷ [];
+}
+
+abbrev toClash : Derivation
+toClash = boxStep 5 (5 ∷ 7 ∷ []) Rule.AX1 (1 ∷ 3 ∷ [])
+
+abbrev toTruth : Derivation
+toTruth = boxStep 3 (3 ∷ 5 ∷ []) Rule.AX2 (1 ∷ [])
+
+-- "The box rule needs diamonds of the principal's own action"
+own-action : (judge (boxAndDiamond 3 3) toClash ≡ accepted) × (judge (boxAndDiamond 0 0) toClash ≡ accepted)
+unfolding judge ℕ-discrete
+own-action = (refl, refl)
+
+other-action : (judge (boxAndDiamond 1 2) toClash ≡ refused 37 0) × (judge (boxAndDiamond 0 5) toClash ≡ refused 37 0)
+unfolding judge ℕ-discrete
+other-action = (refl, refl)
+
+-- two boxes on one formula are one formula where their actions are one
+twin-by-action : (judge (twoBoxes 4 4) toTruth ≡ accepted) × (judge (twoBoxes 1 2) toTruth ≡ refused 37 0)
+unfolding judge ℕ-discrete
+twin-by-action = (refl, refl)

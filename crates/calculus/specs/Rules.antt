@@ -5,13 +5,17 @@ use Prim.Native.Nat.{ℕ}
 use Rattle.formula.specs.Kind
 use Rattle.formula.specs.Rule
 use Rattle.verdict.specs.Sets.{Same, none, image, _plus_}
-use Rattle.formula.specs.Table.{Table, entry, kind}
+use Rattle.formula.specs.Table.{Table, entry, kind, action}
 use Rattle.formula.specs.Target.{targetA, targetB}
 use Rattle.formula.specs.Codes.{code, entryOf, focusOf}
 use Rattle.formula.specs.Nodes.{Proof, node}
 use Rattle.formula.specs.Claim.{Claim, Derivation}
 use Rattle.calculus.specs.Sequents.{member, read, rule, listed, sequent, firstSequent, secondSequent, principal, formula, focus, side, Belongs}
 use Rattle.calculus.specs.Paths.{Ancestor}
+
+-- a diamond of action n: "The box rule needs diamonds of the principal's own action"
+abbrev pub DiamondOf : Table → ℕ → ℕ → Type 0
+DiamondOf t n e = (kind t e ≡ Kind.DIAMOND) × (action t e ≡ n)
 
 -- the target of a modal member, with the member's focus
 abbrev pub stepped : Table → ℕ → ℕ
@@ -65,7 +69,7 @@ module _ (c : Claim) (d : Derivation) (v : ℕ) where
         → Step
     box : rule p v ≡ Rule.BOX
         → Principal Kind.BOX
-        → ((x : ℕ) → listed p v x → read t x ≢ read t (principal p v) → kind t (entryOf x) ≡ Kind.DIAMOND)
+        → ((x : ℕ) → listed p v x → read t x ≢ read t (principal p v) → DiamondOf t (action t (formula p v)) (entryOf x))
         → Same (firstSequent t p v) (image (λ x. read t (stepped t x)) (listed p v))
         → Step
     mu : rule p v ≡ Rule.MU → Principal Kind.MU → Same (firstSequent t p v) (side t p v plus member t A 0) → Step

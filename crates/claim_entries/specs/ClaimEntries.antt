@@ -1,18 +1,19 @@
 -- the entries of a claim file, as the program walks over them and stores their columns
-use mathlib.Core.Path.{_≡_, refl}
+use mathlib.Core.Path.{_≡_, refl, sym, ap, _∙_}
 use mathlib.Core.List.{List, [], _∷_, _++_}
 use Prim.Native.Nat.{ℕ, _+_, _*_, _-_, _<_, _≤_}
 use native.Mathlib.Omega.{arith}
 use lib.ListN.{length, drop, set}
 use Rattle.verdict.specs.Lists.{written}
-use Rattle.formula.specs.Table.{Table}
+use Rattle.formula.specs.Table.{Entry, Table}
 use Rattle.formula.specs.Columns.{column, kindColumn, aColumn, bColumn, column-stored}
+use Rattle.formula.specs.Spelled.{Spelled, marked, markedOf, tableBy, by-length, by-more}
 use Rattle.encoding.specs.Parse.{Got, fault, times, count, two}
-use Rattle.claim_files.specs.ReadClaim.{early, made, entry, entries}
+use Rattle.claim_files.specs.ReadClaim.{early, entry, entries}
 use Rattle.encoding.specs.Walk.{Reached, Walking, walk-begins, walk-steps, walk-stops, walk-ends, counted-starts, counted-cut}
 use Rattle.encoding.specs.Places.{InFile}
 use Rattle.file_parts.specs.Numbers.{countAt, count-inside}
-use Rattle.claim_entries.specs.ClaimEntry.{entryAt}
+use Rattle.claim_entries.specs.ClaimEntry.{entryAt, EntryGot}
 use Rattle.file_parts.specs.Parts.{ListRead, PartTells, part-as}
 use Rattle.file_parts.specs.declared.Part.{Part}
 
@@ -29,11 +30,11 @@ pub record EntriesStored (ks₀ ks xs₀ xs ys₀ ys : List ℕ) (es : Table) : 
   pub b-fields : ys ≡ written (bColumn es) ys₀
 
 -- n entries from a place on
-unfoldable pub entriesFrom : ℕ → List ℕ → ℕ → Got Table
+unfoldable pub entriesFrom : ℕ → List ℕ → ℕ → Got (List Spelled)
 entriesFrom n s at = times (λ _. entry) (λ _ _. 0) n 0 (drop at s) at
 
 -- the entries' part of a file
-unfoldable pub entriesAt : List ℕ → ℕ → Got Table
+unfoldable pub entriesAt : List ℕ → ℕ → Got (List Spelled)
 entriesAt s at = entries (drop at s) at
 
 module _ (s : List ℕ) (at : ℕ) where
@@ -50,20 +51,20 @@ module _ (s : List ℕ) {n o : ℕ} (h : Reached s (4 + 2) (countAt 256 12 early
   pub entries-place : InFile s 6 o × (n ≤ 256)
   entries-place = (record { within = h .inside; low = h .near }, count-inside early s 4 256 12 h .1)
 
-  pub entries-tell : (Stored : Table → Type 0) (r : Part) → PartTells s (o + 6 * n) 256 (entriesFrom n s o) Stored r → PartTells s 1542 256 (entriesAt s 4) Stored r
+  pub entries-tell : (Stored : List Spelled → Type 0) (r : Part) → PartTells s (o + 6 * n) 256 (entriesFrom n s o) Stored r → PartTells s 1542 256 (entriesAt s 4) Stored r
   entries-tell Stored r t = part-as s 256 Stored r (omega (arith, h .near, count-inside early s 4 256 12 h)) (entries-start s 4 h) t
 
 -- i of n entries are read and stored
 pub record Entered (s : List ℕ) (from n : ℕ) (ks₀ xs₀ ys₀ : List ℕ) (i at : ℕ) (ks xs ys : List ℕ) : Type 0 where
-  pub es : Table
+  pub es : List Spelled
   pub walking : Walking (λ _. entry) (λ _ _. 0) (entriesFrom n s from) n i es 0 (drop at s) at
-  pub stored : EntriesStored ks₀ ks xs₀ xs ys₀ ys es
+  pub stored : EntriesStored ks₀ ks xs₀ xs ys₀ ys (markedOf es)
   pub within : at ≤ length s
   pub near : at ≤ from + 6 * i
 
 module _ (s : List ℕ) (from n : ℕ) (ks₀ xs₀ ys₀ : List ℕ) where
   pub none-entered : from ≤ length s → Entered s from n ks₀ xs₀ ys₀ 0 from ks₀ xs₀ ys₀
-  unfolding entriesFrom column
+  unfolding entriesFrom column tableBy
   none-entered h =
       record {
         es = [];
@@ -78,25 +79,29 @@ module _ (s : List ℕ) (from n : ℕ) (ks₀ xs₀ ys₀ : List ℕ) where
     unfolding entryAt
     entering-stops h f = walk-stops (λ _. entry) (λ _ _. 0) (e .walking) h f
 
-    pub one-entered : i < n → n ≤ 256 → EntryArrays ks₀ xs₀ ys₀ → {k a b o : ℕ} → Reached s (at + 6) (entryAt s at) (made (k, (a, b))) o
+    pub one-entered : i < n → n ≤ 256 → EntryArrays ks₀ xs₀ ys₀ → {k a b o : ℕ} → EntryGot s (at + 6) (entryAt s at) k a b o
         → Entered s from n ks₀ xs₀ ys₀ (i + 1) o (set ks i k) (set xs i a) (set ys i b)
     unfolding entryAt
     one-entered h f v {k} {a} {b} r =
-        let m : length (e .es) ≡ i = e .walking .many in
+        let t : Table = markedOf (e .es) in
+        let x : Entry = record { kind = k; a = a; b = b } in
+        let m : length t ≡ i = by-length marked (e .es) ∙ e .walking .many in
+        let more : t ++ (x ∷ []) ≡ markedOf (e .es ++ (r .entry ∷ [])) = ap (λ (y : Entry). t ++ (y ∷ [])) (sym (r .held)) ∙ sym (by-more marked (e .es) (r .entry)) in
         record {
-          es = e .es ++ (made (k, (a, b)) ∷ []);
-          walking = walk-steps (λ _. entry) (λ _ _. 0) (e .walking) h (r .found);
+          es = e .es ++ (r .entry ∷ []);
+          walking = walk-steps (λ _. entry) (λ _ _. 0) (e .walking) h (r .reached .found);
           stored =
               record {
-                kinds = column-stored (λ x. x .kind) (e .es) (made (k, (a, b))) i ks ks₀ m (omega (arith, v .kinds)) (e .stored .kinds);
-                a-fields = column-stored (λ x. x .a) (e .es) (made (k, (a, b))) i xs xs₀ m (omega (arith, v .a-fields)) (e .stored .a-fields);
-                b-fields = column-stored (λ x. x .b) (e .es) (made (k, (a, b))) i ys ys₀ m (omega (arith, v .b-fields)) (e .stored .b-fields);
+                kinds = column-stored (λ x. x .kind) t x i ks ks₀ m (omega (arith, v .kinds)) (e .stored .kinds) ∙ ap (λ (l : Table). written (kindColumn l) ks₀) more;
+                a-fields = column-stored (λ x. x .a) t x i xs xs₀ m (omega (arith, v .a-fields)) (e .stored .a-fields) ∙ ap (λ (l : Table). written (aColumn l) xs₀) more;
+                b-fields = column-stored (λ x. x .b) t x i ys ys₀ m (omega (arith, v .b-fields)) (e .stored .b-fields) ∙ ap (λ (l : Table). written (bColumn l) ys₀) more;
               };
-          within = r .inside;
-          near = omega (arith, r .near, e .near);
+          within = r .reached .inside;
+          near = omega (arith, r .reached .near, e .near);
         }
 
-    pub all-entered : i ≤ n → n ≤ i → n ≤ 256 → ListRead s (from + 6 * n) 256 (entriesFrom n s from) (EntriesStored ks₀ ks xs₀ xs ys₀ ys) n at
+    pub all-entered : i ≤ n → n ≤ i → n ≤ 256
+        → ListRead s (from + 6 * n) 256 (entriesFrom n s from) (λ es. EntriesStored ks₀ ks xs₀ xs ys₀ ys (markedOf es)) n at
     all-entered l h f =
         record {
           list = e .es;

@@ -1,7 +1,12 @@
 // The entries of a claim file: each at its place (13), their count (12), and their columns.
 ghost use mathlib.Core.Path.{_≡_};
+ghost use mathlib.Core.Bool.{_&&_};
 ghost use Prim.Native.Nat.{_+_, _*_, _≤_};
+ghost use lib.Dec.{eqb};
 ghost use lib.ListN.{length};
+ghost use Rattle.verdict.specs.Tests.{choose};
+ghost use Rattle.formula.specs.Fields.{isModal};
+ghost use Rattle.formula.specs.Spelled.{aStands, bStands, markedOf};
 ghost use Rattle.encoding.specs.Places.{InFile};
 ghost use Rattle.claim_files.specs.ReadClaim.{kind-fits};
 ghost use Rattle.file_parts.specs.Parts.{PartTells};
@@ -14,7 +19,7 @@ use file_parts::count_at;
 use file_parts::field_at;
 use formula::Kind;
 
-// An entry's record and the place after it.
+// An entry as the columns hold it, and the place after it.
 pub enum EntryRead {
     Read {
         kind: u8,
@@ -28,14 +33,48 @@ pub enum EntryRead {
     },
 }
 
-// A known kind, and the map of its fields.
+// A known kind, and the map of its fields: that of the kind, or with B for the action of a box or diamond.
 fn kind_fits(map: u8, kind: u8) -> bool
     ensures { λ r. ⌜ r ≡ kind-fits (map, kind) ⌝ }
 {
     if Kind::NAME < kind {
         return false;
     }
-    map == Kind::map(kind)
+    if map == Kind::map(kind) {
+        return true;
+    }
+    Kind::is_modal(kind) && map == 3
+}
+
+// Whether A stands.
+fn a_stands(map: u8) -> bool
+    ensures { λ r. ⌜ r ≡ aStands map ⌝ }
+{
+    map % 2 == 1
+}
+
+// Whether B stands.
+fn b_stands(map: u8) -> bool
+    ensures { λ r. ⌜ r ≡ bStands map ⌝ }
+{
+    2 <= map
+}
+
+// What the column holds of field B. "A 0 written out in B" is refused (71), and a record does not show it: an action that no file can mean
+// stands for it.
+fn held_b(kind: u8, stands: bool, b: u16) -> u16
+    ensures { λ r. ⌜ r ≡ choose (isModal kind && (stands && eqb b 0)) 65535 b ⌝ }
+{
+    if b != 0 {
+        return b;
+    }
+    if !stands {
+        return b;
+    }
+    if Kind::is_modal(kind) {
+        return 65535;
+    }
+    b
 }
 
 // Map and kind are judged before fields, once both are there; an unfit pair is refused at the map.
@@ -49,23 +88,28 @@ pub fn entry_at(bytes: &[u8], start: usize) -> EntryRead
             place: bytes.len() as u16,
         };
     }
+    let map = bytes[start];
     let kind = bytes[start + 1];
     let fields = start + 2;
-    if !kind_fits(bytes[start], kind) {
+    if !kind_fits(map, kind) {
         return EntryRead::Refused {
             number: ClaimFault::KIND,
             place: start as u16,
         };
     }
-    match field_at(bytes, fields, Kind::has_a(kind), ClaimFault::LENGTH) {
+    match field_at(bytes, fields, a_stands(map), ClaimFault::LENGTH) {
         Number::Refused { number, place } => EntryRead::Refused { number, place },
         Number::Read {
             value: a,
             next: b_at,
         } => {
-            match field_at(bytes, b_at, Kind::has_b(kind), ClaimFault::LENGTH) {
+            let second = b_stands(map);
+            match field_at(bytes, b_at, second, ClaimFault::LENGTH) {
                 Number::Refused { number, place } => EntryRead::Refused { number, place },
-                Number::Read { value: b, next } => EntryRead::Read { kind, a, b, next },
+                Number::Read { value, next } => {
+                    let b = held_b(kind, second, value);
+                    EntryRead::Read { kind, a, b, next }
+                }
             }
         }
     }
@@ -83,7 +127,7 @@ fn store_entries(
     requires { ⌜ EntryArrays (now kinds) (now a) (now b) ⌝ }
     requires { ⌜ (InFile (now bytes) 6 from) × (count ≤ 256) ⌝ }
     ensures { λ r. ⌜ PartTells (now (bytes .entry)) (from + 6 * count) 256 (entriesFrom count (now (bytes .entry)) from)
-        (EntriesStored (now (kinds .entry)) (now (kinds .exit)) (now (a .entry)) (now (a .exit)) (now (b .entry)) (now (b .exit))) r ⌝ }
+        (λ es. EntriesStored (now (kinds .entry)) (now (kinds .exit)) (now (a .entry)) (now (a .exit)) (now (b .entry)) (now (b .exit)) (markedOf es)) r ⌝ }
 {
     let mut at = from;
     let mut i = 0;
@@ -117,7 +161,7 @@ pub fn read_entries(
     requires { ⌜ EntryArrays (now kinds) (now a) (now b) ⌝ }
     requires { ⌜ 4 ≤ length (now bytes) ⌝ }
     ensures { λ r. ⌜ PartTells (now (bytes .entry)) 1542 256 (entriesAt (now (bytes .entry)) 4)
-        (EntriesStored (now (kinds .entry)) (now (kinds .exit)) (now (a .entry)) (now (a .exit)) (now (b .entry)) (now (b .exit))) r ⌝ }
+        (λ es. EntriesStored (now (kinds .entry)) (now (kinds .exit)) (now (a .entry)) (now (a .exit)) (now (b .entry)) (now (b .exit)) (markedOf es)) r ⌝ }
 {
     match count_at(bytes, 4, 256, ClaimFault::COUNT, ClaimFault::LENGTH) {
         Number::Refused { number, place } => Part::Refused { number, place },

@@ -3,15 +3,14 @@ use mathlib.Core.Path.{_≡_, refl, sym, ap}
 use mathlib.Core.Logic.{_↔_, _⊎_, inl, inr}
 use mathlib.Core.List.{List, _++_, append-nil}
 use mathlib.Core.Bool.{false}
-use Prim.Native.Nat.{ℕ, _+_, _≤_}
+use Prim.Native.Nat.{ℕ, _+_}
 use native.Mathlib.Omega.{arith}
 use Rattle.verdict.specs.Tells.{fails}
 use Rattle.formula.specs.Kind
-use Rattle.formula.specs.Table.{Table}
-use Rattle.formula.specs.Claim.{Claim}
+use Rattle.formula.specs.Spelled.{Spelled, aStands, bStands, recordsOf, recordOf, by-length}
+use Rattle.formula.specs.Claim.{SpelledClaim}
 use Rattle.formula.specs.Codes.{Formula}
 use Rattle.bits.specs.IfSet.{ifSet}
-use Rattle.formula.specs.Fields.{hasA, hasB}
 use Rattle.encoding.specs.Encode.{Bytes, TwoBytes, PairOfBytes, encodePair, encodeTwo, encodeAll, Counts}
 use Rattle.encoding.specs.Stages.{Stages, raw, tested, followed, listing, climbing}
 use Rattle.encoding.specs.ParseLaws.{bytes-exact, two-exact}
@@ -25,14 +24,16 @@ use Rattle.encoding.specs.FileLaws as File
 use Rattle.encoding.specs.Opening.{opens, opens-tells}
 use Rattle.formula.specs.Members.{formula-tells}
 use Rattle.encoding.specs.FieldLaws.{field-takes}
-use Rattle.claim_files.specs.ClaimFile.{claimOpening, encodeKind, encodeEntry, encodeEntries, FitKind, FitEntry, FitEntries, ClaimFile}
+use Rattle.claim_files.specs.ClaimFile.{claimOpening, encodeEntry, encodeEntries, FitKind, FitEntry, FitEntries, ClaimFile}
 use Rattle.claim_files.specs.ReadClaim.{early, made, entry, entries, members, claimOf, body, readClaim}
-use Rattle.claim_files.specs.ClaimExact.{kind-tells, kind-exact, entry-exact, entries-exact, body-exact}
+use Rattle.claim_files.specs.ClaimExact.{fit-byte, kind-tells, kind-exact, entry-exact, entries-exact, body-exact}
 use Rattle.claim_files.specs.ClaimDocument.{at-entry-count, at-entry, at-fields, at-member-count, at-member, claimStages, ClaimEarns}
 
 -- the stages as the parsers are joined
 abbrev EntryParts : Stages
-EntryParts = followed encodeKind (λ k. k ≤ Kind.NAME) (tested 2 encodePair PairOfBytes FitKind 13) (λ k. raw (ifSet (hasA k) 2 + ifSet (hasB k) 2))
+EntryParts =
+    followed encodePair (λ p. PairOfBytes p × FitKind p) (tested 2 encodePair PairOfBytes FitKind 13)
+    (λ p. raw (ifSet (aStands (p .0)) 2 + ifSet (bStands (p .0)) 2))
 
 abbrev CountPart : ℕ → Stages
 CountPart top = tested 2 encodeTwo TwoBytes (Counts top) 12
@@ -40,8 +41,8 @@ CountPart top = tested 2 encodeTwo TwoBytes (Counts top) 12
 abbrev EntriesParts : Stages
 EntriesParts = listing encodeTwo (λ n. TwoBytes n × Counts 256 n) (CountPart 256) encodeEntry FitEntry EntryParts
 
-abbrev MembersParts : Table → Stages
-MembersParts es = climbing encodeTwo (λ n. TwoBytes n × Counts 24 n) (CountPart 24) 2 encodeTwo TwoBytes (Formula es) 14
+abbrev MembersParts : List Spelled → Stages
+MembersParts es = climbing encodeTwo (λ n. TwoBytes n × Counts 24 n) (CountPart 24) 2 encodeTwo TwoBytes (Formula (recordsOf es)) 14
 
 abbrev Parts : Stages
 Parts = followed encodeEntries FitEntries EntriesParts MembersParts
@@ -49,17 +50,17 @@ Parts = followed encodeEntries FitEntries EntriesParts MembersParts
 entry-refuses : Refuses early entry EntryParts
 entry-refuses =
     via-refuses
-    (seq-refuses (via-refuses (tested-refuses (bytes-take early) (bytes-exact early) 13 kind-tells) (λ (p : ℕ × ℕ). p .1)) kind-exact
-    (λ k _. raw-refuses (seq-takes (field-takes early (hasA k)) (λ _. field-takes early (hasB k)))))
+    (seq-refuses (tested-refuses (bytes-take early) (bytes-exact early) 13 kind-tells) kind-exact
+    (λ p _. raw-refuses (seq-takes (field-takes early (aStands (p .0))) (λ _. field-takes early (bStands (p .0))))))
     made
 
 entries-refuse : Refuses early entries EntriesParts
 unfolding entries
 entries-refuse = listed-refuses (count-exact 256 12 (two-exact early)) (count-refuses 256 12 (two-takes early) (two-exact early)) entry-exact entry-refuses
 
-members-refuse : (es : Table) → Refuses early (members es) (MembersParts es)
+members-refuse : (es : List Spelled) → Refuses early (members es) (MembersParts es)
 unfolding members
-members-refuse es = rising-refuses (count-exact 24 12 (two-exact early)) (count-refuses 24 12 (two-takes early) (two-exact early)) (two-exact early) (two-takes early) (formula-tells es) 14
+members-refuse es = rising-refuses (count-exact 24 12 (two-exact early)) (count-refuses 24 12 (two-takes early) (two-exact early)) (two-exact early) (two-takes early) (formula-tells (recordsOf es)) 14
 
 parts-refuse : Refuses early body Parts
 unfolding body
@@ -75,9 +76,9 @@ parts-stages (inl (inr (n, (es, inl σ)))) (c, ((i, h), r)) = record {
   wide = refl;
   wrongs = λ w n u. u;
 }
-parts-stages (inl (inr (n, (es, inr (k, σ))))) (c, ((i, h), (l, r))) = record {
-  stage = at-fields n es k;
-  reached = (record { count = c .1; fewer = i; each = h }, l);
+parts-stages (inl (inr (n, (es, inr (p, σ))))) (c, ((i, h), (l, r))) = record {
+  stage = at-fields n es p;
+  reached = (record { count = c .1; fewer = i; each = h }, l .1);
   same = refl;
   wide = refl;
   wrongs = λ w n u. u;
@@ -100,9 +101,9 @@ stages-parts (at-entry n es) r = record {
   wide = refl;
   wrongs = λ w n u. u;
 }
-stages-parts (at-fields n es k) (r, l) = record {
-  stage = inl (inr (n, (es, inr (k, tt))));
-  reached = ((omega (arith, r .count), r .count), ((r .fewer, r .each), (l, tt)));
+stages-parts (at-fields n es p) (r, l) = record {
+  stage = inl (inr (n, (es, inr (p, tt))));
+  reached = ((omega (arith, r .count), r .count), ((r .fewer, r .each), (((fit-byte (p .0) (p .1) (l .1), omega (arith, l .0)), l), tt)));
   same = refl;
   wide = refl;
   wrongs = λ w n u. u;
@@ -110,7 +111,7 @@ stages-parts (at-fields n es k) (r, l) = record {
 stages-parts (at-member-count es) f = record { stage = inr (es, inl tt); reached = (f, tt); same = append-nil (encodeEntries es); wide = refl; wrongs = λ w n u. u }
 stages-parts (at-member es n ms) r = record {
   stage = inr (es, inr (n, (ms, tt)));
-  reached = (r .entries, ((omega (arith, r .count), r .count), ((r .fewer, r .rising, each-as (λ m q. (omega (arith, q .inside, r .entries .count), q)) (r .each)), tt)));
+  reached = (r .entries, ((omega (arith, r .count), r .count), ((r .fewer, r .rising, each-as (λ m q. (omega (arith, q .inside, r .entries .count, by-length recordOf es), q)) (r .each)), tt)));
   same = ap (λ (s : List ℕ). encodeEntries es ++ (encodeTwo n ++ s)) (append-nil (encodeAll encodeTwo ms));
   wide = refl;
   wrongs = λ w n u. u;
@@ -136,10 +137,10 @@ claim-refusal b = (claim-earned b, claim-refused)
 pub one-claim-refusal : {bytes : List ℕ} {n q m r : ℕ} → ClaimEarns bytes n q → ClaimEarns bytes m r → (n ≡ m) × (q ≡ r)
 one-claim-refusal f g = File.one-refusal claimOpening 10 early body body-exact body-refuses f g
 
-pub claim-or-refusal : (bytes : List ℕ) → Bytes bytes → ((c : Claim) × ClaimFile bytes c) ⊎ ((n : ℕ) × (q : ℕ) × ClaimEarns bytes n q)
+pub claim-or-refusal : (bytes : List ℕ) → Bytes bytes → ((c : SpelledClaim) × ClaimFile bytes c) ⊎ ((n : ℕ) × (q : ℕ) × ClaimEarns bytes n q)
 claim-or-refusal bytes b = File.outcome claimOpening 10 early body body-exact body-refuses bytes b
 
-pub claim-not-both : {bytes : List ℕ} {c : Claim} {n q : ℕ} → ClaimFile bytes c → ClaimEarns bytes n q → ⊥
+pub claim-not-both : {bytes : List ℕ} {c : SpelledClaim} {n q : ℕ} → ClaimFile bytes c → ClaimEarns bytes n q → ⊥
 claim-not-both f g = File.not-both claimOpening 10 early body body-exact body-refuses f g
 
 -- the program's test of the opening decides refusal 10

@@ -1,70 +1,75 @@
--- claim files as document 01 writes them: the encoding, and which tables and members a file may hold
+-- claim files as document 01 and T-04 write them: the encoding, and which entries and members a file may hold
 use mathlib.Core.Path.{_≡_}
+use mathlib.Core.Logic.{_⊎_}
 use mathlib.Core.List.{List, [], _∷_, _++_}
 use Prim.Native.Nat.{ℕ, _≤_}
 use lib.ListN.{length}
 use Rattle.verdict.specs.Lists.{Each, Rising}
 use Rattle.formula.specs.Kind
-use Rattle.formula.specs.Table.{Entry, Table}
-use Rattle.formula.specs.Claim.{Claim}
+use Rattle.formula.specs.Spelled.{Spelled, aStands, bStands, recordsOf}
+use Rattle.formula.specs.Claim.{SpelledClaim}
 use Rattle.formula.specs.Codes.{Formula}
-use Rattle.formula.specs.Fields.{hasA, hasB, mapOf}
-use Rattle.encoding.specs.Encode.{FitField, encodeTwo, encodeField, encodeCounted, Counts}
+use Rattle.formula.specs.Fields.{mapOf}
+use Rattle.encoding.specs.Encode.{FitField, encodePair, encodeTwo, encodeField, encodeCounted, Counts}
 use Rattle.encoding.specs.File.{Encodes}
 
 -- the letters CLM1
 abbrev pub claimOpening : List ℕ
 claimOpening = 67 ∷ 76 ∷ 77 ∷ 49 ∷ []
 
--- a bit map byte, a kind byte
-abbrev pub encodeKind : ℕ → List ℕ
-encodeKind k = mapOf k ∷ k ∷ []
+-- a bit map byte, a kind byte, then only the fields whose bit stands
+abbrev pub encodeFields : ℕ → ℕ × ℕ → List ℕ
+encodeFields m w = encodeField (aStands m) (w .0) ++ encodeField (bStands m) (w .1)
 
--- then only the fields whose bit stands
-abbrev pub encodeEntry : Entry → List ℕ
-encodeEntry e = encodeKind (e .kind) ++ (encodeField (hasA (e .kind)) (e .a) ++ encodeField (hasB (e .kind)) (e .b))
+abbrev pub encodeEntry : Spelled → List ℕ
+encodeEntry e = encodePair (e .map, e .kind) ++ encodeFields (e .map) (e .a, e .b)
 
 -- two bytes, the entry count; the entries
-abbrev pub encodeEntries : Table → List ℕ
+abbrev pub encodeEntries : List Spelled → List ℕ
 encodeEntries es = encodeCounted encodeTwo encodeEntry es
 
 -- two bytes, the member count; the members, two-byte entry numbers
 abbrev pub encodeMembers : List ℕ → List ℕ
 encodeMembers ms = encodeCounted encodeTwo encodeTwo ms
 
-abbrev pub encodeBody : Claim → List ℕ
-encodeBody c = encodeEntries (c .entries) ++ encodeMembers (c .members)
+abbrev pub encodeBody : SpelledClaim → List ℕ
+encodeBody c = encodeEntries (c .spelling) ++ encodeMembers (c .members)
 
-abbrev pub encodeClaim : Claim → List ℕ
+abbrev pub encodeClaim : SpelledClaim → List ℕ
 encodeClaim c = claimOpening ++ encodeBody c
 
--- a map, and a kind that it fits
+-- the map of the kind; a box or diamond may carry an action in field B (map 3)
+abbrev pub FitMap : ℕ → ℕ → Type 0
+FitMap m k = (m ≡ mapOf k) ⊎ ((Kind.DIAMOND ≤ k) × (k ≤ Kind.BOX) × (m ≡ 3))
+
+-- a map, and a known kind that it fits
 abbrev pub FitKind : ℕ × ℕ → Type 0
-FitKind p = (p .1 ≤ Kind.NAME) × (p .0 ≡ mapOf (p .1))
+FitKind p = (p .1 ≤ Kind.NAME) × FitMap (p .0) (p .1)
 
--- a known kind; a field that the kind lacks is 0 in the record
-pub record FitEntry (e : Entry) : Type 0 where
+-- a field that does not stand is 0 in the record
+pub record FitEntry (e : Spelled) : Type 0 where
   pub known : e .kind ≤ Kind.NAME
-  pub a-fits : FitField (hasA (e .kind)) (e .a)
-  pub b-fits : FitField (hasB (e .kind)) (e .b)
+  pub fits : FitMap (e .map) (e .kind)
+  pub a-fits : FitField (aStands (e .map)) (e .a)
+  pub b-fits : FitField (bStands (e .map)) (e .b)
 
-pub record FitEntries (es : Table) : Type 0 where
+pub record FitEntries (es : List Spelled) : Type 0 where
   -- the entry count (1 to 256)
   pub count : Counts 256 (length es)
   pub each : Each FitEntry es
 
-pub record FitMembers (es : Table) (ms : List ℕ) : Type 0 where
+pub record FitMembers (es : List Spelled) (ms : List ℕ) : Type 0 where
   -- the member count (1 to 24)
   pub count : Counts 24 (length ms)
   -- strictly rising
   pub rising : Rising ms
   -- entry numbers in range, no names
-  pub each : Each (Formula es) ms
+  pub each : Each (Formula (recordsOf es)) ms
 
-pub record FitClaim (c : Claim) : Type 0 where
-  pub entries : FitEntries (c .entries)
-  pub members : FitMembers (c .entries) (c .members)
+pub record FitClaim (c : SpelledClaim) : Type 0 where
+  pub entries : FitEntries (c .spelling)
+  pub members : FitMembers (c .spelling) (c .members)
 
--- the bytes are a claim file with these entries and members
-abbrev pub ClaimFile : List ℕ → Claim → Type 0
+-- the bytes are a claim file with these entries, so spelled, and members
+abbrev pub ClaimFile : List ℕ → SpelledClaim → Type 0
 ClaimFile bytes c = Encodes claimOpening encodeBody FitClaim bytes c

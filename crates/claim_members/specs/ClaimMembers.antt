@@ -12,7 +12,8 @@ use Rattle.verdict.specs.Tells.{Tells, tells-as, and-tells, not-tells, ltb-tell
 use Rattle.formula.specs.Kind
 use Rattle.formula.specs.Table.{Table}
 use Rattle.formula.specs.Codes.{Formula}
-use Rattle.formula.specs.Columns.{kindColumn, written-at}
+use Rattle.formula.specs.Columns.{column, kindColumn, written-at}
+use Rattle.formula.specs.Spelled.{Spelled, recordOf, recordsOf, markedOf, tableBy, by-length}
 use Rattle.encoding.specs.Parse.{Got, fault, guard, times, count, two, fits-from, rising}
 use Rattle.formula.specs.Members.{isFormula, formula-tells}
 use Rattle.claim_files.specs.ReadClaim.{early, members}
@@ -162,6 +163,15 @@ same-formula es old e = agree (isFormula es e) (formula-tells es e) (tells-as in
     from : Formula es e → (e < length es) × (getD (written (kindColumn es) old) e 0 ≡ Kind.NAME → ⊥)
     from f = (f .inside, λ z. f .no-name (sym (written-at (λ r. r .kind) es old e (f .inside)) ∙ z))
 
-pub members-same : (es : Table) (old s : List ℕ) (at : ℕ) → members es (drop at s) at ≡ membersAt (written (kindColumn es) old) (length es) s at
+-- the columns have the kinds that were read
+same-kinds : (es : List Spelled) → kindColumn (recordsOf es) ≡ kindColumn (markedOf es)
+unfolding column tableBy
+same-kinds [] = refl
+same-kinds (e ∷ es) = ap (λ (l : List ℕ). e .kind ∷ l) (same-kinds es)
+
+pub members-same : (es : List Spelled) (old s : List ℕ) (at : ℕ) → members es (drop at s) at ≡ membersAt (written (kindColumn (markedOf es)) old) (length es) s at
 unfolding members membersAt times isFormula plainFormula
-members-same es old s at = ap (λ (ok : ℕ → Bool). rising (count 24 12 (two early)) ok 14 (two early) (drop at s) at) (fun-ext (λ e. same-formula es old e))
+members-same es old s at =
+    ap (λ (ok : ℕ → Bool). rising (count 24 12 (two early)) ok 14 (two early) (drop at s) at) (fun-ext (λ e. same-formula (recordsOf es) old e))
+    ∙ ap (λ (ks : List ℕ). membersAt (written ks old) (length (recordsOf es)) s at) (same-kinds es)
+    ∙ ap (λ (n : ℕ). membersAt (written (kindColumn (markedOf es)) old) n s at) (by-length recordOf es)

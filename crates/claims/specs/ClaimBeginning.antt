@@ -7,8 +7,8 @@ use native.Mathlib.Omega.{arith}
 use borrow.Author.Tests.{not-true, not-false}
 use Rattle.verdict.specs.Verdict as verdicts
 use Rattle.verdict.specs.Verdict.{Verdict, accepted, pick}
-use Rattle.formula.specs.Table.{Entry}
-use Rattle.formula.specs.Claim.{Claim}
+use Rattle.formula.specs.Spelled.{Spelled}
+use Rattle.formula.specs.Claim.{SpelledClaim}
 use Rattle.encoding.specs.Parse.{Got, fault, got}
 use Rattle.encoding.specs.File.{Reading, refused}
 use Rattle.encoding.specs.Opening.{opens}
@@ -36,12 +36,12 @@ unfolding opens countAt entryAt
 beginning s = pick (opens claimOpening s) (counted s (countAt 256 12 early s 4)) (verdicts.refused 10 0)
 
 -- a refusal is that of the whole file; acceptance says nothing of it
-abbrev pub BeginningTells : Reading Claim → Verdict → Type 0
+abbrev pub BeginningTells : Reading SpelledClaim → Verdict → Type 0
 BeginningTells r accepted = Unit {0}
 BeginningTells r (verdicts.refused n q) = r ≡ refused n q
 
 -- in an arm that knows which answer it is
-pub beginning-refused : {r : Reading Claim} {v : Verdict} → BeginningTells r v → {n q : ℕ} → v ≡ verdicts.refused n q → r ≡ refused n q
+pub beginning-refused : {r : Reading SpelledClaim} {v : Verdict} → BeginningTells r v → {n q : ℕ} → v ≡ verdicts.refused n q → r ≡ refused n q
 beginning-refused t e = rw e at t
 
 -- a count that was read is at least 1: there is a first entry, and its fault is the entries'
@@ -75,5 +75,5 @@ module _ (s : List ℕ) {opened : Bool} (test : opened ≡ opens claimOpening s)
       pub begun-cut : {n q : ℕ} → entryAt s o ≡ fault n q → Begun s (verdicts.refused n q)
       begun-cut e = record { earned = sym (open-beginning ∙ ap (counted s) (c .found) ∙ ap earns e); stands = claim-no-entries s test h (first-cut s c e) }
 
-      pub begun-passed : {x : Entry} {z : ℕ} {r : List ℕ} → entryAt s o ≡ got x r z → Begun s accepted
+      pub begun-passed : {x : Spelled} {z : ℕ} {r : List ℕ} → entryAt s o ≡ got x r z → Begun s accepted
       begun-passed e = record { earned = sym (open-beginning ∙ ap (counted s) (c .found) ∙ ap earns e); stands = tt }

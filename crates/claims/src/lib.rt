@@ -5,7 +5,7 @@ ghost use Prim.Native.Nat.{_<_};
 ghost use Rattle.encoding.specs.Opening.{opens};
 ghost use Rattle.claim_files.specs.ClaimFile.{claimOpening};
 ghost use Rattle.claim_files.specs.ReadClaim.{readClaim};
-ghost use Rattle.claims.specs.ClaimWalk.{ClaimArrays, ClaimTells, refusal};
+ghost use Rattle.claims.specs.ClaimWalk.{ClaimArrays, ClaimTells, heldReading, refusal};
 ghost use Rattle.claims.specs.ClaimBeginning.{Begun};
 ghost use Rattle.verdict.specs.Shown.{shown};
 use claim_entries::EntryRead;
@@ -57,7 +57,7 @@ pub fn read_claim(
     members: &mut [u16; 24],
 ) -> ClaimRead
     requires { ⌜ ClaimArrays (now kinds) (now a) (now b) (now members) ⌝ }
-    ensures { λ r. ⌜ ClaimTells (readClaim (now (bytes .entry))) (now (kinds .exit)) (now (a .exit)) (now (b .exit)) (now (members .exit)) r ⌝ }
+    ensures { λ r. ⌜ ClaimTells (heldReading (readClaim (now (bytes .entry)))) (now (kinds .exit)) (now (a .exit)) (now (b .exit)) (now (members .exit)) r ⌝ }
 {
     if !opens_claim(bytes) {
         return refuse(ClaimFault::OPENING, 0);

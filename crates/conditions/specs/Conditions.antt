@@ -1,10 +1,11 @@
--- the conditions of refusals 20 to 23 at an entry
+-- the conditions of refusals 20, 71 and 21 to 23 at an entry
 use mathlib.Core.Path.{_≡_}
+use mathlib.Core.Bool.{Bool, true}
 use mathlib.Core.Logic.{_⊎_}
-use Prim.Native.Nat.{ℕ, _≤_}
+use Prim.Native.Nat.{ℕ, _<_, _≤_}
 use lib.ListN.{length}
 use Rattle.formula.specs.Table.{Table}
-use Rattle.formula.specs.Shape.{Shape, leaf, two, step, fix, name, Leaf, never, always, letter, negated, Fix, mu, nu, shape, Operand, Fixpoint}
+use Rattle.formula.specs.Shape.{Shape, leaf, two, step, fix, name, Leaf, never, always, letter, negated, Step, diamond, box, Fix, mu, nu, shape, Operand, Fixpoint}
 use Rattle.conditions.specs.Free.{Free}
 
 abbrev pub BadLeaf : Leaf → Type 0
@@ -23,6 +24,25 @@ Bad t e (name x) = (x ≤ e) ⊎ (length t ≤ x) ⊎ (Fixpoint (shape t x) → 
 -- 20: a letter of 32 or more, an operand or body not below, a name's fixpoint not above it, outside the table or none
 abbrev pub OutOfBounds : Table → ℕ → Type 0
 OutOfBounds t e = Bad t e (shape t e)
+
+abbrev pub FarStep : Step → Type 0
+FarStep (diamond n) = 16 ≤ n
+FarStep (box n) = 16 ≤ n
+
+abbrev pub FarShape : Shape → Type 0
+FarShape (leaf l) = ⊥
+FarShape (two o a b) = ⊥
+FarShape (step m a) = FarStep m
+FarShape (fix σ a) = ⊥
+FarShape (name x) = ⊥
+
+-- a box or diamond of an action above 15
+abbrev pub FarAction : Table → ℕ → Type 0
+FarAction t e = FarShape (shape t e)
+
+-- 71: such an action, or a 0 that is written out, which a record does not show; z says of which entries it is
+abbrev pub WrongAction : (ℕ → Bool) → Table → ℕ → Type 0
+WrongAction z t e = FarAction t e ⊎ ((e < length t) × (z e ≡ true))
 
 -- 21: a free name that does not lie above
 abbrev pub NotAbove : Table → ℕ → Type 0

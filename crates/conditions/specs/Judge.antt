@@ -1,4 +1,4 @@
--- refusals 20 to 23 computed
+-- refusals 20, 71 and 21 to 23 computed
 use mathlib.Core.List.{List, [], _∷_}
 use mathlib.Core.Bool.{Bool, true, false, not, _||_}
 use Prim.Native.Nat.{ℕ}
@@ -6,7 +6,7 @@ use lib.Dec.{leb}
 use lib.ListN.{length, getD}
 use Rattle.verdict.specs.Tests.{choose}
 use Rattle.formula.specs.Table.{Table}
-use Rattle.formula.specs.Shape.{Shape, leaf, two, step, fix, name, Leaf, never, always, letter, negated, mu, nu, shapeOf, shape}
+use Rattle.formula.specs.Shape.{Shape, leaf, two, step, fix, name, Leaf, never, always, letter, negated, Step, diamond, box, mu, nu, shapeOf, shape}
 use Rattle.conditions.specs.Rows.{Row, has, union, clear, single, upTo, meets}
 use Rattle.conditions.specs.Upward.{upward}
 use Rattle.verdict.specs.Verdict.{Verdict, accepted, scan}
@@ -32,6 +32,19 @@ bad t e (two o a b) = leb e a || leb e b
 bad t e (step m a) = leb e a
 bad t e (fix σ a) = leb e a
 bad t e (name x) = leb x e || (leb (length t) x || not (isFix (shape t x)))
+
+unfoldable pub farStep : Step → Bool
+farStep (diamond n) = leb 16 n
+farStep (box n) = leb 16 n
+
+-- 71
+unfoldable pub far : Shape → Bool
+unfolding farStep
+far (leaf l) = false
+far (two o a b) = false
+far (step m a) = farStep m
+far (fix σ a) = false
+far (name x) = false
 
 -- the free names of an entry, by those of entries below
 unfoldable pub freeRow : (ℕ → Row) → ℕ → Shape → Row
@@ -112,12 +125,17 @@ unfoldable pub loose : Table → List Row → ℕ → Bool
 unfolding ownOpen shape
 loose t o e = ownOpen o e (shape t e)
 
-unfoldable pub judgeBy : Table → List Row → List Row → Row → Row → Verdict
-unfolding low mixed loose bad scan shape
-judgeBy t f o ms ns =
-    scan (λ e. not (bad t e (shape t e))) (λ e. 20) (length t) 0
+unfoldable pub judgeBy : (ℕ → Bool) → Table → List Row → List Row → Row → Row → Verdict
+unfolding low mixed loose bad far scan shape
+judgeBy z t f o ms ns =
+    scan (λ e. not (bad t e (shape t e) || (far (shape t e) || z e))) (λ e. choose (bad t e (shape t e)) 20 71) (length t) 0
     (scan (λ e. not (low f e || (mixed t f ms ns e || loose t o e))) (λ e. choose (low f e) 21 (choose (mixed t f ms ns e) 22 23)) (length t) 0 accepted)
 
-unfoldable pub judgeTable : Table → Verdict
+-- no 0 is written out
+abbrev pub plainly : ℕ → Bool
+plainly e = false
+
+-- z: the entries of which a 0 is written out
+unfoldable pub judgeTable : (ℕ → Bool) → Table → Verdict
 unfolding judgeBy frees opens marks
-judgeTable t = judgeBy t (frees t) (opens t) (marks isMu t) (marks isNu t)
+judgeTable z t = judgeBy z t (frees t) (opens t) (marks isMu t) (marks isNu t)

@@ -96,7 +96,7 @@ module _ (k a b : ℕ) where
 
   pub step-kind : Kind.DIAMOND ≤ k → k ≤ Kind.BOX → (m : Step) × (plainShape k a b ≡ step m a)
   unfolding shapeOf
-  step-kind l m = one-of-two (λ k. (m : Step) × (plainShape k a b ≡ step m a)) Kind.DIAMOND k l m (diamond, refl) (box, refl)
+  step-kind l m = one-of-two (λ k. (m : Step) × (plainShape k a b ≡ step m a)) Kind.DIAMOND k l m (diamond b, refl) (box b, refl)
 
   pub fix-kind : Kind.MU ≤ k → k ≤ Kind.NU → (σ : Fix) × (plainShape k a b ≡ fix σ a)
   unfolding shapeOf

@@ -13,3 +13,4 @@ pub mod TestLaws
 pub mod JudgeExact
 -- shapes and their tests by kind numbers
 pub mod KindShapes
+pub mod Actions

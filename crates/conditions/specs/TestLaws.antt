@@ -8,17 +8,17 @@ use native.Mathlib.Omega.{arith}
 use native.Mathlib.Decide.{decLt}
 use lib.ListN.{length, getD}
 use Rattle.formula.specs.Table.{Table}
-use Rattle.formula.specs.Shape.{Shape, leaf, two, step, fix, name, Leaf, never, always, letter, negated, mu, nu, shape, Operand, Fixpoint}
+use Rattle.formula.specs.Shape.{Shape, leaf, two, step, fix, name, Leaf, never, always, letter, negated, Step, diamond, box, mu, nu, shape, Operand, Fixpoint}
 use Rattle.conditions.specs.Free.{Free, named, inside}
 use Rattle.formula.specs.TableLaws.{past-end}
 use Rattle.formula.specs.Below.{by-smaller}
-use Rattle.conditions.specs.Conditions.{BadLeaf, Bad, NotAbove, Alternates, nu-in-mu, mu-in-nu, NoStep, Unguarded, here, down, OwnUnguarded}
+use Rattle.conditions.specs.Conditions.{BadLeaf, Bad, FarStep, FarShape, NotAbove, Alternates, nu-in-mu, mu-in-nu, NoStep, Unguarded, here, down, OwnUnguarded}
 use Rattle.conditions.specs.Formed.{InBounds, Fits}
 use Rattle.conditions.specs.Rows.{Row, has, union, clear, upTo}
 use Rattle.conditions.specs.RowLaws.{has-union, has-clear, has-single, has-upTo, Common, meets-tells}
 use Rattle.conditions.specs.Upward.{look, look-eq, look-past}
 use Rattle.verdict.specs.Tells.{Tells, tells-as, true-tells, false-tells, leb-tells, or-tells, not-tells}
-use Rattle.conditions.specs.Judge.{isFix, badLeaf, bad, freeRow, openRow, frees, opens, isMu, isNu, marks, alternates, ownOpen, low, mixed, loose}
+use Rattle.conditions.specs.Judge.{isFix, badLeaf, bad, farStep, far, freeRow, openRow, frees, opens, isMu, isNu, marks, alternates, ownOpen, low, mixed, loose}
 
 -- 20
 
@@ -44,6 +44,19 @@ bad-tells t e (two o a b) = or-tells (leb-tells e a) (leb-tells e b)
 bad-tells t e (step m a) = leb-tells e a
 bad-tells t e (fix σ a) = leb-tells e a
 bad-tells t e (name x) = or-tells (leb-tells x e) (or-tells (leb-tells (length t) x) (not-tells (isFix-tells (shape t x))))
+
+farStep-tells : (m : Step) → Tells (farStep m) (FarStep m)
+unfolding farStep
+farStep-tells (diamond n) = leb-tells 16 n
+farStep-tells (box n) = leb-tells 16 n
+
+pub far-tells : (v : Shape) → Tells (far v) (FarShape v)
+unfolding far
+far-tells (leaf l) = false-tells (λ h. h)
+far-tells (two o a b) = false-tells (λ h. h)
+far-tells (step m a) = farStep-tells m
+far-tells (fix σ a) = false-tells (λ h. h)
+far-tells (name x) = false-tells (λ h. h)
 
 pub under : (a e : ℕ) → (e ≤ a → ⊥) → a < e
 under a e k = go (decLt a e)

@@ -10,13 +10,13 @@ use Rattle.verdict.specs.VerdictLaws.{accepted-not-refused}
 use Rattle.encoding.specs.Encode.{Bytes}
 use Rattle.encoding.specs.File.{Reading, refused, good}
 use Rattle.formula.specs.Claim.{Derivation}
-use Rattle.claim_files.specs.ClaimRecords.{member-formula}
-use Rattle.proofs.specs.ProofRecords.{node-count, code-formula}
+use Rattle.proof_files.specs.ProofRecords.{node-count, code-formula}
 use Rattle.calculus.specs.Given.{Given}
 use Rattle.calculus.specs.JudgeExact.{accepted-correct, correct-accepted}
 use Rattle.calculus.specs.FaultLaws.{refused-earned, earned-refused}
 use Rattle.reader.specs.Files.{Files, files}
 use Rattle.reader.specs.WellFormed.{WellFormed}
+use Rattle.reader.specs.FormedLaws.{member-formula}
 use Rattle.reader.specs.FilesExact.{files-exactly}
 use Rattle.demands.specs.Correct.{Correct}
 use Rattle.demands.specs.Check.{answer, verdict}
@@ -26,7 +26,7 @@ use Rattle.demands.specs.Earned.{Earned, by-files, by-rules}
 pub given : {claim proof : List ℕ} {f : Files Derivation} → WellFormed claim proof f → Given (f .claim) (f .beside)
 given w = record {
   well = w .claim-formed .formed .well;
-  claimed = member-formula (w .claim-formed .claim-file);
+  claimed = member-formula (w .claim-formed);
   some = omega (arith, node-count (w .beside-formed));
   members = λ v x l m. code-formula (w .beside-formed) v x m;
 }

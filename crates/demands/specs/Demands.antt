@@ -1,5 +1,5 @@
 -- the demands on the gate over the definitions, each with its proof; `Bytes s`: the numbers of s are below 256
--- what to read to believe them: `Correct`, `Irrefutable` and `Earned` rest on 717 lines of definitions, all contracts of the calls on 1740 lines;
+-- what to read to believe them: `Correct`, `Irrefutable` and `Earned` rest on 779 lines of definitions, all contracts of the calls on 1919 lines;
 -- tests/believed.sh counts and lists them
 use mathlib.Core.Path.{_≡_}
 use mathlib.Core.Logic.{_↔_, _⊎_}
@@ -12,8 +12,8 @@ use Rattle.verdict.specs.Sets.{elements}
 use Rattle.encoding.specs.Encode.{Bytes}
 use Rattle.encoding.specs.File.{Reading, good, refused as refused-reading}
 use Rattle.formula.specs.Kind
-use Rattle.formula.specs.Table.{Table, entry, kind}
-use Rattle.formula.specs.Claim.{Claim, Derivation}
+use Rattle.formula.specs.Table.{Table, entry, kind, action}
+use Rattle.formula.specs.Claim.{Claim, SpelledClaim, claimOf as recorded, Derivation}
 use Rattle.formula.specs.Shape.{mu, nu}
 use Rattle.formula.specs.ShapeLaws.{mu-shape, nu-shape}
 use Rattle.formula.specs.Codes.{entryOf}
@@ -29,16 +29,16 @@ use Rattle.meaning.specs.KindMeaning as by-kind
 use Rattle.claim_files.specs.ClaimFile.{ClaimFile, FitClaim, encodeClaim}
 use Rattle.claim_files.specs.ReadClaim.{readClaim}
 use Rattle.claim_files.specs.ClaimExact.{claim-decodes, claim-encodes, one-claim}
-use Rattle.proofs.specs.ProofFile.{FitProof, encodeProof}
-use Rattle.proofs.specs.ReadProof.{readProof}
-use Rattle.proofs.specs.ProofExact.{proof-decodes, proof-encodes}
+use Rattle.proof_files.specs.ProofFile.{FitProof, encodeProof}
+use Rattle.proof_files.specs.ReadProof.{readProof}
+use Rattle.proof_files.specs.ProofExact.{proof-decodes, proof-encodes}
 use Rattle.reader.specs.Files.{Files, readFormed, files}
 use Rattle.calculus.specs.Sequents.{listed}
 use Rattle.tree.specs.Owners.{tree-judged}
 use Rattle.writing.specs.Writing.{ClaimRecords, ProofRecords, claimFile, proofFile, shortClaim, shortProof, writingClaim, writingProof, laidInto}
 use Rattle.writing.specs.ClaimTrips.{claimOf, ClaimGiven, claim-roomy}
 use Rattle.writing.specs.ProofTrips.{derivationOf, ProofGiven, LongProof, proof-roomy}
-use Rattle.model.specs.Described.{modelOf}
+use Rattle.model_files.specs.Described.{modelOf}
 use Rattle.permit.specs.GateState.{Gate, opened}
 use Rattle.demands.specs.Slices.{Lent, LongEnough, LentWords}
 use Rattle.demands.specs.Check.{verdict}
@@ -60,8 +60,8 @@ module _ (claim proof : List ℕ) (bc : Bytes claim) (bp : Bytes proof) where
   accepted-sound h = soundness.sound (check.verdict-correct claim proof bc bp h)
 
   -- the same of the table and the members that the file encodes: in every finite model every state has a true member
-  pub accepted-true : verdict claim proof ≡ accepted → (c : Claim) → ClaimFile claim c
-      → (M : Model) (s : ℕ) → s < M .size → (e : ℕ) × elements (c .members) e × (own M (c .entries) e s ≡ true)
+  pub accepted-true : verdict claim proof ≡ accepted → (c : SpelledClaim) → ClaimFile claim c
+      → (M : Model) (s : ℕ) → s < M .size → (e : ℕ) × elements (c .members) e × (own M (recorded c .entries) e s ≡ true)
   accepted-true h c f = soundness.irrefutable-true (accepted-sound h) c f
 
   -- 3, second half: accepted exactly when claim and proof are well formed and keep every rule, members compared by formula (T-03)
@@ -106,7 +106,7 @@ false-alone = false-refuted
 
 -- 2: an evaluation of a claim in a model, with the slices it is lent
 module _ (claim model : List ℕ) (l : LentWords) (bc : Bytes claim) (bm : Bytes model) where
-  -- it is refused as earned: 1, the claim by bytes, 20 over all entries, 21 to 23 entry by entry, then the model by bytes
+  -- it is refused as earned: 1, the claim by bytes, 20 and 71 over all entries, 21 to 23 entry by entry, then the model by bytes
   pub evaluation-refused : {n q : ℕ} → (evaluating claim model l .answer ≡ refused n q) ↔ EvaluationEarned claim model l n q
   evaluation-refused = evaluation.refusal claim model l bc bm
 
@@ -145,13 +145,13 @@ module _ (M : Model) (t : Table) (wf : WellFormed t) where
         → (meaning M t e ρ s ≡ true) ↔ ((meaning M t (entry t e .a) ρ s ≡ true) × (meaning M t (entry t e .b) ρ s ≡ true))
     and-where = by-kind.and-meaning M t wf e ρ s
 
-    -- a diamond where some successor has its operand true, a box where all have
+    -- a diamond where some successor by its action has its operand true, a box where all have
     pub diamond-where : kind t e ≡ Kind.DIAMOND
-        → (meaning M t e ρ s ≡ true) ↔ ((u : ℕ) × Successor M s u × (meaning M t (entry t e .a) ρ u ≡ true))
+        → (meaning M t e ρ s ≡ true) ↔ ((u : ℕ) × Successor M (action t e) s u × (meaning M t (entry t e .a) ρ u ≡ true))
     diamond-where = by-kind.diamond-meaning M t wf e ρ s
 
     pub box-where : kind t e ≡ Kind.BOX
-        → (meaning M t e ρ s ≡ true) ↔ ((u : ℕ) → Successor M s u → meaning M t (entry t e .a) ρ u ≡ true)
+        → (meaning M t e ρ s ≡ true) ↔ ((u : ℕ) → Successor M (action t e) s u → meaning M t (entry t e .a) ρ u ≡ true)
     box-where = by-kind.box-meaning M t wf e ρ s
 
     -- a name is true on the set of states set for its fixpoint
@@ -187,15 +187,15 @@ module _ (M : Model) (t : Table) (wf : WellFormed t) where
   pub by-itself : (e : ℕ) (ρ : Env) → ((x : ℕ) → Free t e x → SameStates (M .size) (ρ x) (own M t x)) → SameStates (M .size) (own M t e) (meaning M t e ρ)
   by-itself = by-kind.own-meaning M t wf
 
--- a file encodes one claim
-pub one-table : {bytes : List ℕ} {c d : Claim} → ClaimFile bytes c → ClaimFile bytes d → c ≡ d
+-- a file encodes one claim, spelled in one way
+pub one-table : {bytes : List ℕ} {c d : SpelledClaim} → ClaimFile bytes c → ClaimFile bytes d → c ≡ d
 one-table = one-claim
 
 -- the round trips: decoding an encoding gives the records back, encoding what was decoded gives the bytes back
-pub claim-round-trip : (c : Claim) → FitClaim c → readClaim (encodeClaim c) ≡ good c
+pub claim-round-trip : (c : SpelledClaim) → FitClaim c → readClaim (encodeClaim c) ≡ good c
 claim-round-trip = claim-decodes
 
-pub claim-bytes-back : {bytes : List ℕ} {c : Claim} → Bytes bytes → readClaim bytes ≡ good c → encodeClaim c ≡ bytes
+pub claim-bytes-back : {bytes : List ℕ} {c : SpelledClaim} → Bytes bytes → readClaim bytes ≡ good c → encodeClaim c ≡ bytes
 claim-bytes-back = claim-encodes
 
 pub proof-round-trip : {c : Claim} {d : Derivation} → FitProof c d → readProof c (encodeProof d) ≡ good d

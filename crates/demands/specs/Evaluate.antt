@@ -6,9 +6,9 @@ use Rattle.verdict.specs.Verdict as verdicts
 use Rattle.verdict.specs.Verdict.{Verdict, accepted}
 use Rattle.verdict.specs.Lists.{written}
 use Rattle.encoding.specs.File.{Reading, refused, good}
-use Rattle.model.specs.ModelFile.{State}
-use Rattle.model.specs.Described.{modelOf}
-use Rattle.model.specs.ReadModel.{readModel}
+use Rattle.model_files.specs.ModelFile.{State}
+use Rattle.model_files.specs.Described.{modelOf}
+use Rattle.model_files.specs.ReadModel.{readModel}
 use Rattle.states.specs.Words.{words}
 use Rattle.reader.specs.Files.{readFormed, Files, reading}
 use Rattle.demands.specs.Slices.{LentWords, shortWords}

@@ -15,11 +15,11 @@ use Rattle.encoding.specs.Encode.{Bytes}
 use Rattle.encoding.specs.File.{Reading, refused, good}
 use Rattle.bits.specs.Bits.{bit}
 use Rattle.meaning.specs.Meaning.{own}
-use Rattle.model.specs.ModelFile.{State, ModelFile}
-use Rattle.model.specs.ModelDocument.{ModelEarns}
-use Rattle.model.specs.Described.{modelOf}
-use Rattle.model.specs.ModelExact.{model-good, good-model}
-use Rattle.model.specs.ModelFaults.{model-refused, model-earned}
+use Rattle.model_files.specs.ModelFile.{State, ModelFile}
+use Rattle.model_files.specs.ModelDocument.{ModelEarns}
+use Rattle.model_files.specs.Described.{modelOf}
+use Rattle.model_files.specs.ModelExact.{model-good, good-model}
+use Rattle.model_files.specs.ModelFaults.{model-refused, model-earned}
 use Rattle.states.specs.Words.{word, words}
 use Rattle.states.specs.WordLaws.{words-length, words-at, word-inside, word-past}
 use Rattle.reader.specs.Files.{Files}

@@ -3,8 +3,8 @@ use mathlib.Core.List.{List}
 use mathlib.Core.Logic.{_⊎_}
 use Prim.Native.Nat.{ℕ, _<_, _≤_}
 use lib.ListN.{length}
-use Rattle.model.specs.ModelFile.{State, ModelFile}
-use Rattle.model.specs.ModelDocument.{ModelEarns}
+use Rattle.model_files.specs.ModelFile.{State, ModelFile}
+use Rattle.model_files.specs.ModelDocument.{ModelEarns}
 use Rattle.reader.specs.Files.{Files}
 use Rattle.reader.specs.WellFormed.{FilesFormed, FilesUnformed}
 use Rattle.demands.specs.Slices.{LentWords}

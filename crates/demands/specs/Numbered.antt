@@ -1,5 +1,6 @@
 -- every refusal's number is at least 1, so its packed form is not 0
 use mathlib.Core.Path.{_≡_, refl}
+use mathlib.Core.Bool.{Bool}
 use mathlib.Core.List.{List}
 use Prim.Native.Nat.{ℕ, _≤_}
 use native.Mathlib.Omega.{arith}
@@ -13,11 +14,12 @@ use Rattle.conditions.specs.Formed as table
 use Rattle.formula.specs.Claim.{Claim, Derivation}
 use Rattle.claim_files.specs.ClaimDocument as claims
 use Rattle.claim_files.specs.ClaimDocument.{ClaimStage, at-entry-count, at-entry, at-fields, at-member-count, at-member}
-use Rattle.proofs.specs.ProofDocument as proofs
-use Rattle.proofs.specs.ProofDocument.{ProofStage, at-node-count, at-node, at-code-count, at-code}
+use Rattle.proof_files.specs.ProofDocument as proofs
+use Rattle.proof_files.specs.ProofDocument.{ProofStage, at-node-count, at-node, at-code-count, at-code}
 use Rattle.calculus.specs.Faults as rules
-use Rattle.model.specs.ModelDocument as models
-use Rattle.model.specs.ModelDocument.{StateStage, StateWrong, unfit-map, zero-mask, zero-count, unfit-successor, ModelStage, at-state-count, at-state}
+use Rattle.model_files.specs.ModelDocument as models
+use Rattle.model_files.specs.ModelDocument.{StateStage, StateWrong, unfit-map, zero-mask, zero-actions, zero-count, unfit-successor, ModelStage, at-state-count, at-state, ModelEarns, by-form}
+use Rattle.model_files.specs.ModelFile.{Form}
 use Rattle.reader.specs.WellFormed.{ClaimUnformed, by-bytes, by-table, by-claim, by-beside}
 use Rattle.demands.specs.Earned.{Earned, by-files, by-rules}
 use Rattle.demands.specs.EvaluationEarned as evaluation
@@ -43,15 +45,16 @@ proof-wrong t (proofs.at-fields m p r b) w n x = absurd x
 proof-wrong t (at-code-count m p r v) w n x = omega (arith, unfit-number x)
 proof-wrong t (at-code m p r v k cs) w n x = omega (arith, unfit-number x)
 
-state-wrong : {k : ℕ} {σ : StateStage} {w : List ℕ} {n : ℕ} → StateWrong k σ w n → 10 ≤ n
+state-wrong : {f : Form} {k c : ℕ} {σ : StateStage} {w : List ℕ} {n : ℕ} → StateWrong f k c σ w n → 10 ≤ n
 state-wrong (unfit-map m o k) = omega arith
 state-wrong (zero-mask m l k) = omega arith
-state-wrong (zero-count w f k) = omega arith
-state-wrong (unfit-successor h us u o k) = omega arith
+state-wrong (zero-actions w e g k) = omega arith
+state-wrong (zero-count w l) = omega arith
+state-wrong (unfit-successor w k us u o r) = omega arith
 
-model-wrong : (σ : ModelStage) (w : List ℕ) (n : ℕ) → models.Wrong σ w n → 10 ≤ n
-model-wrong at-state-count w n x = omega (arith, unfit-number x)
-model-wrong (at-state k m σ) w n x = state-wrong x
+model-wrong : (f : Form) (σ : ModelStage) (w : List ℕ) (n : ℕ) → models.Wrong f σ w n → 10 ≤ n
+model-wrong f at-state-count w n x = omega (arith, unfit-number x)
+model-wrong f (at-state k m σ) w n x = state-wrong x
 
 file-number : {A : Type 0} {opening : List ℕ} {number early : ℕ} {enc : A → List ℕ} {Ok : A → Type 0} {X : Stages} {bytes : List ℕ} {n q : ℕ}
     → 10 ≤ number → 10 ≤ early → ((σ : X .Stage) (w : List ℕ) (n : ℕ) → X .Wrong σ w n → 10 ≤ n)
@@ -61,8 +64,13 @@ file-number a b f (file.ends-early σ t r e l) = b
 file-number a b f (file.wrong σ w t {n} r e x) = f σ w n x
 file-number a b f (file.bytes-follow x y r o e) = b
 
-table-number : {t : Table} {n q : ℕ} → table.Earns t n q → 10 ≤ n
+model-number : {model : List ℕ} {n q : ℕ} → ModelEarns model n q → 10 ≤ n
+model-number (models.no-opening h) = omega arith
+model-number (by-form f o e) = file-number (omega arith) (omega arith) (model-wrong f) e
+
+table-number : {z : ℕ → Bool} {t : Table} {n q : ℕ} → table.Earns z t n q → 10 ≤ n
 table-number (table.bounds h k) = omega arith
+table-number (table.action h k l) = omega arith
 table-number (table.above h k l) = omega arith
 table-number (table.alternation h k l m) = omega arith
 table-number (table.unguarded h k l m o) = omega arith
@@ -87,7 +95,7 @@ earned-number (by-rules f w e) = rules-number e
 pub evaluation-number : {claim model : List ℕ} {l : LentWords} {n q : ℕ} → EvaluationEarned claim model l n q → 1 ≤ n
 evaluation-number (evaluation.by-lengths h) = omega arith
 evaluation-number (evaluation.by-files w (by-claim e)) = omega (arith, claim-number e)
-evaluation-number (evaluation.by-files w (by-beside c k e)) = omega (arith, file-number (omega arith) (omega arith) model-wrong e)
+evaluation-number (evaluation.by-files w (by-beside c k e)) = omega (arith, model-number e)
 
 -- 0 for accepted, and for nothing else
 pub packed-zero : (claim proof : List ℕ) → Bytes claim → Bytes proof → packed (verdict claim proof) ≡ 0 → verdict claim proof ≡ accepted

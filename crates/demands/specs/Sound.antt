@@ -1,5 +1,5 @@
 -- a correct proof is sound: in every finite model every state has a true member of its claim, and of each node's sequent
-use mathlib.Core.Path.{_≡_, refl}
+use mathlib.Core.Path.{_≡_, refl, ap, _∙_}
 use mathlib.Core.Logic.{_⊎_, inl, inr, ⊎-elim}
 use mathlib.Core.List.{List, [], _∷_, List·Memᴰ, List·Memᴰ·head, List·Memᴰ·tail, List·Memᴰ·cases-cons, List·Memᴰ·not-nil}
 use mathlib.Core.Bool.{Bool, true, false}
@@ -8,13 +8,13 @@ use native.Mathlib.Omega.{arith}
 use lib.ListN.{length}
 use Rattle.verdict.specs.Sets.{elements, _⊆_}
 use Rattle.formula.specs.Codes.{entryOf}
-use Rattle.formula.specs.Claim.{Claim, Derivation}
+use Rattle.formula.specs.Claim.{Claim, SpelledClaim, claimOf, Derivation}
 use Rattle.formula.specs.Nodes.{node}
 use Rattle.meaning.specs.States.{Model}
 use Rattle.meaning.specs.Meaning.{own}
 use Rattle.claim_files.specs.ClaimFile.{ClaimFile}
 use Rattle.claim_files.specs.ClaimExact.{one-claim}
-use Rattle.proofs.specs.ProofRecords.{node-count}
+use Rattle.proof_files.specs.ProofRecords.{node-count}
 use Rattle.calculus.specs.Sequents.{listed}
 use Rattle.calculus.specs.CorrectNodes.{CorrectNodes}
 use Rattle.calculus.specs.Falsity.{Falsity}
@@ -75,6 +75,8 @@ module _ {claim proof : List ℕ} (k : Correct claim proof) where
   }
 
 -- of whatever claim the file encodes: there is one only
-pub irrefutable-true : {claim : List ℕ} → Irrefutable claim → (c : Claim) → ClaimFile claim c
-    → (M : Model) (s : ℕ) → s < M .size → (e : ℕ) × elements (c .members) e × (own M (c .entries) e s ≡ true)
-irrefutable-true k c f = rw (← one-claim (k .formed .claim-file) f) (k .some-true)
+pub irrefutable-true : {claim : List ℕ} → Irrefutable claim → (c : SpelledClaim) → ClaimFile claim c
+    → (M : Model) (s : ℕ) → s < M .size → (e : ℕ) × elements (c .members) e × (own M (claimOf c .entries) e s ≡ true)
+irrefutable-true k c f =
+    let same : k .read ≡ claimOf c = k .formed .records ∙ ap claimOf (one-claim (k .formed .claim-file) f) in
+    rw same at (k .some-true)

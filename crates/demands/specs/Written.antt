@@ -14,7 +14,7 @@ use Rattle.encoding.specs.Encode.{Bytes}
 use Rattle.encoding.specs.File.{Reading, refused, good}
 use Rattle.formula.specs.Nodes.{Proof}
 use Rattle.formula.specs.Claim.{Claim, Derivation}
-use Rattle.proofs.specs.ReadProof.{readProof}
+use Rattle.proof_files.specs.ReadProof.{readProof}
 use Rattle.reader.specs.Files.{Files, files, readFormed}
 use Rattle.reader.specs.FilesExact.{files-exactly, formed-exactly}
 use Rattle.calculus.specs.Tree.{Tree}

@@ -1,4 +1,4 @@
-// What each entry depends on: its highest free name, and which entries read whose words.
+// What each entry depends on: its highest free name, and which entries read whose words; and the actions that the claim has.
 ghost use mathlib.Core.Path.{_≡_};
 ghost use mathlib.Core.Bool.{true, false};
 ghost use Prim.Native.Nat.{max, _<_, _≤_};
@@ -6,6 +6,7 @@ ghost use lib.ListN.{length, getD};
 ghost use Rattle.forming.specs.Claim.{Claim};
 ghost use Rattle.dependencies.specs.Tops.{topFrom, Tops};
 ghost use Rattle.dependencies.specs.Users.{Users, Entered};
+ghost use Rattle.dependencies.specs.Actions.{Modal, NearActions, ActionBit, UsedActions};
 use bits::wide;
 use entry_sets::insert;
 use formula::Kind;
@@ -102,4 +103,32 @@ pub fn needs_rounds(kinds: &[u8], a: &[u16], tops: &[u16; 256], e: usize) -> boo
         return false;
     }
     tops[wide(a[e])] != 0
+}
+
+// The action of a box or a diamond as a bit; no bit for any other kind.
+fn action_bit(kind: u8, b: u16) -> u16
+    requires { ⌜ (Modal kind → b < 16) ⌝ }
+    ensures { λ r. ⌜ ActionBit kind b r ⌝ }
+{
+    if kind < Kind::DIAMOND {
+        return 0;
+    }
+    if kind > Kind::BOX {
+        return 0;
+    }
+    1u16 << b
+}
+
+// The actions of the boxes and diamonds: bit n for action n.
+pub fn used_actions(kinds: &[u8], b: &[u16]) -> u16
+    requires { ⌜ NearActions (now kinds) (now b) ⌝ }
+    ensures { λ r. ⌜ UsedActions (now (kinds .entry)) (now (b .entry)) (length (now (kinds .entry))) r ⌝ }
+{
+    let mut used: u16 = 0;
+    let mut e: usize = 0;
+    while e < kinds.len() {
+        used = used | action_bit(kinds[e], b[e]);
+        e += 1;
+    }
+    used
 }

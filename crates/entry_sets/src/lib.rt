@@ -22,7 +22,8 @@ pub fn insert(set: &mut [u64], k: usize)
     set[i] = set[i] | (1u64 << (k % 64));
 }
 
-fn cleared(word: u64, k: usize) -> u64
+// A word without bit k % 64.
+pub fn cleared(word: u64, k: usize) -> u64
     ensures { λ r. ⌜ r ≡ withoutBit word (k % 64) ⌝ }
 {
     word ^ (word & (1u64 << (k % 64)))

@@ -1,17 +1,17 @@
 -- an evaluation in plain numbers: how many entries' records are to be stored, what is answered, and the lent words
 use mathlib.Core.Path.{_≡_, refl}
 use mathlib.Core.List.{List}
-use Prim.Native.Nat.{ℕ, _≤_}
+use Prim.Native.Nat.{ℕ, _<_, _≤_}
 use lib.ListN.{length}
 use Rattle.verdict.specs.Verdict as verdicts
-use Rattle.verdict.specs.Verdict.{accepted, packed}
+use Rattle.verdict.specs.Verdict.{accepted, packedWide, Within}
 use Rattle.verdict.specs.Lists.{written}
 use Rattle.encoding.specs.Encode.{Bytes}
 use Rattle.encoding.specs.File.{Reading, refused, good}
 use Rattle.formula.specs.Table.{Table}
 use Rattle.formula.specs.Plain.{tableOf}
-use Rattle.model.specs.ModelFile.{State}
-use Rattle.model.specs.Described.{modelOf}
+use Rattle.model_files.specs.ModelFile.{State}
+use Rattle.model_files.specs.Described.{modelOf}
 use Rattle.states.specs.Words.{words}
 use Rattle.demands.specs.Slices.{LentWords}
 use Rattle.demands.specs.Evaluate.{Evaluated, unevaluated, evaluating}
@@ -19,7 +19,9 @@ use Rattle.evaluation.specs.declared.Evaluation.{Evaluation}
 
 -- the answer, the words as they are left, and of the columns so many entries as are to be stored over es: what x says
 pub record Right (ks xs ys : List ℕ) (x : Evaluated) (es : Table) (r : Evaluation) (ws : List ℕ) : Type 0 where
-  pub answer : r .answer ≡ packed (x .answer)
+  pub answer : r .answer ≡ packedWide (x .answer)
+  -- with a place that the number tells
+  pub within : Within 4294967296 (x .answer)
   pub words : ws ≡ x .lent .words
   pub entries : x .lent .entries ≡ written (tableOf ks xs ys (r .entries)) es
 
@@ -37,7 +39,10 @@ pub record Staged (x : LentWords → Evaluated) (ws₀ : List ℕ) (r : Evaluati
 
 -- nothing is stored with a refusal
 abbrev pub refusal : ℕ → ℕ → Evaluation
-refusal n q = record { answer = packed (verdicts.refused n q); entries = 0 }
+refusal n q = record { answer = packedWide (verdicts.refused n q); entries = 0 }
+
+abbrev pub Refuses : ℕ → ℕ → Evaluation → Type 0
+Refuses n q r = (r ≡ refusal n q) × (q < 4294967296)
 
 -- the model by bytes, over the table of a well-formed claim; then each entry's word, and the claim's records
 abbrev pub afterModel : Table → Reading (List State) → LentWords → Evaluated

@@ -9,7 +9,7 @@ use lib.Dec.{ltb}
 use lib.ListN.{length, getD, List·getD-eq-default}
 use borrow.Author.Tests.{lt-ltb, le-ltb}
 use Rattle.verdict.specs.Verdict as verdicts
-use Rattle.verdict.specs.Verdict.{packed}
+use Rattle.verdict.specs.Verdict.{packedWide, Within}
 use Rattle.verdict.specs.Lists.{written, valuesFrom, valuesFrom-length, valuesFrom-at}
 use Rattle.encoding.specs.Encode.{Bytes}
 use Rattle.encoding.specs.File.{Reading, refused, good}
@@ -20,27 +20,28 @@ use Rattle.formula.specs.Plain.{tableOf, tableOf-kind}
 use Rattle.conditions.specs.Formed.{Formed}
 use Rattle.meaning.specs.States.{Model}
 use Rattle.claims.specs.ClaimWalk.{ClaimGot}
-use Rattle.claim_files.specs.ClaimRecords.{entry-fits}
-use Rattle.model.specs.ModelFile.{State, FitModel}
-use Rattle.model.specs.Described.{blank, state, modelOf, successorTable}
-use Rattle.model.specs.ReadModel.{readModel}
-use Rattle.model.specs.ModelExact.{good-model}
-use Rattle.model.specs.Decoded.{GoodModel, statesOf, good-states, maskTable}
+use Rattle.model_files.specs.ModelFile.{State, FitModel}
+use Rattle.model_files.specs.Described.{blank, state, modelOf, successorTable}
+use Rattle.model_files.specs.ReadModel.{readModel}
+use Rattle.model_files.specs.ModelExact.{good-model}
+use Rattle.model_files.specs.Decoded.{GoodModel, statesOf, good-states, maskTable}
 use Rattle.states.specs.Words.{words}
 use Rattle.states.specs.PlainModel.{plainModel, wordsIn, plain-described}
 use Rattle.forming.specs.Claim.{Given}
 use Rattle.reader.specs.Files.{andThen, readFormed, besideClaim}
 use Rattle.reader.specs.FilesLaws.{refused-reading}
+use Rattle.reader.specs.FormedLaws.{kind-known}
 use Rattle.reader.specs.FilesExact.{formed-exactly}
 use Rattle.demands.specs.Slices.{LentWords}
 use Rattle.demands.specs.Evaluate.{Evaluated, unevaluated, inModel, evaluated, ifLong, evaluating}
-use Rattle.evaluation.specs.EvaluateFiles.{Right, EvaluatedFiles, Staged, refusal, afterModel}
+use Rattle.evaluation.specs.EvaluateFiles.{Right, EvaluatedFiles, Staged, refusal, Refuses, afterModel}
 use Rattle.evaluation.specs.declared.Evaluation.{Evaluation}
 
 -- what is right by y is right by x that says the same
 right-same : {ks xs ys : List ℕ} {x y : Evaluated} {es : Table} {r : Evaluation} {ws : List ℕ} → x ≡ y → Right ks xs ys y es r ws → Right ks xs ys x es r ws
 right-same h g = record {
-  answer = g .answer ∙ ap (λ (v : Evaluated). packed (v .answer)) (sym h);
+  answer = g .answer ∙ ap (λ (v : Evaluated). packedWide (v .answer)) (sym h);
+  within = subst (λ (v : Evaluated). Within 4294967296 (v .answer)) (sym h) (g .within);
   words = g .words ∙ ap (λ (v : Evaluated). v .lent .words) (sym h);
   entries = ap (λ (v : Evaluated). v .lent .entries) h ∙ g .entries;
 }
@@ -49,14 +50,15 @@ pub staged-same : {x y : LentWords → Evaluated} {ws₀ ks xs ys ws : List ℕ}
 staged-same h s = record { few = s .few; right = λ es. right-same (h _) (s .right es) }
 
 -- a refusal writes nothing
-right-refused : (ks xs ys : List ℕ) (es : Table) (ws : List ℕ) (n q : ℕ) → Right ks xs ys (unevaluated n q (record { entries = es; words = ws })) es (refusal n q) ws
+right-refused : (ks xs ys : List ℕ) (es : Table) (ws : List ℕ) (n q : ℕ) → q < 4294967296
+    → Right ks xs ys (unevaluated n q (record { entries = es; words = ws })) es (refusal n q) ws
 unfolding tableOf valuesFrom
-right-refused ks xs ys es ws n q = record { answer = refl; words = refl; entries = refl }
+right-refused ks xs ys es ws n q h = record { answer = refl; within = h; words = refl; entries = refl }
 
-pub staged-refused : {ks xs ys : List ℕ} (x : LentWords → Evaluated) (ws : List ℕ) {n q : ℕ} {r : Evaluation} → ((l : LentWords) → x l ≡ unevaluated n q l) → r ≡ refusal n q → Staged x ws r ks xs ys ws
-staged-refused {ks} {xs} {ys} x ws {n} {q} h e = rw e (record {
+pub staged-refused : {ks xs ys : List ℕ} (x : LentWords → Evaluated) (ws : List ℕ) {n q : ℕ} {r : Evaluation} → ((l : LentWords) → x l ≡ unevaluated n q l) → Refuses n q r → Staged x ws r ks xs ys ws
+staged-refused {ks} {xs} {ys} x ws {n} {q} h (e, w) = rw e (record {
   few = omega arith;
-  right = λ es. right-same (h _) (right-refused ks xs ys es ws n q);
+  right = λ es. right-same (h _) (right-refused ks xs ys es ws n q w);
 })
 
 -- the letter masks of a model that was read
@@ -91,6 +93,7 @@ module _ (ks xs ys : List ℕ) (k : ℕ) (s : List ℕ) where
       few = few;
       right = λ es. right-same (ap (λ (r : Reading (List State)). afterModel t r (record { entries = es; words = ws₀ })) (good-states s g)) (record {
         answer = refl;
+        within = tt;
         words = e ∙ ap (λ (M : Model). written (words M t) ws₀) (rw (by-masks, by-marks, many) described);
         entries = refl;
       });
@@ -128,7 +131,7 @@ module _ (claim model : List ℕ) where
           few = g .held .entries;
           known = λ e l.
               let same : entry (g .claim .entries) e .kind ≡ getD ks e 0 = ap (λ (t : Table). entry t e .kind) table-is ∙ tableOf-kind ks xs ys n e l in
-              omega (arith, entry-fits (formed .claim-file) e .known);
+              omega (arith, kind-known formed e);
           formed = subst Formed table-is (formed .formed);
         }
 
@@ -141,18 +144,18 @@ module _ (n : ℕ) (claim model ws₀ : List ℕ) (bc : Bytes claim) (bm : Bytes
       ap (λ (c : Bool). ifLong c (record { entries = es; words = ws₀ }) (evaluated (inModel claim model) (record { entries = es; words = ws₀ })))
       (ap (λ (k : ℕ). ltb k 256 || ltb (length ws₀) 256) e ∙ h)
 
-  short-right : (ltb n 256 || ltb (length ws₀) 256) ≡ true → {r : Evaluation} → r ≡ refusal 1 0 → EvaluatedFiles n claim model ws₀ r ks xs ys ws₀
-  short-right h i = rw i (record {
+  short-right : (ltb n 256 || ltb (length ws₀) 256) ≡ true → {r : Evaluation} → Refuses 1 0 r → EvaluatedFiles n claim model ws₀ r ks xs ys ws₀
+  short-right h (i, w) = rw i (record {
     stored = (omega arith, omega arith);
     claim-bytes = bc;
     model-bytes = bm;
-    right = λ es e. right-same (lengths es e true h) (right-refused ks xs ys es ws₀ 1 0);
+    right = λ es e. right-same (lengths es e true h) (right-refused ks xs ys es ws₀ 1 0 w);
   })
 
-  pub entries-short : n < 256 → {r : Evaluation} → r ≡ refusal 1 0 → EvaluatedFiles n claim model ws₀ r ks xs ys ws₀
+  pub entries-short : n < 256 → {r : Evaluation} → Refuses 1 0 r → EvaluatedFiles n claim model ws₀ r ks xs ys ws₀
   entries-short h = short-right (ap (λ (b : Bool). b || ltb (length ws₀) 256) (lt-ltb n 256 h))
 
-  pub words-short : length ws₀ < 256 → {r : Evaluation} → r ≡ refusal 1 0 → EvaluatedFiles n claim model ws₀ r ks xs ys ws₀
+  pub words-short : length ws₀ < 256 → {r : Evaluation} → Refuses 1 0 r → EvaluatedFiles n claim model ws₀ r ks xs ys ws₀
   words-short h = short-right (ap (λ (b : Bool). ltb n 256 || b) (lt-ltb (length ws₀) 256 h) ∙ or-true (ltb n 256))
 
   pub files-evaluated : 256 ≤ n → 256 ≤ length ws₀ → {r : Evaluation} {ws : List ℕ} → Staged (evaluated (inModel claim model)) ws₀ r ks xs ys ws → EvaluatedFiles n claim model ws₀ r ks xs ys ws

@@ -1,33 +1,32 @@
 // An evaluation in plain numbers: the claim's refusals, then the model's, then each entry's word. The claim's columns are lent, since its
 // entries' records are stored from them.
 ghost use Prim.Native.Nat.{_≤_};
-ghost use mathlib.Core.Path.{_≡_};
 ghost use lib.ListN.{length};
 ghost use Rattle.formula.specs.Plain.{tableOf};
 ghost use Rattle.claim_entries.specs.ClaimEntries.{EntryArrays};
-ghost use Rattle.model.specs.ReadModel.{readModel};
+ghost use Rattle.model_files.specs.ReadModel.{readModel};
 ghost use Rattle.forming.specs.Claim.{Given};
 ghost use Rattle.demands.specs.Evaluate.{inModel, evaluated};
-ghost use Rattle.evaluation.specs.EvaluateFiles.{EvaluatedFiles, Staged, refusal, afterModel};
+ghost use Rattle.evaluation.specs.EvaluateFiles.{EvaluatedFiles, Staged, Refuses, afterModel};
 use claims::ClaimRead;
 use evaluator::evaluate;
+use model::judge::Judged;
 use model::judge::judge_model;
 use model::tables::decode_model;
 use model::tables::state_count;
 use reader::read_formed;
-use verdict::Verdict;
 
-// How many entries' records are to be stored, and what is answered: 0, or refusal × 65,536 + place.
+// How many entries' records are to be stored, and what is answered: 0, or refusal × 2^32 + place.
 pub struct Evaluation {
-    pub answer: u32,
+    pub answer: u64,
     pub entries: usize,
 }
 
 // "Refusals 1 to 34 and 60 to 64 write nothing to lent slices."
-fn refuse(number: u16, place: u16) -> Evaluation
-    ensures { λ r. ⌜ r ≡ refusal number place ⌝ }
+fn refuse(number: u16, place: u32) -> Evaluation
+    ensures { λ r. ⌜ Refuses number place r ⌝ }
 {
-    let answer = verdict::pack(Verdict::Refused { number, place });
+    let answer = verdict::pack_wide(number, place);
     Evaluation { answer, entries: 0 }
 }
 
@@ -46,12 +45,22 @@ fn after_model(
         (now (words .entry)) r (now (kinds .entry)) (now (a .entry)) (now (b .entry)) (now (words .exit)) ⌝ }
 {
     match judge_model(model) {
-        Verdict::Refused { number, place } => refuse(number, place),
-        Verdict::Accepted => {
+        Judged::Refused { number, place } => refuse(number, place),
+        Judged::Accepted => {
             let mut masks = [0u32; 64];
             let marks = decode_model(model, &mut masks);
             let states = state_count(model);
-            evaluate(kinds, a, b, count, &masks, marks, states, words);
+            evaluate(
+                kinds,
+                a,
+                b,
+                count,
+                &masks,
+                marks,
+                model.len(),
+                states,
+                words,
+            );
             Evaluation {
                 answer: 0,
                 entries: count,
@@ -60,7 +69,7 @@ fn after_model(
     }
 }
 
-// 10 to 23: the claim's bytes and its table, and then the model.
+// 10 to 23 and 71: the claim's bytes and its table, and then the model.
 fn after_lengths(
     claim: &[u8],
     model: &[u8],
@@ -75,7 +84,7 @@ fn after_lengths(
 {
     let mut members = [0u16; 24];
     match read_formed(claim, kinds, a, b, &mut members) {
-        ClaimRead::Refused { number, place } => refuse(number as u16, place as u16),
+        ClaimRead::Refused { number, place } => refuse(number as u16, place as u32),
         ClaimRead::Read {
             entries,
             members: _,

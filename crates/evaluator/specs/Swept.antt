@@ -2,7 +2,7 @@
 use mathlib.Core.Path.{_≡_, refl, sym, ap, _∙_}
 use mathlib.Core.List.{List, _++_}
 use mathlib.Core.Bool.{true, false≢true}
-use Prim.Native.Nat.{ℕ, _+_, _<_, _≤_}
+use Prim.Native.Nat.{ℕ, _+_, _*_, _^_, _<_, _≤_}
 use native.Mathlib.Omega.{arith}
 use native.Mathlib.Decide.{ℕ-discrete}
 use lib.ListN.{length, getD, take, drop, replicate, length-replicate}
@@ -14,14 +14,21 @@ use Rattle.conditions.specs.WellFormedLaws.{free-in}
 use Rattle.meaning.specs.States.{Model}
 use Rattle.meaning.specs.Meaning.{own}
 use Rattle.bits.specs.Bits.{bit, no-bit}
+use Rattle.states.specs.BitLaws.{bit-within}
 use Rattle.states.specs.Words.{words}
 use Rattle.states.specs.WordLaws.{words-length, words-at}
 use Rattle.states.specs.StateWords.{Inside, by-bits}
-use Rattle.states.specs.PlainModel.{plainModel, wordsIn, rowModel}
+use Rattle.states.specs.PlainModel.{plainModel, wordsIn}
+use Rattle.states.specs.Rows.{rowModel, RowWords, rows-inside, rows-words}
 use Rattle.states.specs.Fill.{Filled}
 use Rattle.bits.specs.WordSet.{inSet, zeros-at, none-in}
 use Rattle.forming.specs.Claim.{tableFrom, Claim, Given, first-entries, claim-length}
+use Rattle.dependencies.specs.Actions.{Modal, UsedActions, used-acts}
 use Rattle.settling.specs.Evaluated.{Known, Standing, Evaluated}
+
+-- the rows of each action of the claim, with no bit past the last state
+abbrev pub Rowed : List ℕ → List ℕ → List ℕ → ℕ → Type 0
+Rowed ks ys rows size = ((e : ℕ) → e < length ks → Modal (getD ks e 0) → 64 * getD ys e 0 + 64 ≤ length rows) × Inside size (length rows) rows
 
 module _ (ks xs ys masks rows : List ℕ) (size : ℕ) where
   abbrev M : Model
@@ -51,13 +58,14 @@ module _ (ks xs ys masks rows : List ℕ) (size : ℕ) where
   swept-none ws ds S = record { standing = S; settled = λ e h l. absurd (omega arith) }
 
   -- at first no entry is settled
-  pub standing-first : Claim ks xs ys → size ≤ 64 → Inside size 64 rows → Standing ks xs ys masks rows size (replicate 256 0) (replicate 4 0)
-  standing-first C h I =
+  pub standing-first : Claim ks xs ys → size ≤ 64 → Rowed ks ys rows size → Standing ks xs ys masks rows size (replicate 256 0) (replicate 4 0)
+  standing-first C h (there, inside) =
       record {
         ready = record {
           claim = C;
           states = h;
-          rows-inside = I;
+          rows-there = λ e l x y. there e l (x, y);
+          rows-inside = inside;
           words-there = length-replicate {A = ℕ} 256 0;
           words-inside = λ e s k m. ap (λ (w : ℕ). bit w s) (zeros-at 256 e) ∙ no-bit s;
         };
@@ -75,6 +83,19 @@ module _ (ks xs ys masks rows : List ℕ) (size : ℕ) where
       F .below e (omega (arith, q))
       ∙ by-bits size (own M t e) (getD ws e 0) (S .standing .good e (S .settled e (omega arith) l)) (λ s k. S .standing .ready .words-inside e s l k)
       ∙ sym (words-at M t e (omega (arith, n))))
+
+-- the rows of the actions in a map of n bits fit into 64 * n words
+pub row-room : (n used : ℕ) → used < 2 ^ n → (a : ℕ) → bit used a ≡ true → 64 * a + 64 ≤ 64 * n
+row-room n used h a k = omega (arith, bit-within n used a h k)
+
+-- what was made of the marks for the actions of the claim is such rows, and gives the words of the marks
+module _ {ks xs ys : List ℕ} (C : Claim ks xs ys) {used : ℕ} (U : UsedActions ks ys (length ks) used) {size : ℕ} (few : size ≤ 64) (k : ℕ)
+    {marks : List (List ℕ)} {rows : List ℕ} (R : RowWords marks used size (replicate k 0) 16 rows) where
+  pub made-rows : ((a : ℕ) → bit used a ≡ true → 64 * a + 64 ≤ k) → Rowed ks ys rows size
+  made-rows room = (λ e l m. omega (arith, room (getD ys e 0) (U .there e l m), R .long, length-replicate {A = ℕ} k 0), rows-inside k few R (length rows))
+
+  pub made-words : (masks : List ℕ) → words (rowModel masks rows size) (tableFrom ks xs ys) ≡ wordsIn masks marks size (tableFrom ks xs ys)
+  made-words masks = rows-words k few R masks (tableFrom ks xs ys) (used-acts C U) (C .formed .well)
 
 -- the words of the first n entries, and what was there before unchanged beyond them
 pub first-written : {ks xs ys : List ℕ} {n : ℕ} {ws : List ℕ} → Given ks xs ys n ws → (masks : List ℕ) (marks : List (List ℕ)) (size : ℕ) (vs : List ℕ)

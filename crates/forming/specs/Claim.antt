@@ -29,7 +29,7 @@ pub record Claim (ks xs ys : List ℕ) : Type 0 where
   pub few : length ks ≤ 256
   -- kinds 0 to 10
   pub known : (e : ℕ) → e < length ks → getD ks e 0 ≤ 10
-  -- none of 20 to 23 is earned
+  -- none of 20 to 23 and 71 is earned
   pub formed : Formed (tableFrom ks xs ys)
 
 pub claim-length : (ks xs ys : List ℕ) → length (tableFrom ks xs ys) ≡ length ks
@@ -64,11 +64,11 @@ module _ {ks xs ys : List ℕ} (C : Claim ks xs ys) (e : ℕ) (l : e < length ks
   unfolding shapeOf
   and-at q = by-kind (rw q refl)
 
-  pub diamond-at : getD ks e 0 ≡ 6 → shape (tableFrom ks xs ys) e ≡ step diamond (getD xs e 0)
+  pub diamond-at : getD ks e 0 ≡ 6 → shape (tableFrom ks xs ys) e ≡ step (diamond (getD ys e 0)) (getD xs e 0)
   unfolding shapeOf
   diamond-at q = by-kind (rw q refl)
 
-  pub box-at : getD ks e 0 ≡ 7 → shape (tableFrom ks xs ys) e ≡ step box (getD xs e 0)
+  pub box-at : getD ks e 0 ≡ 7 → shape (tableFrom ks xs ys) e ≡ step (box (getD ys e 0)) (getD xs e 0)
   unfolding shapeOf
   box-at q = by-kind (rw q refl)
 
@@ -105,8 +105,8 @@ module _ {ks xs ys : List ℕ} (C : Claim ks xs ys) (e : ℕ) (l : e < length ks
   step-at h k = go (ℕ-discrete (getD ks e 0) 6)
     where
       go : Dec (getD ks e 0 ≡ 6) → (m : Step) × (shape (tableFrom ks xs ys) e ≡ step m (getD xs e 0))
-      go (yes q) = (diamond, diamond-at q)
-      go (no n) = (box, box-at (omega arith))
+      go (yes q) = (diamond (getD ys e 0), diamond-at q)
+      go (no n) = (box (getD ys e 0), box-at (omega arith))
 
   pub fix-at : 7 < getD ks e 0 → getD ks e 0 < 10 → (σ : Fix) × (shape (tableFrom ks xs ys) e ≡ fix σ (getD xs e 0))
   fix-at h k = go (ℕ-discrete (getD ks e 0) 8)
@@ -145,6 +145,13 @@ module _ {ks xs ys : List ℕ} (C : Claim ks xs ys) (e : ℕ) (l : e < length ks
       go : Dec (getD ks e 0 ≡ 2) → getD xs e 0 < 32
       go (yes q) = C .formed .letters e _ (inl (letter-at q))
       go (no n) = C .formed .letters e _ (inr (negated-at (omega arith)))
+
+  pub action-small : 5 < getD ks e 0 → getD ks e 0 < 8 → getD ys e 0 < 16
+  action-small h k = go (ℕ-discrete (getD ks e 0) 6)
+    where
+      go : Dec (getD ks e 0 ≡ 6) → getD ys e 0 < 16
+      go (yes q) = C .formed .actions e _ _ (inl (diamond-at q))
+      go (no n) = C .formed .actions e _ _ (inr (box-at (omega arith)))
 
 -- the same of the first n entries of longer lists
 pub record Given (ks xs ys : List ℕ) (n : ℕ) (ws : List ℕ) : Type 0 where

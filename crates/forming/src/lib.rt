@@ -27,13 +27,14 @@ fn leaf_word(masks: &[u32; 64], size: usize, kind: u8, p: u16) -> u64
     letter_word(masks, size, p, 0)
 }
 
-// One step from the words as they stand; a fixpoint and a name read their body's and their fixpoint's.
+// One step from the words as they stand; a fixpoint and a name read their body's and their fixpoint's, a box and a diamond the rows of their
+// action too.
 pub fn formed(
     kinds: &[u8],
     a: &[u16],
     b: &[u16],
     words: &[u64],
-    rows: &[u64; 64],
+    rows: &[u64],
     masks: &[u32; 64],
     size: usize,
     e: usize,
@@ -49,16 +50,18 @@ pub fn formed(
         return leaf_word(masks, size, kind, p);
     }
     let x = words[wide(p)];
+    // the second operand, or the action
+    let q = wide(b[e]);
     if kind == Kind::DIAMOND {
-        return diamond_word(rows, size, x);
+        return diamond_word(&rows[64 * q..], size, x);
     }
     if kind == Kind::BOX {
-        return box_word(rows, size, x);
+        return box_word(&rows[64 * q..], size, x);
     }
     if kind > Kind::BOX {
         return x;
     }
-    let y = words[wide(b[e])];
+    let y = words[q];
     if kind == Kind::OR {
         return x | y;
     }

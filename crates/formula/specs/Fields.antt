@@ -18,6 +18,10 @@ hasA k = leb Kind.LETTER k && leb k Kind.NAME
 abbrev pub hasB : ℕ → Bool
 hasB k = leb Kind.OR k && leb k Kind.AND
 
+-- 6 and 7 are the modalities
+abbrev pub isModal : ℕ → Bool
+isModal k = leb Kind.DIAMOND k && leb k Kind.BOX
+
 -- 8 and 9 are the fixpoints
 abbrev pub isFixpoint : ℕ → Bool
 isFixpoint k = leb Kind.MU k && leb k Kind.NU

@@ -4,6 +4,7 @@ pub mod Rule
 pub mod Table
 pub mod Codes
 pub mod Nodes
+pub mod Spelled
 pub mod Claim
 pub mod Fields
 pub mod FieldLaws

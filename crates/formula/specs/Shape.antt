@@ -15,8 +15,9 @@ pub data Two : Type 0 where
   or and : Two
   deriving Discrete as Two-discrete
 
+-- a modality with its action
 pub data Step : Type 0 where
-  diamond box : Step
+  diamond box : ℕ → Step
   deriving Discrete as Step-discrete
 
 pub data Fix : Type 0 where
@@ -36,7 +37,7 @@ unfoldable pub shapeOf : Entry → Shape
 shapeOf r =
     getD
     (leaf never ∷ leaf always ∷ leaf (letter (r .a)) ∷ leaf (negated (r .a)) ∷ two or (r .a) (r .b) ∷ two and (r .a) (r .b)
-    ∷ step diamond (r .a) ∷ step box (r .a) ∷ fix mu (r .a) ∷ fix nu (r .a) ∷ name (r .a) ∷ [])
+    ∷ step (diamond (r .b)) (r .a) ∷ step (box (r .b)) (r .a) ∷ fix mu (r .a) ∷ fix nu (r .a) ∷ name (r .a) ∷ [])
     (r .kind) (leaf never)
 
 unfoldable pub shape : Table → ℕ → Shape

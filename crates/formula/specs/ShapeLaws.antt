@@ -4,7 +4,7 @@ use mathlib.Core.Logic.{_≢_, _⊎_, inl, inr}
 use Prim.Native.Nat.{ℕ, zero, suc}
 use native.Mathlib.Omega.{arith}
 use Rattle.formula.specs.Kind
-use Rattle.formula.specs.Table.{Table, entry, kind}
+use Rattle.formula.specs.Table.{Table, entry, kind, action}
 use Rattle.formula.specs.Shape.{Shape, leaf, two, step, fix, name, never, always, letter, negated, or, and, diamond, box, mu, nu, shapeOf, shape}
 use Rattle.formula.specs.Target.{targetOf, target}
 use Rattle.formula.specs.TableLaws.{target-at, target-by}
@@ -34,11 +34,11 @@ module _ (t : Table) (e : ℕ) where
   unfolding shape shapeOf
   and-shape q = rw q refl
 
-  pub diamond-shape : kind t e ≡ Kind.DIAMOND → shape t e ≡ step diamond (entry t e .a)
+  pub diamond-shape : kind t e ≡ Kind.DIAMOND → shape t e ≡ step (diamond (action t e)) (entry t e .a)
   unfolding shape shapeOf
   diamond-shape q = rw q refl
 
-  pub box-shape : kind t e ≡ Kind.BOX → shape t e ≡ step box (entry t e .a)
+  pub box-shape : kind t e ≡ Kind.BOX → shape t e ≡ step (box (action t e)) (entry t e .a)
   unfolding shape shapeOf
   box-shape q = rw q refl
 
@@ -62,8 +62,8 @@ kindOf (leaf (letter p)) = Kind.LETTER
 kindOf (leaf (negated p)) = Kind.NEGATED
 kindOf (two or a b) = Kind.OR
 kindOf (two and a b) = Kind.AND
-kindOf (step diamond a) = Kind.DIAMOND
-kindOf (step box a) = Kind.BOX
+kindOf (step (diamond n) a) = Kind.DIAMOND
+kindOf (step (box n) a) = Kind.BOX
 kindOf (fix mu a) = Kind.MU
 kindOf (fix nu a) = Kind.NU
 kindOf (name x) = Kind.NAME
@@ -78,24 +78,33 @@ fieldA (step m a) d = a
 fieldA (fix σ a) d = a
 fieldA (name x) d = x
 
--- v tells the kind k, unless it is false, which any number past the last kind stands for too, and the field a
-abbrev Tells-back : Shape → ℕ → ℕ → Type 0
-Tells-back v k a = ((kindOf v ≡ Kind.FALSE) ⊎ (k ≡ kindOf v)) × (fieldA v a ≡ a)
+-- the action of a modal step, or d
+actionOf : Shape → ℕ → ℕ
+actionOf (leaf l) d = d
+actionOf (two o a b) d = d
+actionOf (step (diamond n) a) d = n
+actionOf (step (box n) a) d = n
+actionOf (fix σ a) d = d
+actionOf (name x) d = d
 
-shape-back : (k a b : ℕ) → Tells-back (shapeOf (record { kind = k; a = a; b = b })) k a
-unfolding shapeOf fieldA
-shape-back zero a b = (inl refl, refl)
-shape-back (suc zero) a b = (inr refl, refl)
-shape-back (suc (suc zero)) a b = (inr refl, refl)
-shape-back (suc (suc (suc zero))) a b = (inr refl, refl)
-shape-back (suc (suc (suc (suc zero)))) a b = (inr refl, refl)
-shape-back (suc (suc (suc (suc (suc zero))))) a b = (inr refl, refl)
-shape-back (suc (suc (suc (suc (suc (suc zero)))))) a b = (inr refl, refl)
-shape-back (suc (suc (suc (suc (suc (suc (suc zero))))))) a b = (inr refl, refl)
-shape-back (suc (suc (suc (suc (suc (suc (suc (suc zero)))))))) a b = (inr refl, refl)
-shape-back (suc (suc (suc (suc (suc (suc (suc (suc (suc zero))))))))) a b = (inr refl, refl)
-shape-back (suc (suc (suc (suc (suc (suc (suc (suc (suc (suc zero)))))))))) a b = (inr refl, refl)
-shape-back (suc (suc (suc (suc (suc (suc (suc (suc (suc (suc (suc k))))))))))) a b = (inl refl, refl)
+-- v tells the kind k, unless it is false, which any number past the last kind stands for too, the field a, and of a modal step the action b
+abbrev Tells-back : Shape → ℕ → ℕ → ℕ → Type 0
+Tells-back v k a b = ((kindOf v ≡ Kind.FALSE) ⊎ (k ≡ kindOf v)) × (fieldA v a ≡ a) × (actionOf v b ≡ b)
+
+shape-back : (k a b : ℕ) → Tells-back (shapeOf (record { kind = k; a = a; b = b })) k a b
+unfolding shapeOf fieldA actionOf
+shape-back zero a b = (inl refl, refl, refl)
+shape-back (suc zero) a b = (inr refl, refl, refl)
+shape-back (suc (suc zero)) a b = (inr refl, refl, refl)
+shape-back (suc (suc (suc zero))) a b = (inr refl, refl, refl)
+shape-back (suc (suc (suc (suc zero)))) a b = (inr refl, refl, refl)
+shape-back (suc (suc (suc (suc (suc zero))))) a b = (inr refl, refl, refl)
+shape-back (suc (suc (suc (suc (suc (suc zero)))))) a b = (inr refl, refl, refl)
+shape-back (suc (suc (suc (suc (suc (suc (suc zero))))))) a b = (inr refl, refl, refl)
+shape-back (suc (suc (suc (suc (suc (suc (suc (suc zero)))))))) a b = (inr refl, refl, refl)
+shape-back (suc (suc (suc (suc (suc (suc (suc (suc (suc zero))))))))) a b = (inr refl, refl, refl)
+shape-back (suc (suc (suc (suc (suc (suc (suc (suc (suc (suc zero)))))))))) a b = (inr refl, refl, refl)
+shape-back (suc (suc (suc (suc (suc (suc (suc (suc (suc (suc (suc k))))))))))) a b = (inl refl, refl, refl)
 
 -- the kind by the shape, and field A
 module _ (t : Table) (e : ℕ) where
@@ -111,6 +120,10 @@ module _ (t : Table) (e : ℕ) where
   unfolding shape
   field-of q = sym (shape-back (entry t e .kind) (entry t e .a) (entry t e .b) .1) ∙ ap (λ (v : Shape). fieldA v (entry t e .a)) q
 
+  action-of : {v : Shape} → shape t e ≡ v → action t e ≡ actionOf v (action t e)
+  unfolding shape
+  action-of q = sym (shape-back (entry t e .kind) (entry t e .a) (entry t e .b) .2) ∙ ap (λ (v : Shape). actionOf v (action t e)) q
+
   pub true-kind : shape t e ≡ leaf always → kind t e ≡ Kind.TRUE
   true-kind q = kind-of q (λ z. omega arith)
 
@@ -122,9 +135,9 @@ module _ (t : Table) (e : ℕ) where
   unfolding fieldA
   negated-kind q = (kind-of q (λ z. omega arith), field-of q)
 
-  pub box-kind : {a : ℕ} → shape t e ≡ step box a → (kind t e ≡ Kind.BOX) × (entry t e .a ≡ a)
-  unfolding fieldA
-  box-kind q = (kind-of q (λ z. omega arith), field-of q)
+  pub box-kind : {n a : ℕ} → shape t e ≡ step (box n) a → (kind t e ≡ Kind.BOX) × (entry t e .a ≡ a) × (action t e ≡ n)
+  unfolding fieldA actionOf
+  box-kind q = (kind-of q (λ z. omega arith), field-of q, action-of q)
 
   pub name-kind : {x : ℕ} → shape t e ≡ name x → kind t e ≡ Kind.NAME
   name-kind q = kind-of q (λ z. omega arith)

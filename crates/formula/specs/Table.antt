@@ -21,3 +21,7 @@ entry t e = getD t e blank
 
 abbrev pub kind : Table → ℕ → ℕ
 kind t e = entry t e .kind
+
+-- the action of a box or diamond stands in its field B
+abbrev pub action : Table → ℕ → ℕ
+action t e = entry t e .b

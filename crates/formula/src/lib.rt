@@ -3,7 +3,7 @@ ghost use mathlib.Core.Path.{_≡_};
 ghost use mathlib.Core.List.{List};
 ghost use Prim.Native.Nat.{ℕ, _+_, _<_, _≤_};
 ghost use Rattle.bits.specs.IfSet.{ifSet};
-ghost use Rattle.formula.specs.Fields.{hasA, hasB, isFixpoint, hasPrincipal, hasFirst, hasSecond, hasBack, mapOf, lowMap, linkWidth};
+ghost use Rattle.formula.specs.Fields.{hasA, hasB, isModal, isFixpoint, hasPrincipal, hasFirst, hasSecond, hasBack, mapOf, lowMap, linkWidth};
 ghost use Rattle.formula.specs.Plain.{tableOf};
 ghost use Rattle.formula.specs.Target as targets;
 use bits::if_set;
@@ -58,6 +58,13 @@ impl Kind {
             return 0b01;
         }
         0
+    }
+
+    // Whether it is a diamond or a box.
+    pub fn is_modal(kind: u8) -> bool
+        ensures { λ r. ⌜ r ≡ isModal kind ⌝ }
+    {
+        Kind::DIAMOND <= kind && kind <= Kind::BOX
     }
 
     // Whether it is a least or a greatest fixpoint.

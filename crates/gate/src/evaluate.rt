@@ -4,14 +4,15 @@ use evaluation::evaluate_files;
 use records::Entry;
 use records::store_entries;
 
-// Each entry's word in the model, and the claim's entries as records: 0, or refusal × 65,536 + place.
+// Each entry's word in the model, and the claim's entries as records: 0, or refusal × 2^32 + place, since a place in a model can be wider
+// than two bytes.
 #[no_mangle]
 pub extern "C" fn focus_evaluate(
     claim: &[u8],
     model: &[u8],
     entries: &mut [Entry],
     words: &mut [u64],
-) -> u32
+) -> u64
     ensures { λ r. ⌜ EvaluateCall (now (claim .entry)) (now (model .entry)) (now (entries .entry)) (now (words .entry)) r (now (entries .exit))
         (now (words .exit)) ⌝ }
 {

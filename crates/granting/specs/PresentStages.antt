@@ -4,7 +4,7 @@ use mathlib.Core.Bool.{_||_, or-true}
 use Prim.Native.Nat.{ℕ, _<_, _≤_}
 use lib.Dec.{ltb}
 use borrow.Author.Tests.{lt-ltb, le-ltb}
-use Rattle.verdict.specs.Verdict.{Verdict, accepted, refused, pick, packed}
+use Rattle.verdict.specs.Verdict.{Verdict, accepted, refused, pick, packed, Within}
 use Rattle.permit.specs.GateState.{Gate, closed, opened, holding}
 use Rattle.permit.specs.declared.State.{State}
 use Rattle.permit.specs.declared.Numbered.{Numbered}
@@ -22,6 +22,7 @@ settledState (refused n q) tag s = s
 
 pub record Settled (s : State) (tag : ℕ) (v : Verdict) (r : Numbered) : Type 0 where
   pub answer : r .answer ≡ packed v
+  pub within : Within 65536 v
   pub state : r .state ≡ settledState v tag s
 
 module _ (entries nodes codes : ℕ) where

@@ -1,34 +1,25 @@
 -- a claim that was read has formulas that can be numbered, and what is known of the column that has their numbers
 use mathlib.Core.Path.{_≡_, subst, sym, ap}
-use mathlib.Core.Bool.{false, not}
+use mathlib.Core.Bool.{false}
 use mathlib.Core.List.{List}
 use Prim.Native.Nat.{ℕ, _<_}
 use native.Mathlib.Decide.{decLt}
 use native.Mathlib.Omega.{arith}
 use lib.ListN.{length, getD, replicate}
-use borrow.Author.Tests.{not-true}
-use Rattle.verdict.specs.VerdictLaws.{scan-says}
 use Rattle.bits.specs.WordSet.{zeros-at}
 use Rattle.formula.specs.Table.{Table, entry}
-use Rattle.formula.specs.Shape.{shape}
 use Rattle.formula.specs.Plain.{tableOf, tableOf-length, tableOf-kind}
 use Rattle.formula.specs.Claim.{Claim}
 use Rattle.formula.specs.Held.{ClaimHeld}
-use Rattle.conditions.specs.Judge.{bad, judgeBy, judgeTable}
-use Rattle.conditions.specs.JudgeExact.{judge-accepts}
-use Rattle.conditions.specs.Formed.{Formed}
+use Rattle.conditions.specs.Judge.{plainly}
+use Rattle.conditions.specs.JudgeExact.{formed-bounded}
 use Rattle.conditions.specs.WellFormed.{WellFormed}
 use Rattle.operands.specs.OperandBounds.{outOf}
-use Rattle.claim_files.specs.ClaimRecords.{entry-fits}
 use Rattle.reader.specs.WellFormed.{ClaimFormed}
+use Rattle.reader.specs.FormedLaws.{kind-known}
 use Rattle.written.specs.CanonLaws.{canon-inside}
 use Rattle.numbers.specs.Numbered.{Numberable, Numbered}
 use Rattle.sequents.specs.Keys.{Numbers}
-
--- a well-formed table earns no 20
-formed-placed : (t : Table) → Formed t → (w : ℕ) → w < length t → outOf t w ≡ false
-unfolding judgeTable judgeBy
-formed-placed t F w h = not-true _ (scan-says (λ e. not (bad t e (shape t e))) (λ e. 20) (length t) 0 _ (judge-accepts t .1 F) .0 w (omega arith) (omega arith))
 
 module _ {bytes : List ℕ} {c : Claim} (F : ClaimFormed bytes c) {ks xs ys ms : List ℕ} {n k : ℕ} (held : ClaimHeld c ks xs ys n ms k) where
   table-is : c .entries ≡ tableOf ks xs ys n
@@ -37,8 +28,8 @@ module _ {bytes : List ℕ} {c : Claim} (F : ClaimFormed bytes c) {ks xs ys ms :
   pub numberable : Numberable ks xs ys n
   numberable = record {
     small = held .entries;
-    known = λ e h. omega (arith, entry-fits (F .claim-file) e .known, ap (λ (t : Table). entry t e .kind) table-is, tableOf-kind ks xs ys n e h);
-    placed = λ w h. subst (λ (t : Table). outOf t w ≡ false) table-is (formed-placed (c .entries) (F .formed) w (omega (arith, ap length table-is, tableOf-length ks xs ys n)));
+    known = λ e h. omega (arith, kind-known F e, ap (λ (t : Table). entry t e .kind) table-is, tableOf-kind ks xs ys n e h);
+    placed = λ w h. subst (λ (t : Table). outOf t w ≡ false) table-is (formed-bounded plainly (c .entries) (F .formed) w);
     wf = subst WellFormed table-is (F .formed .well);
   }
 

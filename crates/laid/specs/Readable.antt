@@ -15,10 +15,9 @@ use Rattle.formula.specs.Held.{heldClaim, heldProof}
 use Rattle.formula.specs.Records.{allCodes}
 use Rattle.formula.specs.NodeColumns.{Columns, start-stands}
 use Rattle.formula.specs.CodeCounts.{few-codes, more-codes}
-use Rattle.claim_files.specs.ClaimRecords.{member-formula}
-use Rattle.proofs.specs.ProofFile.{ProofFile}
-use Rattle.proofs.specs.ProofExact.{proof-good}
-use Rattle.proofs.specs.ProofRecords.{node-count, codes-few, code-formula}
+use Rattle.proof_files.specs.ProofFile.{ProofFile}
+use Rattle.proof_files.specs.ProofExact.{proof-good}
+use Rattle.proof_files.specs.ProofRecords.{node-count, codes-few, code-formula}
 use Rattle.nodes.specs.ProofDecode.{proofIn, Decodes}
 use Rattle.nodes.specs.ProofGood.{good-decoded}
 use Rattle.nodes.specs.ProofStored.{NodesStored, stored-proof}
@@ -30,6 +29,7 @@ use Rattle.reader.specs.Files.{files}
 use Rattle.reader.specs.FilesExact.{files-exactly}
 use Rattle.reader.specs.Found.{FilesGot}
 use Rattle.reader.specs.WellFormed as reader
+use Rattle.reader.specs.FormedLaws.{member-formula}
 use Rattle.laid.specs.Numbering.{numberable}
 
 -- the nodes that stand in a proof file
@@ -62,7 +62,7 @@ module _ (claim proof : List ℕ) (bc : Bytes claim) (bp : Bytes proof) {ks xs y
       few = g .held .members;
       long = g .held .listed;
       inside = λ e h.
-          let inside = member-formula (formed .claim-formed .claim-file) e (subst (λ (c : Claim). elements (c .members) e) (g .held .same) h) .inside in
+          let inside = member-formula (formed .claim-formed) e (subst (λ (c : Claim). elements (c .members) e) (g .held .same) h) .inside in
           omega (arith, inside, ap length same-entries, tableOf-length ks xs ys n);
     };
     decodes = good-decoded (g .files .claim) proof (proof-good (formed .beside-formed)) .decodes;

@@ -7,18 +7,19 @@ use native.Mathlib.Omega.{arith}
 use native.Mathlib.Numerals.{add-one}
 use borrow.Author.Tests.{ltb-true, ltb-false}
 use lib.Dec.{ltb}
-use lib.ListN.{length, getD, take, drop, set, length-append, length-drop}
+use lib.ListN.{length, getD, take, drop, set, length-append, length-drop, length-map}
 use lib.Seq.{sets, length-sets, sets-eq, drop-cons, drop-drop, length-take-le, take-length}
 use Rattle.verdict.specs.Lists.{valuesFrom, valuesFrom-length, written}
 use Rattle.formula.specs.Table.{Entry}
 use Rattle.formula.specs.Nodes.{Node}
 use Rattle.formula.specs.Records.{NodeRecord}
 use Rattle.formula.specs.Fields.{hasPrincipal, hasFirst, hasSecond, hasBack}
-use Rattle.formula.specs.Claim.{Claim, Derivation}
+use Rattle.formula.specs.Claim.{SpelledClaim, Derivation}
 use Rattle.formula.specs.Plain.{plainEntry, tableOf}
 use Rattle.encoding.specs.Encode.{encodeTwo, encodePart, encodeField, encodeAll}
 use Rattle.claim_files.specs.ClaimFile.{claimOpening, encodeEntry, encodeClaim}
-use Rattle.proofs.specs.ProofFile.{proofOpening, encodeCodes, full, encodeNode, encodeProof}
+use Rattle.proof_files.specs.ProofFile.{proofOpening, encodeCodes, full, encodeNode, encodeProof}
+use Rattle.writing.specs.Spelling.{spelledAs, spellingOf, spelledClaim}
 use Rattle.writing.specs.Held.{plainRecord, recordsOf, NodesGiven}
 use Rattle.writing.specs.FieldEnds.{numbers-long}
 use Rattle.writing.specs.ProofEnds.{nodesOver}
@@ -76,14 +77,14 @@ numbers-step ns from n i h long =
 
 module _ (ks xs ys : List ℕ) where
   abbrev pub entriesLeft : ℕ → ℕ → List ℕ
-  entriesLeft i k = encodeAll encodeEntry (valuesFrom (plainEntry ks xs ys) i k)
+  entriesLeft i k = encodeAll encodeEntry (spellingOf (valuesFrom (plainEntry ks xs ys) i k))
 
-  pub entries-step : (n i : ℕ) → i < n → entriesLeft i (n - i) ≡ encodeEntry (plainEntry ks xs ys i) ++ entriesLeft (i + 1) (n - (i + 1))
+  pub entries-step : (n i : ℕ) → i < n → entriesLeft i (n - i) ≡ encodeEntry (spelledAs (plainEntry ks xs ys i)) ++ entriesLeft (i + 1) (n - (i + 1))
   unfolding encodeAll valuesFrom
   entries-step n i h =
       let e : n - i ≡ suc (n - (i + 1)) = omega arith in
       let j : suc i ≡ i + 1 = omega arith in
-      ap (entriesLeft i) e ∙ ap (λ (u : ℕ). encodeEntry (plainEntry ks xs ys i) ++ entriesLeft u (n - (i + 1))) j
+      ap (entriesLeft i) e ∙ ap (λ (u : ℕ). encodeEntry (spelledAs (plainEntry ks xs ys i)) ++ entriesLeft u (n - (i + 1))) j
 
 -- a node by its rule, its links and its codes
 abbrev pub nodeAt : ℕ → List ℕ → ℕ → List ℕ → ℕ → ℕ → Node
@@ -120,9 +121,9 @@ codesPart cs start n = encodePart (full (take n (drop start cs))) encodeCodes (t
 abbrev pub entryAt : ℕ → ℕ → ℕ → Entry
 entryAt k a b = record { kind = k; a = a; b = b }
 
--- the claim and the proof that stand in the columns
-abbrev pub claimOf : List ℕ → List ℕ → List ℕ → ℕ → List ℕ → Claim
-claimOf ks xs ys n ms = record { entries = tableOf ks xs ys n; members = ms }
+-- the claim that stands in the columns, as it is spelled, and the proof
+abbrev pub claimOf : List ℕ → List ℕ → List ℕ → ℕ → List ℕ → SpelledClaim
+claimOf ks xs ys n ms = spelledClaim (tableOf ks xs ys n) ms
 
 abbrev pub proofOf : List ℕ → List ℕ → List ℕ → List ℕ → ℕ → Derivation
 proofOf rs ls ns cs n = record { nodes = nodesOver (recordsOf rs ls ns n) cs }
@@ -263,7 +264,7 @@ module _ (ks xs ys : List ℕ) (n : ℕ) (ms : List ℕ) where
 
   pub claim-parts : claimParts ≡ encodeClaim (claimOf ks xs ys n ms)
   unfolding tableOf
-  claim-parts = rw (valuesFrom-length (plainEntry ks xs ys) 0 n, take-length ms) refl
+  claim-parts = rw (length-map (valuesFrom (plainEntry ks xs ys) 0 n) spelledAs, valuesFrom-length (plainEntry ks xs ys) 0 n, take-length ms) refl
 
   pub parts-fit : (out : List ℕ) → length (encodeClaim (claimOf ks xs ys n ms)) ≤ length out → 0 + length claimParts ≤ length out
   parts-fit out h = omega (arith, ap length claim-parts)

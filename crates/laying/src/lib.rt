@@ -8,14 +8,15 @@ ghost use lib.Seq.{sets};
 ghost use Rattle.verdict.specs.Lists.{written};
 ghost use Rattle.encoding.specs.Encode.{encodeTwo, encodeField};
 ghost use Rattle.claim_files.specs.ClaimFile.{encodeEntry, encodeClaim};
-ghost use Rattle.proofs.specs.ProofFile.{encodeNode, encodeProof};
+ghost use Rattle.proof_files.specs.ProofFile.{encodeNode, encodeProof};
+ghost use Rattle.writing.specs.Spelling.{mapFor, spelledAs};
 ghost use Rattle.laying.specs.Laying.{Fits, Put, numbersLeft, entriesLeft, entryAt, claimOf, nodeAt, linkBytes, codesPart, NodeRoom, nodesLeft, proofOf};
 use bits::if_set;
 use bits::wide;
 use claim_files::CLAIM_OPENING;
 use formula::Kind;
 use formula::Rule;
-use proofs::PROOF_OPENING;
+use proof_files::PROOF_OPENING;
 
 // Two-byte fields are little-endian.
 fn put_two(out: &mut [u8], at: usize, value: u16)
@@ -65,15 +66,29 @@ fn put_opening(out: &mut [u8], a: u8, b: u8, c: u8, d: u8, count: usize)
     put_two(out, 4, count as u16);
 }
 
+// The map of the kind, or map 3 for a box or diamond with an action other than 0: action 0 is never written out.
+fn map_for(kind: u8, b: u16) -> u8
+    ensures { λ r. ⌜ r ≡ mapFor kind b ⌝ }
+{
+    if b == 0 {
+        return Kind::map(kind);
+    }
+    if Kind::is_modal(kind) {
+        return 3;
+    }
+    Kind::map(kind)
+}
+
 // A bit map byte, a kind byte, then only the fields whose bit stands.
 fn put_entry(out: &mut [u8], at: usize, kind: u8, a: u16, b: u16) -> usize
-    requires { ⌜ Fits (now out) at (encodeEntry (entryAt kind a b)) ⌝ }
-    ensures { λ r. ⌜ Put (now (out .entry)) at (encodeEntry (entryAt kind a b)) r (now (out .exit)) ⌝ }
+    requires { ⌜ Fits (now out) at (encodeEntry (spelledAs (entryAt kind a b))) ⌝ }
+    ensures { λ r. ⌜ Put (now (out .entry)) at (encodeEntry (spelledAs (entryAt kind a b))) r (now (out .exit)) ⌝ }
 {
-    out[at] = Kind::map(kind);
+    let map = map_for(kind, b);
+    out[at] = map;
     out[at + 1] = kind;
-    let next = put_field(out, at + 2, Kind::has_a(kind), a);
-    put_field(out, next, Kind::has_b(kind), b)
+    let next = put_field(out, at + 2, map % 2 == 1, a);
+    put_field(out, next, 2 <= map, b)
 }
 
 fn put_entries(

@@ -6,7 +6,7 @@ use Prim.Native.Nat.{ℕ, zero, suc, _<_}
 use native.Mathlib.Omega.{arith}
 use Rattle.verdict.specs.Tells.{Tells, and-tells, or-tells, if-tells}
 use Rattle.formula.specs.Kind
-use Rattle.formula.specs.Table.{Table, entry, kind}
+use Rattle.formula.specs.Table.{Table, entry, kind, action}
 use Rattle.formula.specs.Shape.{Shape, shape, diamond, box, mu, nu}
 use Rattle.formula.specs.ShapeLaws.{false-shape, true-shape, letter-shape, negated-shape, or-shape, and-shape, diamond-shape, box-shape, mu-shape, nu-shape, name-shape}
 use Rattle.conditions.specs.Free.{Free}
@@ -50,26 +50,26 @@ not-true false = (λ h. refl, λ h. refl)
 both : {b : Bool} {P : Type 0} → Tells b P → (b ≡ true) ↔ P
 both x = (x .says, x .holds)
 
-module _ (M : Model) (A : StateSet) (s : ℕ) where
-  some-successor : (stepSet M diamond A s ≡ true) ↔ ((u : ℕ) × Successor M s u × (A u ≡ true))
+module _ (M : Model) (n : ℕ) (A : StateSet) (s : ℕ) where
+  some-successor : (stepSet M (diamond n) A s ≡ true) ↔ ((u : ℕ) × Successor M n s u × (A u ≡ true))
   unfolding stepSet
   some-successor = (
     λ h. let (u, l, p) = some-true (M .size) _ h in let (k, a) = passes u .says p in (u, (l, k), a),
     λ (u, (l, k), a). true-some (M .size) _ u l (passes u .holds (k, a)),
   )
     where
-      passes : (u : ℕ) → Tells (M .succ s u && A u) ((M .succ s u ≡ true) × (A u ≡ true))
-      passes u = and-tells (is-true (M .succ s u)) (is-true (A u))
+      passes : (u : ℕ) → Tells (M .succ n s u && A u) ((M .succ n s u ≡ true) × (A u ≡ true))
+      passes u = and-tells (is-true (M .succ n s u)) (is-true (A u))
 
-  every-successor : (stepSet M box A s ≡ true) ↔ ((u : ℕ) → Successor M s u → A u ≡ true)
+  every-successor : (stepSet M (box n) A s ≡ true) ↔ ((u : ℕ) → Successor M n s u → A u ≡ true)
   unfolding stepSet
   every-successor = (
     λ h u (l, k). passes u .says (every-true (M .size) _ h u l) k,
     λ f. all-every (M .size) _ (λ u l. passes u .holds (λ k. f u (l, k))),
   )
     where
-      passes : (u : ℕ) → Tells (not (M .succ s u) || A u) (M .succ s u ≡ true → A u ≡ true)
-      passes u = if-tells (is-true (M .succ s u)) (is-true (A u))
+      passes : (u : ℕ) → Tells (not (M .succ n s u) || A u) (M .succ n s u ≡ true → A u ≡ true)
+      passes u = if-tells (is-true (M .succ n s u)) (is-true (A u))
 
 -- in a model M over a well-formed table, names set as ρ says, at state s
 module _ (M : Model) (t : Table) (wf : WellFormed t) where
@@ -107,13 +107,13 @@ module _ (M : Model) (t : Table) (wf : WellFormed t) where
     unfolding clause twoSet
     and-meaning q = rw (at (and-shape t e q)) (both (and-tells (is-true _) (is-true _)))
 
-    pub diamond-meaning : kind t e ≡ Kind.DIAMOND → (meaning M t e ρ s ≡ true) ↔ ((u : ℕ) × Successor M s u × (meaning M t (a-of e) ρ u ≡ true))
+    pub diamond-meaning : kind t e ≡ Kind.DIAMOND → (meaning M t e ρ s ≡ true) ↔ ((u : ℕ) × Successor M (action t e) s u × (meaning M t (a-of e) ρ u ≡ true))
     unfolding clause
-    diamond-meaning q = rw (at (diamond-shape t e q)) (some-successor M (meaning M t (a-of e) ρ) s)
+    diamond-meaning q = rw (at (diamond-shape t e q)) (some-successor M (action t e) (meaning M t (a-of e) ρ) s)
 
-    pub box-meaning : kind t e ≡ Kind.BOX → (meaning M t e ρ s ≡ true) ↔ ((u : ℕ) → Successor M s u → meaning M t (a-of e) ρ u ≡ true)
+    pub box-meaning : kind t e ≡ Kind.BOX → (meaning M t e ρ s ≡ true) ↔ ((u : ℕ) → Successor M (action t e) s u → meaning M t (a-of e) ρ u ≡ true)
     unfolding clause
-    box-meaning q = rw (at (box-shape t e q)) (every-successor M (meaning M t (a-of e) ρ) s)
+    box-meaning q = rw (at (box-shape t e q)) (every-successor M (action t e) (meaning M t (a-of e) ρ) s)
 
     pub name-meaning : kind t e ≡ Kind.NAME → meaning M t e ρ s ≡ ρ (a-of e) s
     unfolding clause

@@ -8,3 +8,4 @@ pub mod MeaningLaws
 pub mod FixLaws
 pub mod OwnLaws
 pub mod KindMeaning
+pub mod SameModels

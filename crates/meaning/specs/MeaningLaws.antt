@@ -31,7 +31,7 @@ put-at P ρ e S x p q = go (ℕ-discrete x e)
     go (no h) = rw (put-other ρ e S x h) (q h)
 
 -- the same of two environments
-put-both : (P : StateSet → StateSet → Type 0) (ρ σ : Env) (e : ℕ) (S S' : StateSet) (x : ℕ)
+pub put-both : (P : StateSet → StateSet → Type 0) (ρ σ : Env) (e : ℕ) (S S' : StateSet) (x : ℕ)
     → P S S' → ((x ≡ e → ⊥) → P (ρ x) (σ x)) → P (put ρ e S x) (put σ e S' x)
 put-both P ρ σ e S S' x p q =
     put-at (λ y A. P A (put σ e S' y)) ρ e S x (rw put-same p) (λ ne. rw (put-other σ e S' x ne) (q ne))

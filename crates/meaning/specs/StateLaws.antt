@@ -67,10 +67,10 @@ two-mono and {A} {B} {C} {D} p q = λ s l. and-mono (A s) (B s) (C s) (D s) (p s
 
 pub step-mono : (M : Model) (m : Step) {A B : StateSet} → Sub (M .size) A B → Sub (M .size) (stepSet M m A) (stepSet M m B)
 unfolding stepSet
-step-mono M diamond {A} {B} p =
-    λ s l. some-mono (M .size) _ _ (λ u k. and-mono (M .succ s u) (A u) (M .succ s u) (B u) (λ e. e) (p u k))
-step-mono M box {A} {B} p =
-    λ s l. every-mono (M .size) _ _ (λ u k. or-mono (not (M .succ s u)) (A u) (not (M .succ s u)) (B u) (λ e. e) (p u k))
+step-mono M (diamond n) {A} {B} p =
+    λ s l. some-mono (M .size) _ _ (λ u k. and-mono (M .succ n s u) (A u) (M .succ n s u) (B u) (λ e. e) (p u k))
+step-mono M (box n) {A} {B} p =
+    λ s l. every-mono (M .size) _ _ (λ u k. or-mono (not (M .succ n s u)) (A u) (not (M .succ n s u)) (B u) (λ e. e) (p u k))
 
 -- the same for equal sets
 pub two-same : (o : Two) {n : ℕ} {A B C D : StateSet} → SameStates n A C → SameStates n B D → SameStates n (twoSet o A B) (twoSet o C D)

@@ -20,32 +20,45 @@ use sequents::sets::key_of;
 use sequents::sets::put;
 use sequents::sets::same;
 
-// Whether a member of a box step is the principal, under whatever entry, or a diamond.
-fn boxed(kinds: &[u8; 256], canon: &[u16; 256], principal: u16, code: u16) -> bool
+// Whether a member of a box step is the principal, under whatever entry, or a diamond of its action.
+fn boxed(
+    kinds: &[u8; 256],
+    b: &[u16; 256],
+    canon: &[u16; 256],
+    principal: u16,
+    action: u16,
+    code: u16,
+) -> bool
     requires { ⌜ Narrow (now canon) × (code < 512) ⌝ }
-    ensures { λ r. ⌜ r ≡ Boxed (now (kinds .entry)) (now (canon .entry)) principal code ⌝ }
+    ensures { λ r. ⌜ r ≡ Boxed (now (kinds .entry)) (now (b .entry)) (now (canon .entry)) principal action code ⌝ }
 {
     if key_of(canon, code) == principal {
         return true;
     }
-    kinds[entry_of(code)] == Kind::DIAMOND
+    let entry = entry_of(code);
+    if kinds[entry] != Kind::DIAMOND {
+        return false;
+    }
+    b[entry] == action
 }
 
-// Whether all members are; the principal is given by its key.
+// Whether all members are; the principal is given by its key and its action.
 fn all_boxed(
     kinds: &[u8; 256],
+    b: &[u16; 256],
     canon: &[u16; 256],
     principal: u16,
+    action: u16,
     codes: &[u16],
     from: usize,
     to: usize,
 ) -> bool
     requires { ⌜ Narrow (now canon) × Span (now codes) from to ⌝ }
-    ensures { λ r. ⌜ r ≡ all (Boxed (now (kinds .entry)) (now (canon .entry)) principal) (part (now (codes .entry)) from to) ⌝ }
+    ensures { λ r. ⌜ r ≡ all (Boxed (now (kinds .entry)) (now (b .entry)) (now (canon .entry)) principal action) (part (now (codes .entry)) from to) ⌝ }
 {
     let mut i = from;
     while i < to {
-        if !boxed(kinds, canon, principal, codes[i]) {
+        if !boxed(kinds, b, canon, principal, action, codes[i]) {
             return false;
         }
         i += 1;
@@ -76,7 +89,7 @@ fn put_targets(
     }
 }
 
-// 4 box: the principal is a box, all others are diamonds; the child has the targets of all.
+// 4 box: the principal is a box, all others are diamonds of its action; the child has the targets of all.
 pub fn box_kept(
     kinds: &[u8; 256],
     a: &[u16; 256],
@@ -94,10 +107,12 @@ pub fn box_kept(
     ensures { λ r. ⌜ ChildOf (tableOf (now (kinds .entry)) (now (a .entry)) (now (b .entry)) size) principal (part (now (codes .entry)) from to) (now (child .entry))
         (λ t q. r ≡ BoxKept t q 0) ⌝ }
 {
-    if kinds[entry_of(principal)] != Kind::BOX {
+    let entry = entry_of(principal);
+    if kinds[entry] != Kind::BOX {
         return false;
     }
-    if !all_boxed(kinds, canon, key_of(canon, principal), codes, from, to) {
+    let key = key_of(canon, principal);
+    if !all_boxed(kinds, b, canon, key, b[entry], codes, from, to) {
         return false;
     }
     let mut asked = [0u64; 8];

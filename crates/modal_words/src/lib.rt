@@ -1,8 +1,8 @@
-// The modal steps on words, over the successors of each state as words.
+// The modal steps on words, over the successors of each state by one action as words.
 ghost use mathlib.Core.Path.{_≡_};
 ghost use mathlib.Core.Bool.{_||_, _&&_, not};
 ghost use Prim.Native.Nat.{_≤_};
-ghost use lib.ListN.{getD};
+ghost use lib.ListN.{length, getD};
 ghost use Rattle.meaning.specs.Truth.{some, every};
 ghost use Rattle.bits.specs.Bits.{bit};
 ghost use Rattle.states.specs.Words.{word};
@@ -10,8 +10,8 @@ ghost use Rattle.states.specs.StateWords.{Inside};
 use letters::push;
 
 // Where some successor is in w.
-pub fn diamond_word(rows: &[u64; 64], n: usize, w: u64) -> u64
-    requires { ⌜ (n ≤ 64) × Inside n 64 (now rows) ⌝ }
+pub fn diamond_word(rows: &[u64], n: usize, w: u64) -> u64
+    requires { ⌜ (n ≤ 64) × (n ≤ length (now rows)) × Inside n n (now rows) ⌝ }
     ensures { λ r. ⌜ r ≡ word n (λ s. some n (λ u. bit (getD (now (rows .entry)) s 0) u && bit w u)) ⌝ }
 {
     let mut r: u64 = 0;
@@ -24,8 +24,8 @@ pub fn diamond_word(rows: &[u64; 64], n: usize, w: u64) -> u64
 }
 
 // Where all successors are in w: also where there is none.
-pub fn box_word(rows: &[u64; 64], n: usize, w: u64) -> u64
-    requires { ⌜ (n ≤ 64) × Inside n 64 (now rows) ⌝ }
+pub fn box_word(rows: &[u64], n: usize, w: u64) -> u64
+    requires { ⌜ (n ≤ 64) × (n ≤ length (now rows)) × Inside n n (now rows) ⌝ }
     ensures { λ r. ⌜ r ≡ word n (λ s. every n (λ u. not (bit (getD (now (rows .entry)) s 0) u) || bit w u)) ⌝ }
 {
     let mut r: u64 = 0;

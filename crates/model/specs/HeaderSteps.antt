@@ -1,4 +1,4 @@
--- what stands in a state before its successors, at a place of a file that is indexed: what the program's answers tell, and the laws that they rest on
+-- the header of a state at a place of a file that is indexed: what the program's answers tell, and the laws that they rest on
 use mathlib.Core.Path.{_≡_, refl, sym, ap, _∙_}
 use mathlib.Core.Logic.{_≢_}
 use mathlib.Core.List.{List}
@@ -7,21 +7,22 @@ use Prim.Native.Nat.{ℕ, _+_, _%_, _<_, _≤_}
 use native.Mathlib.Omega.{arith}
 use lib.ListN.{length, getD, drop}
 use borrow.Author.Tests.{eq-eqb, ne-eqb, le-leb, lt-leb}
-use Rattle.encoding.specs.Places.{InFile, byte-at, byte-end}
+use Rattle.encoding.specs.Places.{InFile, wordAt, byte-at, byte-end, two-at, two-end}
 use Rattle.encoding.specs.Parse.{fault, got, Parser, seq, part, byte, four}
 use Rattle.encoding.specs.FourPlaces.{doubleAt, four-at, four-end}
 use Rattle.encoding.specs.Sequence.{seq-stops, seq-stops-later, seq-reads}
 use Rattle.encoding.specs.Walk.{Reached, guard-passes, guard-fails, guard-cut}
-use Rattle.model.specs.Header.{lettersStand, listStands, MapAndMask}
-use Rattle.model.specs.ReadModel.{early, map-fits, map, mask-fits, masked, count-fits, header}
+use Rattle.model_files.specs.ModelFile.{Form, mdl1, mdl2}
+use Rattle.model_files.specs.Header.{lettersStand, listStands, MapAndMask}
+use Rattle.model_files.specs.ReadModel.{early, map-fits, map, mask-fits, masked, actions, actions-fit, header}
 use Rattle.model.specs.declared.header.Masked.{Masked}
 use Rattle.model.specs.declared.header.Masked.the-variants as masked-answers
 use Rattle.model.specs.declared.header.Header.{Header}
 use Rattle.model.specs.declared.header.Header.the-variants as header-answers
 
--- a place of the file; those shortly after it still fit two bytes
+-- a place of the file; those shortly after it still fit four bytes
 abbrev pub InModel : List ℕ → ℕ → Type 0
-InModel s at = InFile s 65000 at
+InModel s at = InFile s 70000 at
 
 -- a map that fits stands at a place, with bit 0
 pub record MaskFollows (s : List ℕ) (at : ℕ) : Type 0 where
@@ -34,19 +35,23 @@ MaskedTells s at (masked-answers.Read m x o) = Reached s (at + 5) (masked (drop 
 MaskedTells s at (masked-answers.Refused n q) = masked (drop at s) at ≡ fault n q
 
 -- the map is told no more once the header is read
-abbrev pub HeaderRead : List ℕ → ℕ → ℕ → ℕ → ℕ → Type 0
-HeaderRead s at x k o = (m : ℕ) × Reached s (at + 6) (header (drop at s) at) ((m, x), k) o
+abbrev pub HeaderRead : Form → List ℕ → ℕ → ℕ → ℕ → ℕ → Type 0
+HeaderRead f s at x a o = (m : ℕ) × Reached s (at + 7) (header f (drop at s) at) ((m, x), a) o
 
-abbrev pub HeaderTells : List ℕ → ℕ → Header → Type 0
-HeaderTells s at (header-answers.Read x k o) = HeaderRead s at x k o
-HeaderTells s at (header-answers.Refused n q) = header (drop at s) at ≡ fault n q
+abbrev pub HeaderTells : Form → List ℕ → ℕ → Header → Type 0
+HeaderTells f s at (header-answers.Read x a o) = HeaderRead f s at x a o
+HeaderTells f s at (header-answers.Refused n q) = header f (drop at s) at ≡ fault n q
 
--- the mask in sight of the map, the count in sight of both
+-- map and mask are read, and bit 1 stands
+abbrev pub ActionsFollow : List ℕ → ℕ → ℕ → ℕ → Type 0
+ActionsFollow s at x o = (m : ℕ) × Reached s (at + 5) (masked (drop at s) at) (m, x) o × (2 ≤ m)
+
+-- the mask in sight of the map, the map of actions in sight of both
 abbrev letters : ℕ → Parser ℕ
 letters m s at = part 0 (lettersStand m) (four early) s at
 
-abbrev number : MapAndMask → Parser ℕ
-number w s at = part 0 (listStands (w .0)) (byte early) s at
+abbrev acts : Form → MapAndMask → Parser ℕ
+acts f w s at = part 0 (listStands (w .0)) (actions f) s at
 
 part-stands : {b : Bool} (p : Parser ℕ) (s : List ℕ) (at : ℕ) → b ≡ true → part 0 b p s at ≡ p s at
 part-stands p s at e = rw e refl
@@ -116,41 +121,65 @@ module _ (s : List ℕ) (at : ℕ) where
             near = omega arith;
           }
 
-  pub header-stops : {n q : ℕ} → masked (drop at s) at ≡ fault n q → header (drop at s) at ≡ fault n q
-  header-stops e = guard-cut count-fits 63 (seq masked number) (drop at s) at (seq-stops masked number (drop at s) at e)
+  module _ (f : Form) where
+    pub header-stops : {n q : ℕ} → masked (drop at s) at ≡ fault n q → header f (drop at s) at ≡ fault n q
+    header-stops e = guard-cut actions-fit 63 (seq masked (acts f)) (drop at s) at (seq-stops masked (acts f) (drop at s) at e)
 
-  module _ {m x o : ℕ} (w : Reached s (at + 5) (masked (drop at s) at) (m, x) o) where
-    pub header-plain : m < 2 → Reached s (at + 6) (header (drop at s) at) ((m, x), 0) o
-    header-plain l =
-        let none : listStands m ≡ false = lt-leb 2 m l in
-        let read = seq-reads masked number (drop at s) at (w .found) (part-none (byte early) (drop o s) o none) in
+    module _ {m x o : ℕ} (w : Reached s (at + 5) (masked (drop at s) at) (m, x) o) where
+      -- no successors
+      pub header-plain : m < 2 → HeaderRead f s at x 0 o
+      header-plain l =
+          let none : listStands m ≡ false = lt-leb 2 m l in
+          let read = seq-reads masked (acts f) (drop at s) at (w .found) (part-none (actions f) (drop o s) o none) in (
+            m,
+            record {
+              found = guard-passes actions-fit 63 (seq masked (acts f)) (drop at s) at read (rw none refl);
+              inside = w .inside;
+              near = omega (arith, w .near);
+            },
+          )
+
+  -- action 0 alone
+  pub header-first : {m x o : ℕ} → Reached s (at + 5) (masked (drop at s) at) (m, x) o → 2 ≤ m → HeaderRead mdl1 s at x 1 o
+  header-first {m} {x} {o} w two =
+      let stands : listStands m ≡ true = le-leb 2 m two in
+      let read = seq-reads masked (acts mdl1) (drop at s) at (w .found) (part-stands (actions mdl1) (drop o s) o stands) in (
+        m,
         record {
-          found = guard-passes count-fits 63 (seq masked number) (drop at s) at read (rw none refl);
+          found = guard-passes actions-fit 63 (seq masked (acts mdl1)) (drop at s) at read (rw stands refl);
           inside = w .inside;
           near = omega (arith, w .near);
-        }
+        },
+      )
 
-    module _ (two : 2 ≤ m) where
-      listed : listStands m ≡ true
-      listed = le-leb 2 m two
+  module _ {x o : ℕ} (w : ActionsFollow s at x o) where
+    abbrev map-there : ℕ
+    map-there = w .0
 
-      pub header-short : length s ≤ o → header (drop at s) at ≡ fault early (length s)
-      header-short k =
-          guard-cut count-fits 63 (seq masked number) (drop at s) at
-          (seq-stops-later masked number (drop at s) at (w .found)
-          (part-stands (byte early) (drop o s) o listed ∙ byte-end early s o (omega (arith, w .inside))))
+    listed : listStands map-there ≡ true
+    listed = le-leb 2 map-there (w .2)
 
-      module _ (inside : o < length s) where
-        counted : seq masked number (drop at s) at ≡ got ((m, x), getD s o 0) (drop (o + 1) s) (o + 1)
-        counted = seq-reads masked number (drop at s) at (w .found) (part-stands (byte early) (drop o s) o listed ∙ byte-at early s o inside)
+    pub header-short : length s < o + 2 → header mdl2 (drop at s) at ≡ fault early (length s)
+    header-short k =
+        guard-cut actions-fit 63 (seq masked (acts mdl2)) (drop at s) at
+        (seq-stops-later masked (acts mdl2) (drop at s) at (w .1 .found)
+        (part-stands (actions mdl2) (drop o s) o listed ∙ two-end early s o (w .1 .inside) k))
 
-        pub header-zero : getD s o 0 ≡ 0 → header (drop at s) at ≡ fault 63 at
-        header-zero z = guard-fails count-fits 63 (seq masked number) (drop at s) at counted (rw (listed, z) refl)
+    module _ (inside : o + 2 ≤ length s) where
+      both-read : seq masked (acts mdl2) (drop at s) at ≡ got ((map-there, x), wordAt s o) (drop (o + 2) s) (o + 2)
+      both-read = seq-reads masked (acts mdl2) (drop at s) at (w .1 .found) (part-stands (actions mdl2) (drop o s) o listed ∙ two-at early s o (omega arith))
 
-        pub header-whole : getD s o 0 ≢ 0 → Reached s (at + 6) (header (drop at s) at) ((m, x), getD s o 0) (o + 1)
-        header-whole n =
-            record {
-              found = guard-passes count-fits 63 (seq masked number) (drop at s) at counted (rw (listed, ne-eqb (getD s o 0) 0 n) refl);
-              inside = omega arith;
-              near = omega (arith, w .near);
-            }
+      pub header-zero : wordAt s o ≡ 0 → header mdl2 (drop at s) at ≡ fault 63 at
+      header-zero z = guard-fails actions-fit 63 (seq masked (acts mdl2)) (drop at s) at both-read (rw (listed, z) refl)
+
+      pub header-whole : {a : ℕ} → a ≡ wordAt s o → a ≢ 0 → HeaderRead mdl2 s at x a (o + 2)
+      header-whole {a} e n = (
+        map-there,
+        record {
+          found =
+              guard-passes actions-fit 63 (seq masked (acts mdl2)) (drop at s) at both-read (rw (listed, ne-eqb (wordAt s o) 0 (λ i. n (e ∙ i))) refl)
+              ∙ ap (λ (y : ℕ). got ((map-there, x), y) (drop (o + 2) s) (o + 2)) (sym e);
+          inside = inside;
+          near = omega (arith, w .1 .near);
+        },
+      )

@@ -1,23 +1,15 @@
--- model files
-pub mod ModelFile
-pub mod Header
-pub mod ReadModel
-pub mod HeaderExact
-pub mod StateHeader
-pub mod ModelExact
-pub mod ModelDocument
-pub mod StateFaults
-pub mod ModelFaults
--- the model that a file describes
-pub mod Described
-pub mod DescribedLaws
 -- the program's steps over a file
+pub mod Judged
 pub mod HeaderSteps
-pub mod StateSteps
+pub mod ListSteps
 pub mod SuccessorsRise
+pub mod ActionSteps
+pub mod FileSteps
 -- what a good file decodes to
 pub mod Values
-pub mod Decoded
+pub mod Rows
+pub mod Stored
 pub mod SuccessorRun
 pub mod Decoding
+pub mod FileDecoding
 pub mod Tables

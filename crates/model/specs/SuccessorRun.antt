@@ -10,7 +10,7 @@ use Rattle.verdict.specs.Tells.{Tells, ltb-tells}
 use Rattle.encoding.specs.Parse.{fault, got, pick, bind, times, fits-from}
 use Rattle.encoding.specs.GotLaws.{fault-not-got, same-value, same-left, got-place, bind-got}
 use Rattle.encoding.specs.ListLaws.{from-tells}
-use Rattle.model.specs.StateSteps.{oneSuccessor, afterSuccessor}
+use Rattle.model.specs.ListSteps.{oneSuccessor, afterSuccessor}
 
 -- k successors in a model of n states, each at least c, were read from s on
 pub record Run (n c k : ℕ) (s : List ℕ) (at : ℕ) (l r : List ℕ) (o : ℕ) : Type 0 where

@@ -7,8 +7,8 @@ use native.Mathlib.Omega.{arith}
 use lib.ListN.{length, getD, drop}
 use Rattle.encoding.specs.Parse.{times}
 use Rattle.encoding.specs.Walk.{Walking, walk-begins, walk-steps, walk-ends}
-use Rattle.model.specs.ReadModel.{successors}
-use Rattle.model.specs.StateSteps.{Finds, oneSuccessor, afterSuccessor, successor-fits}
+use Rattle.model_files.specs.ReadModel.{successors}
+use Rattle.model.specs.ListSteps.{Finds, oneSuccessor, afterSuccessor, successor-fits}
 use Rattle.model.specs.declared.judge.Step.the-variants.{Next}
 
 -- so many successors in a model of n states stand at a place

@@ -11,8 +11,8 @@ use Rattle.formula.specs.Nodes.{Node, Proof}
 use Rattle.formula.specs.Fields.{linkWidth}
 use Rattle.encoding.specs.Parse.{pick}
 use Rattle.encoding.specs.Places.{wordAt}
-use Rattle.proofs.specs.ProofFile.{Links}
-use Rattle.proofs.specs.ProofParts.{linksAt}
+use Rattle.proof_files.specs.ProofFile.{Links}
+use Rattle.proof_files.specs.ProofParts.{linksAt}
 
 -- n two-byte numbers from a place on
 unfoldable pub wordsAt : List ℕ → ℕ → ℕ → List ℕ

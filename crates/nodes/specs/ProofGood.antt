@@ -20,9 +20,9 @@ use Rattle.encoding.specs.ListLaws.{range-tells}
 use Rattle.encoding.specs.Places.{wordAt}
 use Rattle.encoding.specs.Opening.{opens}
 use Rattle.encoding.specs.Walk.{Reached}
-use Rattle.proofs.specs.ProofFile.{proofOpening}
-use Rattle.proofs.specs.ReadProof.{rule-fits, isCode, sequent, made, node, readProof}
-use Rattle.proofs.specs.ProofParts.{heading, oneCode, afterCode, codesOf, nodesOf}
+use Rattle.proof_files.specs.ProofFile.{proofOpening}
+use Rattle.proof_files.specs.ReadProof.{rule-fits, isCode, sequent, made, node, readProof}
+use Rattle.proof_files.specs.ProofParts.{heading, oneCode, afterCode, codesOf, nodesOf}
 use Rattle.proofs.specs.ProofHead.{head-cut, head-unfit, head-short, head-whole}
 use Rattle.proofs.specs.ProofLaws.{code-cut, code-unfit, code-fits, sequent-cut, sequent-unfit, sequent-codes, node-stops, node-empty, node-codes, node-codes-stop}
 use Rattle.proofs.specs.ProofWhole.{ended, not-opened, no-count, count-unfit, counted}

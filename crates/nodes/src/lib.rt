@@ -6,7 +6,7 @@ ghost use lib.Seq.{sets};
 ghost use Rattle.bits.specs.IfSet.{ifSet};
 ghost use Rattle.formula.specs.Fields.{linkWidth};
 ghost use Rattle.formula.specs.NodeColumns.{Columns};
-ghost use Rattle.proofs.specs.ProofParts.{fieldAt, linksAt};
+ghost use Rattle.proof_files.specs.ProofParts.{fieldAt, linksAt};
 ghost use Rattle.nodes.specs.ProofDecode.{codeCount, wordsAt, nodeLinks, nodeAt, nodeEnd, NodeFits, setLinks, proofIn, Decodes};
 ghost use Rattle.nodes.specs.ProofStored.{NodeRoom, NodesStored};
 use encoding::word_at;

@@ -28,12 +28,13 @@ abbrev pub FitFix : List ℕ → List ℕ → ℕ → ℕ → Type 0
 FitFix xs ts e f = getD ts (getD xs f 0) 0 + getD ts e 0 ≡ getD ts (getD xs e 0) 0 + getD ts f 0
 
 -- entries e and f, k names bound in each, i in the first operand of e, j in the second; ts has the counts of free names, rs the numbers,
--- us and vs the marks of the first and the second operands
+-- us and vs the marks of the first and the second operands. In ys a diamond or box has its action
 pub record Fit (ks xs ys ts rs us vs : List ℕ) (k i j e f : ℕ) : Type 0 where
   pub kinds : getD ks f 0 ≡ getD ks e 0
   pub letters : Kind.LETTER ≤ getD ks e 0 → getD ks e 0 ≤ Kind.NEGATED → getD xs f 0 ≡ getD xs e 0
   pub first : Kind.OR ≤ getD ks e 0 → getD ks e 0 ≤ Kind.NU → cell rs i (getD xs f 0) ≡ cell rs i (getD xs e 0)
   pub two : Kind.OR ≤ getD ks e 0 → getD ks e 0 ≤ Kind.AND → FitTwo ys rs us vs k j e f
+  pub actions : Kind.DIAMOND ≤ getD ks e 0 → getD ks e 0 ≤ Kind.BOX → getD ys f 0 ≡ getD ys e 0
   pub own : Kind.MU ≤ getD ks e 0 → getD ks e 0 ≤ Kind.NU → FitFix xs ts e f
 
 -- kind by kind
@@ -45,6 +46,7 @@ module _ {ks xs ys ts rs us vs : List ℕ} {k i j e f : ℕ} (same : getD ks f 0
     letters = λ a b. absurd (omega arith);
     first = λ a b. absurd (omega arith);
     two = λ a b. absurd (omega arith);
+    actions = λ a b. absurd (omega arith);
     own = λ a b. absurd (omega arith);
   }
   fit-bare (inr h) = record {
@@ -52,6 +54,7 @@ module _ {ks xs ys ts rs us vs : List ℕ} {k i j e f : ℕ} (same : getD ks f 0
     letters = λ a b. absurd (omega arith);
     first = λ a b. absurd (omega arith);
     two = λ a b. absurd (omega arith);
+    actions = λ a b. absurd (omega arith);
     own = λ a b. absurd (omega arith);
   }
 
@@ -61,6 +64,7 @@ module _ {ks xs ys ts rs us vs : List ℕ} {k i j e f : ℕ} (same : getD ks f 0
     letters = λ a b. q;
     first = λ a b. absurd (omega arith);
     two = λ a b. absurd (omega arith);
+    actions = λ a b. absurd (omega arith);
     own = λ a b. absurd (omega arith);
   }
 
@@ -71,15 +75,17 @@ module _ {ks xs ys ts rs us vs : List ℕ} {k i j e f : ℕ} (same : getD ks f 0
       letters = λ a b. absurd (omega arith);
       first = λ a b. equal;
       two = λ a b. t;
+      actions = λ a b. absurd (omega arith);
       own = λ a b. absurd (omega arith);
     }
 
-    pub fit-step : Kind.DIAMOND ≤ getD ks e 0 → getD ks e 0 ≤ Kind.BOX → Fit ks xs ys ts rs us vs k i j e f
-    fit-step h l = record {
+    pub fit-step : Kind.DIAMOND ≤ getD ks e 0 → getD ks e 0 ≤ Kind.BOX → getD ys f 0 ≡ getD ys e 0 → Fit ks xs ys ts rs us vs k i j e f
+    fit-step h l q = record {
       kinds = same;
       letters = λ a b. absurd (omega arith);
       first = λ a b. equal;
       two = λ a b. absurd (omega arith);
+      actions = λ a b. q;
       own = λ a b. absurd (omega arith);
     }
 
@@ -89,5 +95,6 @@ module _ {ks xs ys ts rs us vs : List ℕ} {k i j e f : ℕ} (same : getD ks f 0
       letters = λ a b. absurd (omega arith);
       first = λ a b. equal;
       two = λ a b. absurd (omega arith);
+      actions = λ a b. absurd (omega arith);
       own = λ a b. q;
     }

@@ -18,11 +18,24 @@ firstOf (step m a) = a
 firstOf (fix σ a) = a
 firstOf (name x) = x
 
--- field B, 0 where a shape has none
+-- the action of a modality, and the modality with another
+abbrev pub actionOf : Step → ℕ
+actionOf (diamond n) = n
+actionOf (box n) = n
+
+abbrev pub acting : Step → ℕ → Step
+acting (diamond n) d = diamond d
+acting (box n) d = box d
+
+pub acting-own : (m : Step) → acting m (actionOf m) ≡ m
+acting-own (diamond n) = refl
+acting-own (box n) = refl
+
+-- field B, which is the second operand or the action, 0 where a shape has none
 abbrev pub secondOf : Shape → ℕ
 secondOf (leaf l) = 0
 secondOf (two o a b) = b
-secondOf (step m a) = 0
+secondOf (step m a) = actionOf m
 secondOf (fix σ a) = 0
 secondOf (name x) = 0
 
@@ -33,7 +46,7 @@ remake (leaf always) c d = leaf always
 remake (leaf (letter p)) c d = leaf (letter c)
 remake (leaf (negated p)) c d = leaf (negated c)
 remake (two o a b) c d = two o c d
-remake (step m a) c d = step m c
+remake (step m a) c d = step (acting m d) c
 remake (fix σ a) c d = fix σ c
 remake (name x) c d = name c
 
@@ -52,12 +65,12 @@ module _ (a b : ℕ) where
       (λ h l. refl) (λ h l. refl) (λ h l. refl) (λ h l. refl) (λ h l. refl) (λ h l. refl) (λ h l. refl) (λ h l. refl) (λ h l. refl)
       (λ k h l. absurd (omega arith))
 
-  pub second-back : (k : ℕ) → Kind.OR ≤ k → k ≤ Kind.AND → secondOf (plainShape k a b) ≡ b
+  pub second-back : (k : ℕ) → Kind.OR ≤ k → k ≤ Kind.BOX → secondOf (plainShape k a b) ≡ b
   unfolding shapeOf
-  second-back = by-kind (λ k. Kind.OR ≤ k → k ≤ Kind.AND → secondOf (plainShape k a b) ≡ b)
+  second-back = by-kind (λ k. Kind.OR ≤ k → k ≤ Kind.BOX → secondOf (plainShape k a b) ≡ b)
       (λ h l. absurd (omega arith)) (λ h l. absurd (omega arith)) (λ h l. absurd (omega arith)) (λ h l. absurd (omega arith))
-      (λ h l. refl) (λ h l. refl)
-      (λ h l. absurd (omega arith)) (λ h l. absurd (omega arith)) (λ h l. absurd (omega arith)) (λ h l. absurd (omega arith)) (λ h l. absurd (omega arith))
+      (λ h l. refl) (λ h l. refl) (λ h l. refl) (λ h l. refl)
+      (λ h l. absurd (omega arith)) (λ h l. absurd (omega arith)) (λ h l. absurd (omega arith))
       (λ k h l. absurd (omega arith))
 
   pub remake-plain : (c d k : ℕ) → remake (plainShape k a b) c d ≡ plainShape k c d
@@ -72,8 +85,8 @@ kind-two or a b = (omega arith, omega arith)
 kind-two and a b = (omega arith, omega arith)
 
 pub kind-step : (m : Step) (a : ℕ) → (Kind.DIAMOND ≤ kindOf (step m a)) × (kindOf (step m a) ≤ Kind.BOX)
-kind-step diamond a = (omega arith, omega arith)
-kind-step box a = (omega arith, omega arith)
+kind-step (diamond n) a = (omega arith, omega arith)
+kind-step (box n) a = (omega arith, omega arith)
 
 pub kind-fix : (σ : Fix) (a : ℕ) → (Kind.MU ≤ kindOf (fix σ a)) × (kindOf (fix σ a) ≤ Kind.NU)
 kind-fix mu a = (omega arith, omega arith)
@@ -84,8 +97,8 @@ kind-same-two or a b c d = refl
 kind-same-two and a b c d = refl
 
 pub kind-same-step : (m : Step) (a c : ℕ) → kindOf (step m a) ≡ kindOf (step m c)
-kind-same-step diamond a c = refl
-kind-same-step box a c = refl
+kind-same-step (diamond n) a c = refl
+kind-same-step (box n) a c = refl
 
 pub kind-same-fix : (σ : Fix) (a c : ℕ) → kindOf (fix σ a) ≡ kindOf (fix σ c)
 kind-same-fix mu a c = refl

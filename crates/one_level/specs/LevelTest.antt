@@ -9,7 +9,7 @@ use lib.ListN.{length, getD}
 use Rattle.verdict.specs.Tells.{Tells}
 use Rattle.formula.specs.Kind
 use Rattle.formula.specs.Table.{Table}
-use Rattle.formula.specs.Shape.{Shape, leaf, two, step, fix, name, Leaf, never, always, letter, negated, Two, Fix, shape, NoName}
+use Rattle.formula.specs.Shape.{Shape, leaf, two, step, fix, name, Leaf, never, always, letter, negated, Two, Step, Fix, shape, NoName}
 use Rattle.formula.specs.Plain.{tableOf, tableOf-length}
 use Rattle.conditions.specs.Free.{Free}
 use Rattle.conditions.specs.WellFormed.{WellFormed}
@@ -22,7 +22,7 @@ use Rattle.numbering.specs.Only.{marks, same-count}
 use Rattle.numbering.specs.Forms.{names, Fits, within, inOperand}
 use Rattle.numbering.specs.Filled.{Alike, Level}
 use Rattle.numbering.specs.Count.{tally, tally-bound, length-tally, body-tally}
-use Rattle.one_level.specs.Kinds.{kindOf, firstOf, secondOf, remake, kind-back, first-back, second-back, remake-plain}
+use Rattle.one_level.specs.Kinds.{kindOf, firstOf, secondOf, acting, acting-own, remake, kind-back, first-back, second-back, remake-plain}
 use Rattle.one_level.specs.Kinds.{kind-two, kind-step, kind-fix, kind-same-two, kind-same-step, kind-same-fix}
 use Rattle.one_level.specs.Agree.{agree-says, agree-holds}
 use Rattle.one_level.specs.Fit.{cell, Fit, fit-bare, fit-letter, fit-two, fit-step, fit-fix}
@@ -73,7 +73,7 @@ module _ (ks xs ys : List ℕ) (n : ℕ) (isFree : ℕ → ℕ → Bool) where
       pub first-at : Kind.LETTER ≤ getD ks e 0 → firstOf v ≡ getD xs e 0
       first-at h = sym (ap firstOf plain) ∙ first-back (getD xs e 0) (getD ys e 0) (getD ks e 0) h (C .known e E)
 
-      pub second-at : Kind.OR ≤ getD ks e 0 → getD ks e 0 ≤ Kind.AND → secondOf v ≡ getD ys e 0
+      pub second-at : Kind.OR ≤ getD ks e 0 → getD ks e 0 ≤ Kind.BOX → secondOf v ≡ getD ys e 0
       second-at h l = sym (ap secondOf plain) ∙ second-back (getD xs e 0) (getD ys e 0) (getD ks e 0) h l
 
     -- the operands of e as the columns have them
@@ -148,7 +148,11 @@ module _ (ks xs ys : List ℕ) (n : ℕ) (isFree : ℕ → ℕ → Bool) where
             let z = kind-at e E q in
             let (lo, hi) = kind-step m a in
             let A = first-at e E q (omega arith) in
-            (getD xs f 0, remade (t .kinds) q, rw (← u, A) (sym (t .first (omega arith) (omega arith))))
+            let B = t .actions (omega arith) (omega arith) ∙ sym (second-at e E q (omega arith) (omega arith)) in (
+              getD xs f 0,
+              remade (t .kinds) q ∙ ap (λ (d : ℕ). step (acting m d) (getD xs f 0)) B ∙ ap (λ (m : Step). step m (getD xs f 0)) (acting-own m),
+              rw (← u, A) (sym (t .first (omega arith) (omega arith))),
+            )
         says (fix σ a) q r u t =
             let z = kind-at e E q in
             let (lo, hi) = kind-fix σ a in
@@ -203,7 +207,9 @@ module _ (ks xs ys : List ℕ) (n : ℕ) (isFree : ℕ → ℕ → Bool) where
             let (lo, hi) = kind-step m a in
             let A = first-at e E q (omega arith) in
             let D = first-at f F g (omega arith) in
-            fit-step z (omega arith) (rw (← D, ← A, u) (sym r)) (omega arith) (omega arith)
+            let B = second-at e E q (omega arith) (omega arith) in
+            let G = second-at f F g (omega arith) (omega arith) in
+            fit-step z (omega arith) (rw (← D, ← A, u) (sym r)) (omega arith) (omega arith) (sym G ∙ B)
         holds (fix σ a) q u (c, g, s, r) =
             let z = same-kind (fix σ a) (fix σ c) q g (kind-same-fix σ a c) in
             let v = kind-at e E q in

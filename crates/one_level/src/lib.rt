@@ -95,8 +95,8 @@ fn fit_fix(a: &[u16; 256], totals: &[u16; 256], e: usize, f: usize) -> bool
     at(totals, a[f]) + as_index(totals[e]) == at(totals, a[e]) + as_index(totals[f])
 }
 
-// Entries e and f, k names bound in each, i in the first operand of e and j in the second. Of two names no more than
-// the kind is compared: they get their numbers in another way.
+// Entries e and f, k names bound in each, i in the first operand of e and j in the second. The field b of a diamond or box is its action. Of two
+// names no more than the kind is compared: they get their numbers in another way.
 pub fn fit(
     kinds: &[u8; 256],
     a: &[u16; 256],
@@ -136,7 +136,7 @@ pub fn fit(
         return fit_two(b, firsts, seconds, numbers, k, j, e, f);
     }
     if kind <= Kind::BOX {
-        return true;
+        return b[f] == b[e];
     }
     fit_fix(a, totals, e, f)
 }

@@ -1,9 +1,11 @@
-// Refusal 20: a letter, operand or name out of its bounds, or a name of no fixpoint.
+// Refusals 20 and 71 in one walk over all entries: a letter, operand or name out of its bounds, or a name of no fixpoint; then an action
+// above 15.
 ghost use mathlib.Core.Path.{_≡_};
 ghost use Prim.Native.Nat.{_<_, _≤_};
 ghost use Rattle.formula.specs.Plain.{tableOf};
+ghost use Rattle.conditions.specs.Judge.{far};
 ghost use Rattle.conditions.specs.KindShapes.{plainShape};
-ghost use Rattle.operands.specs.OperandBounds.{outOf, operandsOut, nameOut, FirstOut};
+ghost use Rattle.operands.specs.OperandBounds.{outOf, operandsOut, nameOut, numberAt, FirstFault};
 use bits::wide;
 use formula::Kind;
 
@@ -47,17 +49,51 @@ fn out(kinds: &[u8; 256], a: &[u16; 256], b: &[u16; 256], count: usize, e: usize
     operands_out(kind, first, second, e)
 }
 
-// The first entry that earns 20, or the count where none does.
-pub fn first_out(kinds: &[u8; 256], a: &[u16; 256], b: &[u16; 256], count: usize) -> usize
+// Whether a box or diamond has an action above 15.
+fn acts_far(kind: u8, first: u16, action: u16) -> bool
+    ensures { λ r. ⌜ r ≡ far (plainShape kind first action) ⌝ }
+{
+    match kind {
+        Kind::DIAMOND | Kind::BOX => 16 <= action,
+        _ => false,
+    }
+}
+
+// 20 or 71, the first that entry e earns, or 0.
+fn number_at(kinds: &[u8; 256], a: &[u16; 256], b: &[u16; 256], count: usize, e: usize) -> u16
+    requires { ⌜ (count ≤ 256) × (e < count) ⌝ }
+    ensures { λ r. ⌜ r ≡ numberAt (tableOf (now (kinds .entry)) (now (a .entry)) (now (b .entry)) count) e ⌝ }
+{
+    if out(kinds, a, b, count, e) {
+        return 20;
+    }
+    if acts_far(kinds[e], a[e], b[e]) {
+        return 71;
+    }
+    0
+}
+
+// What the first entry with a fault earns, and which entry that is.
+pub struct Fault {
+    pub number: u16,
+    pub entry: usize,
+}
+
+// The first entry that earns 20 or 71; number 0 where none does.
+pub fn first_fault(kinds: &[u8; 256], a: &[u16; 256], b: &[u16; 256], count: usize) -> Fault
     requires { ⌜ count ≤ 256 ⌝ }
-    ensures { λ r. ⌜ FirstOut (tableOf (now (kinds .entry)) (now (a .entry)) (now (b .entry)) count) count r ⌝ }
+    ensures { λ r. ⌜ FirstFault (tableOf (now (kinds .entry)) (now (a .entry)) (now (b .entry)) count) count (r .number) (r .entry) ⌝ }
 {
     let mut e: usize = 0;
     while e < count {
-        if out(kinds, a, b, count, e) {
-            return e;
+        let number = number_at(kinds, a, b, count, e);
+        if number != 0 {
+            return Fault { number, entry: e };
         }
         e += 1;
     }
-    e
+    Fault {
+        number: 0,
+        entry: count,
+    }
 }

@@ -8,7 +8,7 @@ use lib.Dec.{ltb}
 use lib.ListN.{length, length-map}
 use borrow.Author.Tests.{ltb-false}
 use Rattle.verdict.specs.Verdict as verdicts
-use Rattle.verdict.specs.Verdict.{Verdict, accepted, pick, packed}
+use Rattle.verdict.specs.Verdict.{Verdict, accepted, pick, packed, Within}
 use Rattle.verdict.specs.VerdictLaws.{accepted-not-refused}
 use Rattle.encoding.specs.File.{Reading, refused, good}
 use Rattle.formula.specs.Claim.{Derivation}
@@ -35,6 +35,7 @@ module _ (s : State) (tag : ℕ) (claim proof : List ℕ) (es : List Entry) (vs 
   -- what a step of presenting answers, and what it leaves in the state and in the lent slices
   pub record PresentedStep (r : Numbered) (es′ : List Entry) (vs′ : List Node) (cs′ : List ℕ) : Type 0 where
     pub answer : r .answer ≡ packed (right .answer)
+    pub within : Within 65536 (right .answer)
     pub state : r .state ≡ leftBy (right .answer) (right .gate) s
     pub lent : lentOf es′ vs′ cs′ ≡ right .lent
 
@@ -101,6 +102,7 @@ module _ (s : State) (tag : ℕ) (claim proof : List ℕ) (es : List Entry) (vs 
       let same : v ≡ right s tag claim proof es vs cs .answer = is .answer tag ∙ left .answer in
       record {
         answer = settled .answer ∙ ap packed same;
+        within = rw same at (settled .within);
         state = settled .state ∙ ap (λ (w : Verdict). settledState w tag s) same ∙ left .state;
         lent = is .lent tag ∙ left .lent;
       }

@@ -11,10 +11,10 @@ use Rattle.formula.specs.Fields.{hasPrincipal, hasFirst, hasSecond, hasBack, li
 use Rattle.encoding.specs.Parse.{Got, fault, got, bind, bytes, field}
 use Rattle.encoding.specs.Places.{bytes-at, bytes-end, two-at}
 use Rattle.encoding.specs.Walk.{guard-passes, guard-fails, guard-cut}
-use Rattle.proofs.specs.ProofFile.{Links}
-use Rattle.proofs.specs.ReadProof.{early, rule-fits, ruleOf, fields}
-use Rattle.proofs.specs.ProofFaults.{fields-take}
-use Rattle.proofs.specs.ProofParts.{heading, fieldAt, firstPlace, secondPlace, backPlace, linksAt}
+use Rattle.proof_files.specs.ProofFile.{Links}
+use Rattle.proof_files.specs.ReadProof.{early, rule-fits, ruleOf, fields}
+use Rattle.proof_files.specs.ProofFaults.{fields-take}
+use Rattle.proof_files.specs.ProofParts.{heading, fieldAt, firstPlace, secondPlace, backPlace, linksAt}
 
 -- a field that fits into the file, whether it stands or not
 pub field-whole : (s : List ℕ) (b : Bool) (at : ℕ) → at + ifSet b 2 ≤ length s → field early b (drop at s) at ≡ got (fieldAt b s at) (drop (at + ifSet b 2) s) (at + ifSet b 2)

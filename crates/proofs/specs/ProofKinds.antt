@@ -14,9 +14,9 @@ use Rattle.formula.specs.Plain.{tableOf-length, tableOf-kind}
 use Rattle.encoding.specs.Parse.{Parser, seq, via, part, byte, two, count, listed, rising}
 use Rattle.encoding.specs.File.{readFile}
 use Rattle.formula.specs.Members.{isFormula, formula-tells}
-use Rattle.proofs.specs.ProofFile.{proofOpening}
-use Rattle.proofs.specs.ReadProof.{early, ruleByte, fields, isCode, sequent, made, node, nodes, derivationOf, body, readProof}
-use Rattle.proofs.specs.ProofParts.{kindTable, kindClaim}
+use Rattle.proof_files.specs.ProofFile.{proofOpening}
+use Rattle.proof_files.specs.ReadProof.{early, ruleByte, fields, isCode, sequent, made, node, nodes, derivationOf, body, readProof}
+use Rattle.proof_files.specs.ProofParts.{kindTable, kindClaim}
 
 -- the kinds of a table's entries stand in a list
 pub record Kinds (t : Table) (ks : List ℕ) (n : ℕ) : Type 0 where

@@ -17,9 +17,9 @@ use Rattle.encoding.specs.Parse.{Parser, Got, fault, got, bind, seq, via, guard
 use Rattle.encoding.specs.Places.{wordAt, byte-at, byte-end, two-at, two-end}
 use Rattle.formula.specs.Members.{isFormula, formula-tells}
 use Rattle.encoding.specs.Walk.{guard-passes, guard-fails, guard-cut, counted-starts, counted-cut}
-use Rattle.proofs.specs.ProofFile.{Links}
-use Rattle.proofs.specs.ReadProof.{early, ruleByte, fields, isCode, sequent, made, node, nodes}
-use Rattle.proofs.specs.ProofParts.{kindTable, heading, oneCode, afterCode, codesOf}
+use Rattle.proof_files.specs.ProofFile.{Links}
+use Rattle.proof_files.specs.ReadProof.{early, ruleByte, fields, isCode, sequent, made, node, nodes}
+use Rattle.proof_files.specs.ProofParts.{kindTable, heading, oneCode, afterCode, codesOf}
 
 -- three parsers, the third in sight of the first alone: the first two may be taken together
 module _ {A B C D : Type 0} (q : A → Parser B) (k : A → Parser C) (f : A × (B × C) → D) where

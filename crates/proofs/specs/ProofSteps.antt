@@ -9,10 +9,10 @@ use borrow.Author.Tests.{le-leb, lt-leb}
 use Rattle.formula.specs.Table.{Table}
 use Rattle.formula.specs.Nodes.{Node}
 use Rattle.encoding.specs.Parse.{Got, fault}
-use Rattle.proofs.specs.ProofFile.{Links}
+use Rattle.proof_files.specs.ProofFile.{Links}
 use Rattle.encoding.specs.Walk.{Reached}
-use Rattle.proofs.specs.ReadProof.{sequent, node}
-use Rattle.proofs.specs.ProofParts.{heading}
+use Rattle.proof_files.specs.ReadProof.{sequent, node}
+use Rattle.proof_files.specs.ProofParts.{heading}
 use Rattle.proofs.specs.ProofLaws.{node-empty, node-codes, node-codes-stop}
 use Rattle.proofs.specs.declared.Step.{Step}
 use Rattle.proofs.specs.declared.Step.the-variants.{Next, Stop}

@@ -16,9 +16,9 @@ use Rattle.encoding.specs.ListLaws.{range-tells}
 use Rattle.encoding.specs.Places.{wordAt}
 use Rattle.encoding.specs.Opening.{opens, begins-tells}
 use Rattle.encoding.specs.Walk.{Reached, file-opens, file-closed, bytes-follow, none-follow}
-use Rattle.proofs.specs.ProofFile.{proofOpening}
-use Rattle.proofs.specs.ReadProof.{early, nodes, derivationOf, body, readProof}
-use Rattle.proofs.specs.ProofParts.{nodesOf}
+use Rattle.proof_files.specs.ProofFile.{proofOpening}
+use Rattle.proof_files.specs.ReadProof.{early, nodes, derivationOf, body, readProof}
+use Rattle.proof_files.specs.ProofParts.{nodesOf}
 use Rattle.proofs.specs.ProofLaws.{nodes-cut, nodes-unfit, nodes-counted}
 
 -- what the nodes make of a file

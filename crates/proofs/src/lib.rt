@@ -7,33 +7,17 @@ ghost use lib.ListN.{length, drop};
 ghost use Rattle.verdict.specs.Shown.{shown};
 ghost use Rattle.encoding.specs.Opening.{opens};
 ghost use Rattle.encoding.specs.Outcome.{verdictOf};
-ghost use Rattle.proofs.specs.ProofFile.{proofOpening};
-ghost use Rattle.proofs.specs.ReadProof.{rule-fits, isCode, sequent, node, readProof};
-ghost use Rattle.proofs.specs.ProofParts.{kindTable, kindClaim, codesOf, nodesOf};
+ghost use Rattle.proof_files.specs.ProofFile.{proofOpening};
+ghost use Rattle.proof_files.specs.ReadProof.{rule-fits, isCode, sequent, node, readProof};
+ghost use Rattle.proof_files.specs.ProofParts.{kindTable, kindClaim, codesOf, nodesOf};
 ghost use Rattle.proofs.specs.ProofSteps.{Finds, FindsHead};
 use encoding::opens;
 use encoding::word_at;
 use formula::Kind;
 use formula::Rule;
+use proof_files::PROOF_OPENING;
+use proof_files::ProofFault;
 use verdict::Verdict;
-
-// The first four bytes of a proof file.
-pub const PROOF_OPENING: [u8; 4] = *b"PRF1";
-
-// What the bytes of a proof earn.
-pub struct ProofFault;
-
-impl ProofFault {
-    pub const OPENING: u16 = 30;
-
-    pub const LENGTH: u16 = 31;
-
-    pub const COUNT: u16 = 32;
-
-    pub const RULE: u16 = 33;
-
-    pub const CODE: u16 = 34;
-}
 
 // What a step over the file finds: the place after what it read, or a refusal.
 enum Step {

@@ -39,8 +39,8 @@ module _ (M : Model) (t : Table) (wf : WellFormed t) where
         go : (stage M t W a s ≡ false) ⊎ (stage M t W b s ≡ false) → Refuted M t (suc k) e s
         go (inl x) = refuted-by M t q (by-left (ih a (inl refl) s l x))
         go (inr y) = refuted-by M t q (by-right (ih b (inr refl) s l y))
-    refutes-step e (step diamond a) q ih s l h = refuted-by M t q (by-diamond (λ u (m, g). earlier a u m (step-false M diamond _ s .0 h u m g)))
-    refutes-step e (step box a) q ih s l h = let (u, m, g, f) = step-false M box _ s .0 h in refuted-by M t q (by-box (m, g) (earlier a u m f))
+    refutes-step e (step (diamond n) a) q ih s l h = refuted-by M t q (by-diamond (λ u (m, g). earlier a u m (step-false M (diamond n) _ s .0 h u m g)))
+    refutes-step e (step (box n) a) q ih s l h = let (u, m, g, f) = step-false M (box n) _ s .0 h in refuted-by M t q (by-box (m, g) (earlier a u m f))
     refutes-step e (fix mu a) q ih s l h = refuted-by M t q (by-mu h)
     refutes-step e (fix nu a) q ih s l h = refuted-by M t q (by-nu (ih a refl s l h))
     refutes-step e (name x) q ih s l h =

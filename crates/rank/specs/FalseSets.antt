@@ -14,8 +14,8 @@ TwoFails or P Q = P × Q
 TwoFails and P Q = P ⊎ Q
 
 abbrev pub StepFails : Model → Step → ℕ → (ℕ → Type 0) → Type 0
-StepFails M diamond s P = (u : ℕ) → u < M .size → M .succ s u ≡ true → P u
-StepFails M box s P = (u : ℕ) × (u < M .size) × (M .succ s u ≡ true) × P u
+StepFails M (diamond n) s P = (u : ℕ) → u < M .size → M .succ n s u ≡ true → P u
+StepFails M (box n) s P = (u : ℕ) × (u < M .size) × (M .succ n s u ≡ true) × P u
 
 and-fails : (a b : Bool) → (a ≡ false) ⊎ (b ≡ false) → (a && b) ≡ false
 and-fails true b (inl h) = absurd (true≢false h)
@@ -33,12 +33,12 @@ two-false and A B s = (and-false (A s) (B s), and-fails (A s) (B s))
 
 pub step-false : (M : Model) (m : Step) (A : StateSet) (s : ℕ) → (stepSet M m A s ≡ false) ↔ StepFails M m s (λ u. A u ≡ false)
 unfolding stepSet
-step-false M diamond A s = (
-  λ h u k. edge-and (M .succ s u) (A u) .0 (some-false (M .size) _ h u k),
-  λ h. none-some (M .size) _ (λ u k. edge-and (M .succ s u) (A u) .1 (h u k)),
+step-false M (diamond n) A s = (
+  λ h u k. edge-and (M .succ n s u) (A u) .0 (some-false (M .size) _ h u k),
+  λ h. none-some (M .size) _ (λ u k. edge-and (M .succ n s u) (A u) .1 (h u k)),
 )
-step-false M box A s = (
+step-false M (box n) A s = (
   λ h. let (u, k, p) = every-false (M .size) _ h in
-      let (n, f) = or-false (not (M .succ s u)) (A u) p in (u, k, not-false (M .succ s u) n, f),
+      let (z, f) = or-false (not (M .succ n s u)) (A u) p in (u, k, not-false (M .succ n s u) z, f),
   λ (u, k, e, f). fails-every (M .size) _ u k (rw (e, f)),
 )

@@ -22,10 +22,10 @@ module _ (M : Model) (t : Table) where
         → RefutedAs (two or a b) j e s
     by-left : {j e s a b : ℕ} → RefutedAs (shape t (target t a)) j (target t a) s → RefutedAs (two and a b) j e s
     by-right : {j e s a b : ℕ} → RefutedAs (shape t (target t b)) j (target t b) s → RefutedAs (two and a b) j e s
-    by-diamond : {j e s a : ℕ}
-        → ((u : ℕ) → Successor M s u → RefutedAs (shape t (target t a)) j (target t a) u)
-        → RefutedAs (step diamond a) (suc j) e s
-    by-box : {j e s a u : ℕ} → Successor M s u → RefutedAs (shape t (target t a)) j (target t a) u → RefutedAs (step box a) (suc j) e s
+    by-diamond : {j e s n a : ℕ}
+        → ((u : ℕ) → Successor M n s u → RefutedAs (shape t (target t a)) j (target t a) u)
+        → RefutedAs (step (diamond n) a) (suc j) e s
+    by-box : {j e s n a u : ℕ} → Successor M n s u → RefutedAs (shape t (target t a)) j (target t a) u → RefutedAs (step (box n) a) (suc j) e s
     by-nu : {j e s a : ℕ} → RefutedAs (shape t (target t a)) j (target t a) s → RefutedAs (fix nu a) j e s
     by-mu : {j e s a : ℕ} → own M t e s ≡ false → RefutedAs (fix mu a) j e s
 
@@ -46,12 +46,12 @@ module _ (M : Model) (t : Table) where
   and-refuted (by-left x) = inl x
   and-refuted (by-right y) = inr y
 
-  pub diamond-refuted : {j e s a : ℕ} → RefutedAs (step diamond a) j e s
-      → (u : ℕ) → Successor M s u → (i : ℕ) × (j ≡ suc i) × Refuted i (target t a) u
+  pub diamond-refuted : {j e s n a : ℕ} → RefutedAs (step (diamond n) a) j e s
+      → (u : ℕ) → Successor M n s u → (i : ℕ) × (j ≡ suc i) × Refuted i (target t a) u
   diamond-refuted (by-diamond {j = i} f) u h = (i, refl, f u h)
 
-  pub box-refuted : {j e s a : ℕ} → RefutedAs (step box a) j e s
-      → (u : ℕ) × Successor M s u × ((i : ℕ) × (j ≡ suc i) × Refuted i (target t a) u)
+  pub box-refuted : {j e s n a : ℕ} → RefutedAs (step (box n) a) j e s
+      → (u : ℕ) × Successor M n s u × ((i : ℕ) × (j ≡ suc i) × Refuted i (target t a) u)
   box-refuted (by-box {j = i} {u = u} h x) = (u, h, (i, refl, x))
 
   pub nu-refuted : {j e s a : ℕ} → RefutedAs (fix nu a) j e s → Refuted j (target t a) s
@@ -78,7 +78,7 @@ module _ (M : Model) (t : Table) where
     refuted-false {e = e} {s = s} q (by-or x y) l = from-law e _ q s l (two-false or _ _ s .1 (refuted-false refl x l, refuted-false refl y l))
     refuted-false {e = e} {s = s} q (by-left x) l = from-law e _ q s l (two-false and _ _ s .1 (inl (refuted-false refl x l)))
     refuted-false {e = e} {s = s} q (by-right x) l = from-law e _ q s l (two-false and _ _ s .1 (inr (refuted-false refl x l)))
-    refuted-false {e = e} {s = s} q (by-diamond f) l = from-law e _ q s l (step-false M diamond _ s .1 (λ u k h. refuted-false refl (f u (k, h)) k))
-    refuted-false {e = e} {s = s} q (by-box {u = u} (k, h) x) l = from-law e _ q s l (step-false M box _ s .1 (u, k, h, refuted-false refl x k))
+    refuted-false {e = e} {s = s} q (by-diamond f) l = from-law e _ q s l (step-false M (diamond _) _ s .1 (λ u k h. refuted-false refl (f u (k, h)) k))
+    refuted-false {e = e} {s = s} q (by-box {u = u} (k, h) x) l = from-law e _ q s l (step-false M (box _) _ s .1 (u, k, h, refuted-false refl x k))
     refuted-false {e = e} {s = s} q (by-nu x) l = from-law e _ q s l (refuted-false refl x l)
     refuted-false q (by-mu h) l = h

@@ -4,10 +4,11 @@ use Prim.Native.Nat.{ℕ}
 use Rattle.verdict.specs.Verdict as verdicts
 use Rattle.verdict.specs.Verdict.{Verdict, accepted}
 use Rattle.encoding.specs.File.{Reading, refused, good}
-use Rattle.formula.specs.Claim.{Claim, Derivation}
+use Rattle.formula.specs.Spelled.{recordsOf, zeros}
+use Rattle.formula.specs.Claim.{Claim, SpelledClaim, claimOf, Derivation}
 use Rattle.conditions.specs.Judge.{judgeTable}
 use Rattle.claim_files.specs.ReadClaim.{readClaim}
-use Rattle.proofs.specs.ReadProof.{readProof}
+use Rattle.proof_files.specs.ReadProof.{readProof}
 
 -- whatever stands first, and then a reading
 abbrev pub firstly : {A : Type 0} → Verdict → Reading A → Reading A
@@ -19,11 +20,11 @@ abbrev pub andThen : {A B : Type 0} → Reading A → (A → Reading B) → Read
 andThen (refused n q) next = refused n q
 andThen (good x) next = next x
 
--- 20 over all entries, then 21, 22, 23 entry by entry
-abbrev pub formed : Claim → Reading Claim
-formed c = firstly (judgeTable (c .entries)) (good c)
+-- 20 and 71 over all entries, then 21, 22, 23 entry by entry
+abbrev pub formed : SpelledClaim → Reading Claim
+formed c = firstly (judgeTable (zeros (c .spelling)) (recordsOf (c .spelling))) (good (claimOf c))
 
--- 10 to 14, then 20 to 23: a well-formed claim
+-- 10 to 14, then 20, 71 and 21 to 23: a well-formed claim
 unfoldable pub readFormed : List ℕ → Reading Claim
 unfolding readClaim judgeTable
 readFormed claim = andThen (readClaim claim) formed

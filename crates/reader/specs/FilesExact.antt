@@ -5,19 +5,20 @@ use mathlib.Core.List.{List}
 use Prim.Native.Nat.{ℕ}
 use Rattle.encoding.specs.Encode.{Bytes}
 use Rattle.encoding.specs.File.{Reading}
-use Rattle.formula.specs.Claim.{Claim}
+use Rattle.formula.specs.Spelled.{recordsOf, zeros}
+use Rattle.formula.specs.Claim.{Claim, SpelledClaim, claimOf}
 use Rattle.conditions.specs.Judge.{judgeTable}
-use Rattle.conditions.specs.Formed.{Formed, Earns}
+use Rattle.conditions.specs.Formed.{Formed, Unwritten, Earns}
 use Rattle.conditions.specs.JudgeExact.{judge-accepts, judge-refuses}
 use Rattle.claim_files.specs.ReadClaim.{readClaim}
 use Rattle.claim_files.specs.ClaimFile.{ClaimFile}
 use Rattle.claim_files.specs.ClaimDocument.{ClaimEarns}
 use Rattle.claim_files.specs.ClaimExact.{claim-good, good-claim}
 use Rattle.claim_files.specs.ClaimFaults.{claim-refused, claim-earned}
-use Rattle.proofs.specs.ProofFile.{ProofFile}
-use Rattle.proofs.specs.ProofDocument.{ProofEarns}
-use Rattle.proofs.specs.ProofExact.{proof-good, good-proof}
-use Rattle.proofs.specs.ProofFaults.{proof-refused, proof-earned}
+use Rattle.proof_files.specs.ProofFile.{ProofFile}
+use Rattle.proof_files.specs.ProofDocument.{ProofEarns}
+use Rattle.proof_files.specs.ProofExact.{proof-good, good-proof}
+use Rattle.proof_files.specs.ProofFaults.{proof-refused, proof-earned}
 use Rattle.reader.specs.Files.{formed, readFormed, besideClaim, reading, files}
 use Rattle.reader.specs.WellFormed.{ClaimFormed, ClaimUnformed, by-bytes, by-table, FilesFormed, FilesUnformed, by-claim, by-beside, WellFormed, IllFormed}
 use Rattle.reader.specs.Exactly.{Exactly, exactly-as, then-exactly, first-exactly, value-exactly}
@@ -31,17 +32,25 @@ module _ (claim : List ℕ) (bc : Bytes claim) where
     earned = λ n q h. claim-earned bc h;
   }
 
-  table-exactly : (c : Claim) → Exactly (formed c) (λ x. (x ≡ c) × Formed (c .entries)) (Earns (c .entries))
+  -- a table that passes, as it is spelled
+  abbrev Passes : SpelledClaim → Type 0
+  Passes c = Formed (recordsOf (c .spelling)) × Unwritten (zeros (c .spelling)) (recordsOf (c .spelling))
+
+  abbrev Fails : SpelledClaim → ℕ → ℕ → Type 0
+  Fails c = Earns (zeros (c .spelling)) (recordsOf (c .spelling))
+
+  table-exactly : (c : SpelledClaim) → Exactly (formed c) (λ x. (x ≡ claimOf c) × Passes c) (Fails c)
   table-exactly c =
-      first-exactly (judgeTable (c .entries)) c (judge-accepts (c .entries) .1) (judge-accepts (c .entries) .0)
-      (λ n q. judge-refuses (c .entries) n q .1) (λ n q. judge-refuses (c .entries) n q .0)
+      let z = zeros (c .spelling) in
+      let t = recordsOf (c .spelling) in
+      first-exactly (judgeTable z t) (claimOf c) (judge-accepts z t .1) (judge-accepts z t .0) (λ n q. judge-refuses z t n q .1) (λ n q. judge-refuses z t n q .0)
 
   pub formed-exactly : Exactly (readFormed claim) (ClaimFormed claim) (ClaimUnformed claim)
   unfolding readFormed
   formed-exactly =
-      exactly-as (then-exactly (ClaimFile claim) (ClaimEarns claim) (λ c x. (x ≡ c) × Formed (c .entries)) (λ c. Earns (c .entries)) (readClaim claim) claim-exactly (λ c _. table-exactly c))
-      (λ c (x, f, (e, w)). rw e (record { claim-file = f; formed = w }))
-      (λ c k. (c, k .claim-file, (refl, k .formed)))
+      exactly-as (then-exactly (ClaimFile claim) (ClaimEarns claim) (λ c x. (x ≡ claimOf c) × Passes c) Fails (readClaim claim) claim-exactly (λ c _. table-exactly c))
+      (λ c (x, f, (e, (w, u))). record { spelled = x; claim-file = f; records = e; formed = rw e w; unwritten = rw e u })
+      (λ c k. (k .spelled, k .claim-file, (k .records, (rw (k .records) at (k .formed), rw (k .records) at (k .unwritten)))))
       (λ n q. elim [ inl e ↦ by-bytes e | inr (c, f, e) ↦ by-table c f e ])
       (λ n q. elim [ by-bytes e ↦ inl e | by-table c f e ↦ inr (c, f, e) ])
 

@@ -8,19 +8,24 @@ use Rattle.verdict.specs.Verdict as verdicts
 use Rattle.verdict.specs.Verdict.{Verdict, accepted}
 use Rattle.verdict.specs.VerdictLaws.{accepted-not-refused}
 use Rattle.encoding.specs.File.{Reading, refused, good}
+use Rattle.encoding.specs.FileLaws.{good-same, refused-not-good}
 use Rattle.encoding.specs.Outcome.{verdictOf, RefusedWith}
-use Rattle.formula.specs.Claim.{Claim, Derivation}
+use Rattle.formula.specs.Table.{Table}
+use Rattle.formula.specs.Spelled.{recordsOf, markedOf, zeros}
+use Rattle.formula.specs.Claim.{Claim, SpelledClaim, claimOf, markedClaim, Derivation}
 use Rattle.formula.specs.Plain.{tableOf, tableOf-length, tableOf-kind}
 use Rattle.formula.specs.Held.{heldClaim}
-use Rattle.conditions.specs.Judge.{judgeTable}
+use Rattle.conditions.specs.Judge.{plainly, judgeTable}
+use Rattle.conditions.specs.JudgeExact.{judge-accepts}
 use Rattle.claim_files.specs.ReadClaim.{readClaim}
-use Rattle.claims.specs.ClaimWalk.{ClaimGot}
-use Rattle.proofs.specs.ReadProof.{readProof}
-use Rattle.proofs.specs.ProofParts.{kindClaim}
+use Rattle.claims.specs.ClaimWalk.{ClaimGot, heldReading}
+use Rattle.proof_files.specs.ReadProof.{readProof}
+use Rattle.proof_files.specs.ProofParts.{kindClaim}
 use Rattle.proofs.specs.ProofKinds.{by-kinds}
 use Rattle.nodes.specs.ProofDecode.{proofIn, Decodes}
 use Rattle.nodes.specs.ProofGood.{good-decoded}
 use Rattle.reader.specs.Files.{Files, firstly, andThen, formed, readFormed, besideClaim, files}
+use Rattle.reader.specs.Spellings.{held-judged, held-plainly}
 use Rattle.reader.specs.Found.{FilesGot, FilesTell, Unread, Tells}
 use Rattle.reader.specs.declared.FilesRead.{FilesRead}
 use Rattle.reader.specs.declared.FilesRead.the-variants.{Read, Refused}
@@ -41,26 +46,49 @@ accepts (good x) h = record { value = x; was = refl }
 
 -- the claim by bytes, then its table
 module _ (claim : List ℕ) where
-  pub unread-claim : {n q : ℕ} → RefusedWith (readClaim claim) n q → RefusedWith (readFormed claim) n q
+  pub unread-claim : {n q : ℕ} → RefusedWith (heldReading (readClaim claim)) n q → RefusedWith (readFormed claim) n q
   unfolding readFormed
-  unread-claim u = record { was = rw (u .was) refl; small = u .small }
+  unread-claim {n} {q} u = record { was = go (readClaim claim) (u .was); small = u .small }
+    where
+      go : (r : Reading SpelledClaim) → heldReading r ≡ refused n q → andThen r formed ≡ refused n q
+      go (refused m o) h = let i : m ≡ n = cc h in let j : o ≡ q = cc h in rw (i, j) refl
+      go (good c) h = absurd (refused-not-good (sym h))
 
-  module _ {ks xs ys ms : List ℕ} {n k : ℕ} (g : ClaimGot (readClaim claim) ks xs ys ms n k) where
-    same-table : tableOf ks xs ys n ≡ g .claim .entries
-    same-table = ap (λ (c : Claim). c .entries) (g .held .same)
+  module _ {ks xs ys ms : List ℕ} {n k : ℕ} (g : ClaimGot (heldReading (readClaim claim)) ks xs ys ms n k) where
+    -- the claim as it is spelled
+    spelling : (s : SpelledClaim) × (readClaim claim ≡ good s) × (markedClaim s ≡ g .claim)
+    spelling = go (readClaim claim) refl (g .was)
+      where
+        go : (r : Reading SpelledClaim) → readClaim claim ≡ r → heldReading r ≡ good (g .claim) → (s : SpelledClaim) × (readClaim claim ≡ good s) × (markedClaim s ≡ g .claim)
+        go (refused m q) e h = absurd (refused-not-good h)
+        go (good s) e h = (s, e, good-same h)
 
-    past-claim : readFormed claim ≡ formed (g .claim)
+    abbrev s : SpelledClaim
+    s = spelling .0
+
+    held-table : tableOf ks xs ys n ≡ markedOf (s .spelling)
+    held-table = ap (λ (c : Claim). c .entries) (g .held .same ∙ sym (spelling .2))
+
+    past-claim : readFormed claim ≡ formed s
     unfolding readFormed
-    past-claim = rw (g .was) refl
+    past-claim = rw (spelling .1) refl
 
-    judged : {v : Verdict} → judgeTable (tableOf ks xs ys n) ≡ v → formed (g .claim) ≡ firstly v (good (g .claim))
-    judged h = ap (λ (v : Verdict). firstly v (good (g .claim))) (ap judgeTable (sym same-table) ∙ h)
+    -- the table that is held is judged as the claim's
+    as-spelled : {v : Verdict} → judgeTable plainly (tableOf ks xs ys n) ≡ v → judgeTable (zeros (s .spelling)) (recordsOf (s .spelling)) ≡ v
+    as-spelled h = sym (held-judged (s .spelling)) ∙ ap (judgeTable plainly) (sym held-table) ∙ h
 
-    pub unformed-claim : {m q : ℕ} → verdicts.refused m q ≡ judgeTable (tableOf ks xs ys n) → (m < 65536) × (q < 65536) → RefusedWith (readFormed claim) m q
-    unformed-claim h s = record { was = past-claim ∙ judged (sym h); small = s }
+    judged : {v : Verdict} → judgeTable plainly (tableOf ks xs ys n) ≡ v → formed s ≡ firstly v (good (claimOf s))
+    judged h = ap (λ (v : Verdict). firstly v (good (claimOf s))) (as-spelled h)
 
-    pub formed-claim : accepted ≡ judgeTable (tableOf ks xs ys n) → ClaimGot (readFormed claim) ks xs ys ms n k
-    formed-claim h = record { claim = g .claim; was = past-claim ∙ judged (sym h); held = g .held }
+    pub unformed-claim : {m q : ℕ} → verdicts.refused m q ≡ judgeTable plainly (tableOf ks xs ys n) → (m < 65536) × (q < 65536) → RefusedWith (readFormed claim) m q
+    unformed-claim h u = record { was = past-claim ∙ judged (sym h); small = u }
+
+    -- where it passes, no 0 is written out: it holds the records
+    pub formed-claim : accepted ≡ judgeTable plainly (tableOf ks xs ys n) → ClaimGot (readFormed claim) ks xs ys ms n k
+    formed-claim h =
+        let plain : markedOf (s .spelling) ≡ recordsOf (s .spelling) = held-plainly (s .spelling) (judge-accepts (zeros (s .spelling)) (recordsOf (s .spelling)) .0 (as-spelled (sym h)) .1) in
+        let same : g .claim ≡ claimOf s = sym (spelling .2) ∙ ap (λ (t : Table). record { entries = t; members = s .members }) plain in
+        record { claim = claimOf s; was = past-claim ∙ judged (sym h); held = rw same at (g .held) }
 
 -- of a claim that is held, the kinds are all that the reading of a proof looks at
 pub held-kinds : (ks xs ys : List ℕ) (n : ℕ) (ms : List ℕ) (k : ℕ) (s : List ℕ) → readProof (heldClaim ks xs ys n ms k) s ≡ readProof (kindClaim ks n) s

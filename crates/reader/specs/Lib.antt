@@ -1,7 +1,9 @@
 pub mod Files
 pub mod Found
 pub mod Begins
+pub mod Spellings
 pub mod FilesLaws
 pub mod WellFormed
+pub mod FormedLaws
 pub mod Exactly
 pub mod FilesExact

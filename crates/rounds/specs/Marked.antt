@@ -20,23 +20,25 @@ use Rattle.numbering.specs.Filling.{With}
 use Rattle.one_level.specs.Kinds.{kindOf, firstOf, secondOf, kind-two, kind-step, kind-fix}
 use Rattle.one_level.specs.Fit.{cell, Fit}
 use Rattle.one_level.specs.LevelTest.{Columns, Index, kind-at, first-at, second-at, fit-says, alike-index}
-use Rattle.searching.specs.Search.{markIn, markOf, mark-constant, mark-letter, mark-one, mark-two}
+use Rattle.searching.specs.Search.{markIn, markOf, mark-constant, mark-letter, mark-two, mark-step, mark-one}
 use Rattle.rounds.specs.Stand.{On, left, fits, Turn, inside, k-few, kids, index}
 use Rattle.rounds.specs.NumberMore.{cell-old, from}
 
 -- a mark goes by what the one-level test compares
-mark-same : (k x n m y p q : ℕ) → (Kind.LETTER ≤ k → k < Kind.OR → x ≡ y) → (Kind.OR ≤ k → n ≡ p) → (Kind.OR ≤ k → k ≤ Kind.AND → m ≡ q)
-    → markIn k x n m ≡ markIn k y p q
-mark-same k x n m y p q letters first second = go (decLt k Kind.LETTER) (decLt k Kind.OR) (decLt Kind.AND k)
+mark-same : (k x y n m u v p q : ℕ) → (Kind.LETTER ≤ k → k < Kind.OR → x ≡ u) → (Kind.OR ≤ k → n ≡ p) → (Kind.OR ≤ k → k ≤ Kind.AND → m ≡ q)
+    → (Kind.DIAMOND ≤ k → k ≤ Kind.BOX → y ≡ v) → markIn k x y n m ≡ markIn k u v p q
+mark-same k x y n m u v p q letters first second actions = go (decLt k Kind.LETTER) (decLt k Kind.OR) (decLt Kind.AND k) (decLt Kind.BOX k)
   where
-    go : Dec (k < Kind.LETTER) → Dec (k < Kind.OR) → Dec (Kind.AND < k) → markIn k x n m ≡ markIn k y p q
-    go (yes a) b c = mark-constant k x n m a ∙ sym (mark-constant k y p q a)
-    go (no a) (yes b) c = mark-letter k x n m (omega arith) b ∙ rw (letters (omega arith) b) (sym (mark-letter k y p q (omega arith) b))
-    go (no a) (no b) (yes c) =
-        mark-one k x n m (omega arith) (omega arith) c ∙ rw (first (omega arith)) (sym (mark-one k y p q (omega arith) (omega arith) c))
-    go (no a) (no b) (no c) =
-        mark-two k x n m (omega arith) (omega arith) (omega arith)
-        ∙ rw (first (omega arith), second (omega arith) (omega arith)) (sym (mark-two k y p q (omega arith) (omega arith) (omega arith)))
+    go : Dec (k < Kind.LETTER) → Dec (k < Kind.OR) → Dec (Kind.AND < k) → Dec (Kind.BOX < k) → markIn k x y n m ≡ markIn k u v p q
+    go (yes a) b c d = mark-constant k x y n m a ∙ sym (mark-constant k u v p q a)
+    go (no a) (yes b) c d = mark-letter k x y n m (omega arith) b ∙ rw (letters (omega arith) b) (sym (mark-letter k u v p q (omega arith) b))
+    go (no a) (no b) (no c) d =
+        mark-two k x y n m (omega arith) (omega arith)
+        ∙ rw (first (omega arith), second (omega arith) (omega arith)) (sym (mark-two k u v p q (omega arith) (omega arith)))
+    go (no a) (no b) (yes c) (no d) =
+        mark-step k x y n m (omega arith) (omega arith)
+        ∙ rw (first (omega arith), actions (omega arith) (omega arith)) (sym (mark-step k u v p q (omega arith) (omega arith)))
+    go (no a) (no b) (yes c) (yes d) = mark-one k x y n m d ∙ rw (first (omega arith)) (sym (mark-one k u v p q d))
 
 -- ss has the mark of everything that stands and is no name
 abbrev pub Marked : List ℕ → List ℕ → List ℕ → ℕ → (ℕ → ℕ → Bool) → List ℕ → List ℕ → List ℕ → Type 0
@@ -70,7 +72,7 @@ module _ {ks xs ys : List ℕ} {n : ℕ} {isFree : ℕ → ℕ → Bool} {ts us 
   mark-stays rs new on old k f F (leaf l) s r O i j a b I J =
       let low = kind-leaf l in
       let z = kind-is f F s in
-      mark-same (getD ks f 0) _ _ _ _ _ _ (λ _ _. refl) (λ h. absurd (omega arith)) (λ h. absurd (omega arith))
+      mark-same (getD ks f 0) _ _ _ _ _ _ _ _ (λ _ _. refl) (λ h. absurd (omega arith)) (λ h. absurd (omega arith)) (λ _ _. refl)
     where
       kind-leaf : (l : Leaf) → kindOf (leaf l) < Kind.OR
       kind-leaf never = omega arith
@@ -81,17 +83,17 @@ module _ {ks xs ys : List ℕ} {n : ℕ} {isFree : ℕ → ℕ → Bool} {ts us 
       let (lo, hi) = kind-two o x y in
       let p = first-is f F s lo in
       let q = second-is f F s lo hi in
-      mark-same (getD ks f 0) _ _ _ _ _ _ (λ _ _. refl) (λ _. rw (← p, I, J) (old _ _ A)) (λ _ _. rw (← q, H, G) (old _ _ B))
+      mark-same (getD ks f 0) _ _ _ _ _ _ _ _ (λ _ _. refl) (λ _. rw (← p, I, J) (old _ _ A)) (λ _ _. rw (← q, H, G) (old _ _ B)) (λ _ _. refl)
   mark-stays rs new on old k f F (step m x) s r A i j a b I J =
       let z = kind-is f F s in
       let (lo, hi) = kind-step m x in
       let p = first-is f F s (omega arith) in
-      mark-same (getD ks f 0) _ _ _ _ _ _ (λ _ _. refl) (λ _. rw (← p, I, J) (old _ _ A)) (λ _ h. absurd (omega arith))
+      mark-same (getD ks f 0) _ _ _ _ _ _ _ _ (λ _ _. refl) (λ _. rw (← p, I, J) (old _ _ A)) (λ _ h. absurd (omega arith)) (λ _ _. refl)
   mark-stays rs new on old k f F (fix σ x) s r A i j a b I J =
       let z = kind-is f F s in
       let (lo, hi) = kind-fix σ x in
       let p = first-is f F s (omega arith) in
-      mark-same (getD ks f 0) _ _ _ _ _ _ (λ _ _. refl) (λ _. rw (← p, I, J) (old _ _ A)) (λ _ h. absurd (omega arith))
+      mark-same (getD ks f 0) _ _ _ _ _ _ _ _ (λ _ _. refl) (λ _. rw (← p, I, J) (old _ _ A)) (λ _ h. absurd (omega arith)) (λ _ _. refl)
   mark-stays rs new on old k f F (name x) s r O i j a b I J = absurd r
 
   module _ {rs bs : List ℕ} {q e : ℕ} (t : Turn ks xs ys n isFree rs bs q e) (ss : List ℕ) (M : Marked ks xs ys n isFree rs bs ss) where
@@ -140,7 +142,8 @@ module _ {ks xs ys : List ℕ} {n : ℕ} {isFree : ℕ → ℕ → Bool} {ts us 
         same =
             let nu = proper (shape T e) refl r in
             rw (h .kinds)
-            (mark-same (getD ks e 0) _ _ _ _ _ _ (λ a b. h .letters a (omega arith)) (λ a. h .first a (omega arith)) (λ a b. h .two a b .second))
+            (mark-same (getD ks e 0) _ _ _ _ _ _ _ _ (λ a b. h .letters a (omega arith)) (λ a. h .first a (omega arith)) (λ a b. h .two a b .second)
+            (h .actions))
 
     -- one number more
     module _ (v : ℕ) where

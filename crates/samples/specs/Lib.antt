@@ -2,4 +2,5 @@ pub mod Parts
 pub mod Files
 pub mod NearMisses
 pub mod Twins
+pub mod Actions
 pub mod Samples

@@ -1,11 +1,14 @@
--- document 01's proved samples, then near misses, as one table computed from the definitions: files, models and the gate; formulas alike (T-03) among them
+-- document 01's proved samples, then near misses, as one table computed from the definitions: files, models and the gate; formulas alike (T-03) and actions (T-04) among them
 use mathlib.Core.Path.{_≡_, refl}
 use mathlib.Core.List.{List, [], _∷_, _++_}
 use Prim.Native.Nat.{ℕ}
 use native.Mathlib.Decide.{ℕ-discrete}
 use lib.ListN.{take, replicate}
 use Rattle.verdict.specs.Verdict.{Verdict, accepted, refused}
+use Rattle.encoding.specs.Opening.{opens}
 use Rattle.formula.specs.Table.{blank}
+use Rattle.formula.specs.Spelled.{tableBy}
+use Rattle.model_files.specs.ReadModel.{state}
 use Rattle.permit.specs.GateState.{Gate, start, opening, Permit, granted, denied, taking}
 use Rattle.demands.specs.Slices.{Lent, LentWords}
 use Rattle.demands.specs.Check.{verdict}
@@ -18,6 +21,7 @@ use Rattle.samples.specs.NearMisses.{onlyTrue, byAx2, trueBesideFalse, d
 use Rattle.samples.specs.NearMisses.{nameThroughFixpoint, fixpointUnderBox, trueBesideLetter, codeTwice, nameAsMember, leafWithName, mapOfAx2, mapOfTrue}
 use Rattle.samples.specs.Twins.{twoTrue, bothByAx2, letterTwice, allByAx1, twoOrs, orOfTwo, twoBoxes, boxOfTwo}
 use Rattle.samples.specs.Twins.{trueAndMuOfTrue, trueInEitherFocus, boxAndMuOfBox, boxInEitherFocus, nus, nestedNus, loopOfOther, leafOfOther, loopByTurns}
+use Rattle.samples.specs.Actions.{boxAndDiamond, boxThenAx1, actionThenBounds, actionAndBounds, unguardedThenAction, letterWithB, boxesOfLetter, twoWays, oneWay}
 use Rattle.samples.specs.NearMisses.{endsAtEntryCount, endsAtMemberCount, endsAtNodeCount, endsAtCodeCount, endsAtStateCount}
 
 -- what a sample asks, and what a definition answers
@@ -180,6 +184,23 @@ samples =
     ∷ record { question = check (nus (3 ∷ [])) loopOfOther; answer = verdictIs accepted }
     ∷ record { question = check (nus (3 ∷ [])) leafOfOther; answer = verdictIs accepted }
     ∷ record { question = check (nus (3 ∷ [])) loopByTurns; answer = verdictIs accepted }
+    -- T-04: a box step takes diamonds of its own action, of any from 0 to 15: of another: accepted
+    ∷ record { question = check (boxAndDiamond 3 3) boxThenAx1; answer = verdictIs accepted }
+    ∷ record { question = check (boxAndDiamond 15 15) boxThenAx1; answer = verdictIs accepted }
+    ∷ record { question = check (boxAndDiamond 1 2) boxThenAx1; answer = verdictIs (refused 37 0) }
+    -- an action above 15, and a 0 that is written out, at the first such entry: let through: accepted
+    ∷ record { question = check (boxAndDiamond 16 16) boxThenAx1; answer = verdictIs (refused 71 2) }
+    ∷ record { question = check (boxAndDiamond 0 0) boxThenAx1; answer = verdictIs (refused 71 2) }
+    ∷ record { question = check (boxAndDiamond 1 0) boxThenAx1; answer = verdictIs (refused 71 3) }
+    -- 71 at an entry comes before 20 at a later one, after 20 at its own, and before 21 to 23 anywhere
+    ∷ record { question = check actionThenBounds (byAx2 1); answer = verdictIs (refused 71 1) }
+    ∷ record { question = check actionAndBounds (byAx2 1); answer = verdictIs (refused 20 1) }
+    ∷ record { question = check unguardedThenAction (byAx2 1); answer = verdictIs (refused 71 2) }
+    -- B with a kind that has none and is no box or diamond is still an unfit map
+    ∷ record { question = check letterWithB (byAx2 1); answer = verdictIs (refused 13 6) }
+    -- each box looks at its own action; an old model has none but 0
+    ∷ record { question = evaluate boxesOfLetter twoWays; answer = wordsAre accepted (2 ∷ 3 ∷ 2 ∷ []) }
+    ∷ record { question = evaluate boxesOfLetter oneWay; answer = wordsAre accepted (2 ∷ 3 ∷ 3 ∷ []) }
     -- bits 5 to 7 of a node's map are zero, and an entry's map has no bit but its kind's: unread bits: accepted
     ∷ record { question = check onlyTrue (mapOfAx2 0x30); answer = verdictIs (refused 33 6) }
     ∷ record { question = check onlyTrue (mapOfAx2 0x50); answer = verdictIs (refused 33 6) }
@@ -215,5 +236,5 @@ expected [] = []
 expected (x ∷ l) = x .answer ∷ expected l
 
 pub samples-right : answers samples ≡ expected samples
-unfolding answers expected samples answered ℕ-discrete
+unfolding answers expected samples answered ℕ-discrete tableBy opens state
 samples-right = refl

@@ -1,5 +1,6 @@
--- one step of the judge of 20 to 23 over a table in plain numbers, case by case
+-- one step of the judge of 20, 71 and 21 to 23 over a table in plain numbers, case by case
 use mathlib.Core.Path.{_≡_, refl, ap, _∙_, sym}
+use mathlib.Core.Logic.{_≢_}
 use mathlib.Core.List.{List}
 use mathlib.Core.Bool.{Bool, true, false, not, _||_, _&&_}
 use Prim.Native.Nat.{ℕ, suc, _+_, _*_, _-_, _<_, _≤_}
@@ -13,13 +14,14 @@ use Rattle.verdict.specs.Verdict.{Verdict, accepted, refused, pick, scan}
 use Rattle.verdict.specs.VerdictLaws.{scan-holds, scan-first}
 use Rattle.formula.specs.Kind
 use Rattle.formula.specs.Table.{Table}
+use Rattle.formula.specs.Shape.{shape}
 use Rattle.formula.specs.Plain.{tableOf, tableOf-length}
 use Rattle.formula.specs.FieldLaws.{within-tells}
 use Rattle.formula.specs.Fields.{isFixpoint}
 use Rattle.conditions.specs.Rows.{has}
-use Rattle.conditions.specs.Judge.{freeRow, openRow, frees, opens, marks, low, loose, judgeBy, judgeTable}
+use Rattle.conditions.specs.Judge.{far, freeRow, openRow, frees, opens, marks, low, loose, plainly, judgeBy, judgeTable}
 use Rattle.conditions.specs.TestLaws.{freeSet, openSet}
-use Rattle.operands.specs.OperandBounds.{outOf, FirstOut, plain-shape, out-one}
+use Rattle.operands.specs.OperandBounds.{outOf, numberAt, FirstFault, number-none, plain-shape, out-one}
 use Rattle.name_sets.specs.NameSets.{holds, Marks}
 use Rattle.name_sets.specs.RowWords.{rowOf, withRow}
 use Rattle.name_sets.specs.MarksBelow.{MarksBelow, below-none, below-with}
@@ -57,22 +59,44 @@ module _ (more : Verdict) (e : ℕ) where
 
 module _ (t : Table) where
   module _ (n : ℕ) (count : length t ≡ n) where
-    -- 20 at the first entry that earns it
-    pub judge-out : (e : ℕ) → FirstOut t n e → e < n → refused 20 e ≡ judgeTable t
-    unfolding judgeTable judgeBy
-    judge-out e f h = sym (scan-first (λ e. not (outOf t e)) (λ e. 20) (length t) 0 _ (record {
-      inside = (omega arith, omega arith);
-      bad = ap not (f .found h);
-      numbered = refl;
-      before = λ w a b. ap not (f .before w b);
-    }))
+    -- neither 20 nor 71, and which of them
+    passes : ℕ → Bool
+    passes e = not (outOf t e || (far (shape t e) || plainly e))
+
+    which : ℕ → ℕ
+    which e = choose (outOf t e) 20 71
+
+    passed : (e : ℕ) → numberAt t e ≡ 0 → passes e ≡ true
+    unfolding passes
+    passed e z = let (p, q) = number-none t e z in rw (p, q) refl
+
+    caught : (e k : ℕ) → numberAt t e ≡ k → k ≢ 0 → (passes e ≡ false) × (which e ≡ k)
+    unfolding passes which numberAt
+    caught e k h z = go (outOf t e) (far (shape t e)) h
+      where
+        go : (a b : Bool) → choose a 20 (choose b 71 0) ≡ k → (not (a || (b || false)) ≡ false) × (choose a 20 71 ≡ k)
+        go true b h = (refl, h)
+        go false true h = (refl, h)
+        go false false h = absurd (z (sym h))
+
+    -- 20 or 71 at the first entry that earns one of them
+    pub judge-fault : (k e : ℕ) → FirstFault t n k e → k ≢ 0 → refused k e ≡ judgeTable plainly t
+    unfolding judgeTable judgeBy passes which
+    judge-fault k e f h =
+        let (p, q) = caught e k (f .found (f .told h)) h in
+        sym (scan-first passes which (length t) 0 _ (record {
+          inside = (omega arith, omega (arith, f .told h));
+          bad = p;
+          numbered = q;
+          before = λ w a b. passed w (f .before w b);
+        }))
 
     -- else 21, 22 and 23 decide
-    pub judge-names : ((w : ℕ) → w < n → outOf t w ≡ false) → {v : Verdict} → v ≡ namesFrom t n 0 → v ≡ judgeTable t
-    unfolding judgeTable judgeBy namesFrom
+    pub judge-names : ((w : ℕ) → w < n → numberAt t w ≡ 0) → {v : Verdict} → v ≡ namesFrom t n 0 → v ≡ judgeTable plainly t
+    unfolding judgeTable judgeBy namesFrom passes which
     judge-names f q =
         q ∙ ap (λ (m : ℕ). namesFrom t m 0) (sym count)
-        ∙ sym (scan-holds (λ e. not (outOf t e)) (λ e. 20) (length t) 0 _ (λ w a b. ap not (f w (omega arith))))
+        ∙ sym (scan-holds passes which (length t) 0 _ (λ w a b. passed w (f w (omega arith))))
 
   pub names-end : (e : ℕ) → namesFrom t 0 e ≡ accepted
   unfolding namesFrom scan

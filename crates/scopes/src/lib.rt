@@ -1,4 +1,4 @@
-// The judge of refusals 20 to 23 over an entry table in plain numbers. For 21, 22 and 23, free names, alternation and guardedness, it goes
+// The judge of refusals 20, 71 and 21 to 23 over an entry table in plain numbers. For 21, 22 and 23, free names, alternation and guardedness, it goes
 // entry by entry: an entry's free names, and the names reached from it through no box or diamond, are made once from those of its operands.
 ghost use mathlib.Core.Path.{_≡_};
 ghost use mathlib.Core.Bool.{false, _&&_};
@@ -7,7 +7,7 @@ ghost use lib.Dec.{eqb, ltb};
 ghost use lib.ListN.{length, getD};
 ghost use Rattle.verdict.specs.Shown.{shown};
 ghost use Rattle.formula.specs.Plain.{tableOf};
-ghost use Rattle.conditions.specs.Judge.{judgeTable};
+ghost use Rattle.conditions.specs.Judge.{plainly, judgeTable};
 ghost use Rattle.conditions.specs.TestLaws.{freeSet};
 ghost use Rattle.operands.specs.OperandBounds.{outOf};
 ghost use Rattle.name_sets.specs.NameSets.{Marks};
@@ -22,7 +22,7 @@ use formula::Kind;
 use name_sets::Names;
 use name_sets::put_row;
 use name_sets::row;
-use operands::first_out;
+use operands::first_fault;
 use verdict::Verdict;
 
 mod entry; // entry.rt: what is made and judged at one entry
@@ -120,16 +120,16 @@ fn judge_names(kinds: &[u8; 256], a: &[u16; 256], b: &[u16; 256], count: usize) 
     judge_rows(kinds, a, b, count, &mut free_rows, &mut open_rows)
 }
 
-// Refusals 20 to 23 over the first count entries: 20 over all of them, then 21, 22 and 23 entry by entry.
+// Refusals 20, 71 and 21 to 23 over the first count entries: 20 and 71 over all of them, then 21, 22 and 23 entry by entry.
 pub fn judge(kinds: &[u8; 256], a: &[u16; 256], b: &[u16; 256], count: usize) -> Verdict
     requires { ⌜ count ≤ 256 ⌝ }
-    ensures { λ r. ⌜ shown r ≡ judgeTable (tableOf (now (kinds .entry)) (now (a .entry)) (now (b .entry)) count) ⌝ }
+    ensures { λ r. ⌜ shown r ≡ judgeTable plainly (tableOf (now (kinds .entry)) (now (a .entry)) (now (b .entry)) count) ⌝ }
 {
-    let out = first_out(kinds, a, b, count);
-    if out < count {
+    let found = first_fault(kinds, a, b, count);
+    if found.number != 0 {
         return Verdict::Refused {
-            number: 20,
-            place: out as u16,
+            number: found.number,
+            place: found.entry as u16,
         };
     }
     judge_names(kinds, a, b, count)

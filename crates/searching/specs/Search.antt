@@ -5,9 +5,9 @@ use mathlib.Core.Bool.{false, _||_}
 use mathlib.Core.List.{List}
 use Prim.Native.Nat.{ℕ, _+_, _*_, _%_, _<_, _≤_}
 use native.Mathlib.Omega.{arith}
-use lib.Dec.{eqb, ltb}
+use lib.Dec.{eqb, ltb, leb}
 use lib.ListN.{length, getD}
-use borrow.Author.Tests.{lt-ltb, le-ltb}
+use borrow.Author.Tests.{lt-ltb, le-ltb, le-leb, lt-leb}
 use Rattle.verdict.specs.Tests.{choose}
 use Rattle.formula.specs.Kind
 use Rattle.bits.specs.WordSet.{inSet}
@@ -43,31 +43,33 @@ pub record NameNumber (rs : List ℕ) (k x v : ℕ) : Type 0 where
   pub written-out : k ≡ 0 → v ≡ cell rs 0 x
   pub bound : k ≢ 0 → v ≡ 255
 
--- the mark of an entry of kind k and first field x, n and m the numbers of its operands
-abbrev pub markIn : ℕ → ℕ → ℕ → ℕ → ℕ
-markIn k x n m =
+-- the mark of an entry of kind k and fields x and y, n and m the numbers of its operands
+abbrev pub markIn : ℕ → ℕ → ℕ → ℕ → ℕ → ℕ
+markIn k x y n m =
     choose (ltb k Kind.LETTER) k
     (choose (ltb k Kind.OR) ((53 * k + x) % 512)
-    (choose (ltb Kind.AND k) ((53 * k + n) % 512) ((53 * k + n + 37 * m) % 512)))
+    (choose (leb k Kind.AND) ((53 * k + n + 37 * m) % 512)
+    (choose (leb k Kind.BOX) ((53 * k + n + 37 * y) % 512) ((53 * k + n) % 512))))
 
-module _ (k x n m : ℕ) where
-  pub mark-constant : k < Kind.LETTER → markIn k x n m ≡ k
+module _ (k x y n m : ℕ) where
+  pub mark-constant : k < Kind.LETTER → markIn k x y n m ≡ k
   mark-constant h = rw (lt-ltb k Kind.LETTER h) refl
 
-  module _ (h : Kind.LETTER ≤ k) where
-    pub mark-letter : k < Kind.OR → markIn k x n m ≡ (53 * k + x) % 512
-    mark-letter l = rw (le-ltb k Kind.LETTER h, lt-ltb k Kind.OR l) refl
+  pub mark-letter : Kind.LETTER ≤ k → k < Kind.OR → markIn k x y n m ≡ (53 * k + x) % 512
+  mark-letter h l = rw (le-ltb k Kind.LETTER h, lt-ltb k Kind.OR l) refl
 
-    module _ (l : Kind.OR ≤ k) where
-      pub mark-one : Kind.AND < k → markIn k x n m ≡ (53 * k + n) % 512
-      mark-one z = rw (le-ltb k Kind.LETTER h, le-ltb k Kind.OR l, lt-ltb Kind.AND k z) refl
+  pub mark-two : Kind.OR ≤ k → k ≤ Kind.AND → markIn k x y n m ≡ (53 * k + n + 37 * m) % 512
+  mark-two h l = rw (le-ltb k Kind.LETTER (omega arith), le-ltb k Kind.OR h, le-leb k Kind.AND l) refl
 
-      pub mark-two : k ≤ Kind.AND → markIn k x n m ≡ (53 * k + n + 37 * m) % 512
-      mark-two z = rw (le-ltb k Kind.LETTER h, le-ltb k Kind.OR l, le-ltb Kind.AND k z) refl
+  pub mark-step : Kind.DIAMOND ≤ k → k ≤ Kind.BOX → markIn k x y n m ≡ (53 * k + n + 37 * y) % 512
+  mark-step h l = rw (le-ltb k Kind.LETTER (omega arith), le-ltb k Kind.OR (omega arith), lt-leb k Kind.AND h, le-leb k Kind.BOX l) refl
+
+  pub mark-one : Kind.MU ≤ k → markIn k x y n m ≡ (53 * k + n) % 512
+  mark-one h = rw (le-ltb k Kind.LETTER (omega arith), le-ltb k Kind.OR (omega arith), lt-leb k Kind.AND (omega arith), lt-leb k Kind.BOX h) refl
 
 -- the mark of entry e, i and j names bound in its operands
 abbrev pub markOf : List ℕ → List ℕ → List ℕ → List ℕ → ℕ → ℕ → ℕ → ℕ
-markOf ks xs ys rs i j e = markIn (getD ks e 0) (getD xs e 0) (cell rs i (getD xs e 0)) (cell rs j (getD ys e 0))
+markOf ks xs ys rs i j e = markIn (getD ks e 0) (getD xs e 0) (getD ys e 0) (cell rs i (getD xs e 0)) (cell rs j (getD ys e 0))
 
 -- the number v for e with k names bound, ss having the marks before and ns those after
 pub record Chosen (ks xs ys : List ℕ) (n : ℕ) (ts us vs bs rs ss ns : List ℕ) (k e v : ℕ) : Type 0 where

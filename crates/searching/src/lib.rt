@@ -172,10 +172,10 @@ fn name_number(numbers: &[u8], k: usize, x: u16) -> u8
     255
 }
 
-// The mark of an entry of the kind and first field x, whose operands have the numbers. It goes by what `fit` compares, and by no more. The kind
-// counts 53 times, so that entries of different kinds seldom share a mark.
-fn mark_in(kind: u8, x: u16, first: u8, second: u8) -> usize
-    ensures { λ r. ⌜ (r ≡ markIn kind x first second) × (r < 512) ⌝ }
+// The mark of an entry of the kind and fields x and y, whose operands have the numbers. It goes by what `fit` compares, and by no more. The
+// kind counts 53 times, so that entries of different kinds seldom share a mark, and the second operand or the action 37 times.
+fn mark_in(kind: u8, x: u16, y: u16, first: u8, second: u8) -> usize
+    ensures { λ r. ⌜ (r ≡ markIn kind x y first second) × (r < 512) ⌝ }
 {
     if kind < Kind::LETTER {
         return kind as usize;
@@ -184,10 +184,13 @@ fn mark_in(kind: u8, x: u16, first: u8, second: u8) -> usize
         return (53 * kind as usize + as_index(x)) % 512;
     }
     let left = 53 * kind as usize + first as usize;
-    if Kind::AND < kind {
-        return left % 512;
+    if kind <= Kind::AND {
+        return (left + 37 * second as usize) % 512;
     }
-    (left + 37 * second as usize) % 512
+    if kind <= Kind::BOX {
+        return (left + 37 * as_index(y)) % 512;
+    }
+    left % 512
 }
 
 // The mark of e, i names bound in its first operand and j in its second.
@@ -206,6 +209,7 @@ fn mark_of(
     mark_in(
         kinds[e],
         a[e],
+        b[e],
         number(numbers, i, a[e]),
         number(numbers, j, b[e]),
     )

@@ -19,7 +19,7 @@ use Rattle.meaning.specs.Meaning.{own}
 use Rattle.bits.specs.Bits.{bit}
 use Rattle.states.specs.WordLaws.{word-inside, word-past}
 use Rattle.states.specs.StateWords.{setsOf}
-use Rattle.states.specs.PlainModel.{rowModel}
+use Rattle.states.specs.Rows.{rowModel}
 use Rattle.meaning.specs.StateLaws.{same-trans}
 use Rattle.forming.specs.FormedLaws.{Reads, reads-either, formed-right}
 use Rattle.dependencies.specs.Top.{topClause, top, alone}

@@ -14,7 +14,7 @@ use Rattle.formula.specs.PlainNodes.{proofOf}
 use Rattle.formula.specs.Records.{NodeRecord, nodeRecords, allCodes}
 use Rattle.formula.specs.NodeColumns.{Columns, rulesOf, linksOf, startsFrom, startsOf, start-stands}
 use Rattle.formula.specs.CodeCounts.{few-codes, more-codes}
-use Rattle.proofs.specs.ProofRecords.{codes-few}
+use Rattle.proof_files.specs.ProofRecords.{codes-few}
 use Rattle.nodes.specs.ProofDecode.{proofIn, Decodes}
 use Rattle.nodes.specs.ProofStored.{NodesStored}
 use Rattle.calculus.specs.Judge.{judge}

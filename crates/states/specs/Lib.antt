@@ -6,5 +6,6 @@ pub mod BitLaws
 pub mod Fill
 pub mod StateWords
 pub mod TopDown
--- a model in plain numbers
+-- a model in plain numbers, and its successors as words
 pub mod PlainModel
+pub mod Rows

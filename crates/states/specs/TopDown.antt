@@ -8,7 +8,6 @@ use lib.Bits.{bitAnd}
 use lib.Pow.{pow-mono}
 use Rattle.formula.specs.Shape.{nu}
 use Rattle.meaning.specs.States.{StateSet, start}
-use Rattle.bits.specs.IfSet.{ifSet}
 use Rattle.bits.specs.Bits.{one, bit, and-bit}
 use Rattle.states.specs.Words.{word}
 use Rattle.states.specs.WordLaws.{one-small, word-inside, word-past}
@@ -21,18 +20,6 @@ from m A = λ k. A (m + k)
 pub record Upper (n : ℕ) (A : StateSet) (s r : ℕ) : Type 0 where
   pub within : s ≤ n
   pub is : r ≡ word (n - s) (from s A)
-
--- the eight states from u on as a byte
-abbrev pub byteFrom : StateSet → ℕ → ℕ
-byteFrom A u =
-    ifSet (A u) 1
-    + ifSet (A (u + 1)) 2
-    + ifSet (A (u + 2)) 4
-    + ifSet (A (u + 3)) 8
-    + ifSet (A (u + 4)) 16
-    + ifSet (A (u + 5)) 32
-    + ifSet (A (u + 6)) 64
-    + ifSet (A (u + 7)) 128
 
 pub word-small : (n : ℕ) (A : StateSet) → word n A < 2 ^ n
 unfolding word
@@ -47,14 +34,6 @@ word-joined (suc m) n A =
     let next : suc m + n ≡ suc (m + n) = omega arith in
     let rest : word n (from m (λ s. A (suc s))) ≡ word n (from (suc m) A) = word-same n _ _ (λ k l. ap A (omega arith)) in
     rw (next, pow-suc) (omega (arith, rw rest at (word-joined m n (λ s. A (suc s)))))
-
-weight : (b : Bool) (n : ℕ) → ifSet b n ≡ one b * n
-weight true n = omega arith
-weight false n = omega arith
-
-byte-word : (A : StateSet) (u : ℕ) → byteFrom A u ≡ word 8 (from u A)
-unfolding word
-byte-word A u = simp (weight, add-zero) (omega arith)
 
 module _ {n : ℕ} {A : StateSet} where
   pub upper-none : Upper n A n 0
@@ -90,13 +69,13 @@ module _ {n : ℕ} {A : StateSet} where
         let single : q ≡ word 1 (from (s - 1) A) + 2 ^ 1 * r = e ∙ rw t (simp add-zero (omega arith)) in
         upper-next 1 q h single
 
-    -- eight states
-    module _ {b : ℕ} (e : b ≡ byteFrom A (s - 8)) where
-      pub byte-small : b < 256
-      byte-small = omega (arith, byte-word A (s - 8), word-small 8 (from (s - 8) A))
+    -- sixteen states
+    module _ {b : ℕ} (e : b ≡ word 16 (from (s - 16) A)) where
+      pub sixteen-small : b < 65536
+      sixteen-small = omega (arith, word-small 16 (from (s - 16) A))
 
-      pub upper-eight : 8 ≤ s → Upper n A (s - 8) (r * 256 + b)
-      upper-eight h = upper-next 8 (r * 256 + b) h (omega (arith, byte-word A (s - 8)))
+      pub upper-sixteen : 16 ≤ s → Upper n A (s - 16) (r * 65536 + b)
+      upper-sixteen h = upper-next 16 (r * 65536 + b) h (omega arith)
 
     pub upper-whole : s ≡ 0 → r ≡ word n A
     upper-whole z =

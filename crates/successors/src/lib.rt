@@ -1,37 +1,50 @@
-// The successors of each state as a word.
+// The successors of each state as a word, by each action that is used.
 ghost use mathlib.Core.Path.{_≡_};
-ghost use Prim.Native.Nat.{_<_, _≤_};
-ghost use lib.Dec.{eqb};
-ghost use Rattle.model.specs.DescribedLaws.{cell};
-ghost use Rattle.states.specs.Words.{word};
-ghost use Rattle.states.specs.PlainModel.{RowWords};
+ghost use mathlib.Core.Bool.{true};
+ghost use Prim.Native.Nat.{ℕ, _+_, _*_, _<_, _≤_};
+ghost use lib.ListN.{length};
+ghost use Rattle.bits.specs.Bits.{bit};
+ghost use Rattle.states.specs.Rows.{rowWord, ActionRows, RowWords};
 use letters::all_states;
-use marks::eight;
+use marks::sixteen;
 
-// The successors of state s, by whole groups; what is marked past the last state is cut off.
-fn row_word(marks: &[[u8; 64]; 64], n: usize, s: usize) -> u64
-    requires { ⌜ (n ≤ 64) × (s < 64) ⌝ }
-    ensures { λ r. ⌜ r ≡ word n (λ u. eqb (cell (now (marks .entry)) s u) 1) ⌝ }
+// The successors of state s by action a, by whole groups; what is marked past the last state is cut off.
+fn row_word(marks: &[[u16; 64]; 64], a: usize, n: usize, s: usize) -> u64
+    requires { ⌜ (a < 16) × (n ≤ 64) × (s < 64) ⌝ }
+    ensures { λ r. ⌜ r ≡ rowWord (now (marks .entry)) n a s ⌝ }
 {
     let mut r: u64 = 0;
-    let mut u = (n + 7) / 8 * 8;
+    let mut u = (n + 15) / 16 * 16;
     while 0 < u {
-        u -= 8;
-        r = r * 256 + eight(marks, s, u) as u64;
+        u -= 16;
+        r = r * 65536 + sixteen(marks, a, s, u);
     }
     r & all_states(n)
 }
 
-// The successors of each state, made once: a modal step is then 64 operations.
-pub fn row_words(marks: &[[u8; 64]; 64], n: usize) -> [u64; 64]
-    requires { ⌜ n ≤ 64 ⌝ }
-    ensures { λ r. ⌜ RowWords (now (marks .entry)) n r ⌝ }
+// The successors of each state by action a, from place 64 * a on.
+fn action_rows(marks: &[[u16; 64]; 64], a: usize, n: usize, rows: &mut [u64])
+    requires { ⌜ (a < 16) × (n ≤ 64) × (64 * a + 64 ≤ length (now rows)) ⌝ }
+    ensures { λ _. ⌜ ActionRows (now (marks .entry)) n a (now (rows .entry)) n (now (rows .exit)) ⌝ }
 {
-    let mut rows = [0u64; 64];
     let mut s: usize = 0;
     while s < n {
-        rows[s] = row_word(marks, n, s);
+        rows[64 * a + s] = row_word(marks, a, n, s);
         s += 1;
     }
-    rows
+}
+
+// The successors of each state by the actions in a map, bit a for action a, made once: a modal step is then 64 operations. Nothing is done
+// for an action that is not there.
+pub fn row_words(marks: &[[u16; 64]; 64], used: u16, n: usize, rows: &mut [u64])
+    requires { ⌜ (n ≤ 64) × ((a : ℕ) → bit used a ≡ true → 64 * a + 64 ≤ length (now rows)) ⌝ }
+    ensures { λ _. ⌜ RowWords (now (marks .entry)) used n (now (rows .entry)) 16 (now (rows .exit)) ⌝ }
+{
+    let mut a: usize = 0;
+    while a < 16 {
+        if (used >> a) & 1 == 1 {
+            action_rows(marks, a, n, rows);
+        }
+        a += 1;
+    }
 }

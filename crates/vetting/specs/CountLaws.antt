@@ -7,7 +7,7 @@ use borrow.Author.Tests.{eq-eqb, ne-eqb}
 use lib.ListN.{length}
 use Rattle.formula.specs.Table.{Table}
 use Rattle.formula.specs.Records.{NodeRecord}
-use Rattle.proofs.specs.ReadProof.{isCode}
+use Rattle.proof_files.specs.ReadProof.{isCode}
 use Rattle.writing.specs.Ends.{next, stop, goOn}
 use Rattle.writing.specs.FieldEnds.{out-of-range, inside, risingEnd}
 use Rattle.writing.specs.ClaimEnds.{entriesEnd, membersEnd, listedEnd, claimEnd}

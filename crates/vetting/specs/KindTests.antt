@@ -13,7 +13,7 @@ use Rattle.formula.specs.Members.{isFormula, formula-tells}
 use Rattle.formula.specs.Plain.{tableOf, tableOf-length, tableOf-kind}
 use Rattle.encoding.specs.Parse.{fits-from}
 use Rattle.claim_members.specs.ClaimMembers.{plainFormula, mayFollow}
-use Rattle.proofs.specs.ProofParts.{kindTable}
+use Rattle.proof_files.specs.ProofParts.{kindTable}
 use Rattle.writing.specs.Ends.{goOn}
 use Rattle.writing.specs.FieldEnds.{countEnd, risingEnd}
 use Rattle.writing.specs.ClaimEnds.{listedEnd}

@@ -42,7 +42,7 @@ module _ {ks xs ys : List ℕ} {n i at : ℕ} (h : EntriesLeft ks xs ys n i at) 
     unfolding walk
     entries-stop f = h .left ∙ rw (values-cons (plainEntry ks xs ys) i n k, f) refl
 
-    pub entries-on : entryFits (plainEntry ks xs ys i) ≡ true → EntriesLeft ks xs ys n (i + 1) (at + entryWidth (getD ks i 0))
+    pub entries-on : entryFits (plainEntry ks xs ys i) ≡ true → EntriesLeft ks xs ys n (i + 1) (at + entryWidth (getD ks i 0) (getD ys i 0))
     unfolding walk
     entries-on f = record { left = h .left ∙ rw (values-cons (plainEntry ks xs ys) i n k, f) refl }
 

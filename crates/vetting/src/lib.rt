@@ -1,5 +1,5 @@
 // Records in columns of plain numbers, judged as the reader would judge the file that they make: the first fault in the order of its bytes,
-// then 20 to 23 of a claim, 35 of a proof. Nothing is written.
+// then 20, 71 and 21 to 23 of a claim, 35 of a proof. Nothing is written.
 ghost use mathlib.Core.Path.{_≡_};
 ghost use mathlib.Core.List.{List};
 ghost use Prim.Native.Nat.{ℕ, _+_, _*_, _<_, _≤_};
@@ -7,8 +7,8 @@ ghost use lib.ListN.{length, take, drop};
 ghost use Rattle.verdict.specs.Shown.{shown};
 ghost use Rattle.formula.specs.Plain.{tableOf};
 ghost use Rattle.formula.specs.PlainNodes.{proofOf};
-ghost use Rattle.proofs.specs.ReadProof.{isCode};
-ghost use Rattle.proofs.specs.ProofParts.{kindTable};
+ghost use Rattle.proof_files.specs.ReadProof.{isCode};
+ghost use Rattle.proof_files.specs.ProofParts.{kindTable};
 ghost use Rattle.tree.specs.Owners.{tree-judged};
 ghost use Rattle.writing.specs.Ends as ends;
 ghost use Rattle.writing.specs.FieldEnds.{mayHold, risingEnd};
@@ -23,7 +23,7 @@ use claim_files::ClaimFault;
 use claim_members::may_follow;
 use formula::Kind;
 use formula::Rule;
-use proofs::ProofFault;
+use proof_files::ProofFault;
 use proofs::is_code;
 use scopes::judge;
 use tree::fill_owners;
@@ -53,7 +53,7 @@ fn may_hold(stands: bool, value: u16) -> bool
     stands || value == 0
 }
 
-// A known kind, and 0 in the fields that it lacks.
+// A known kind, and 0 in the fields that it lacks; field B of a box or diamond is its action, which the table's judge looks at.
 fn entry_fits(kind: u8, a: u16, b: u16) -> bool
     ensures { λ r. ⌜ r ≡ entryFits (record { kind = kind; a = a; b = b }) ⌝ }
 {
@@ -63,20 +63,29 @@ fn entry_fits(kind: u8, a: u16, b: u16) -> bool
     if !may_hold(Kind::has_a(kind), a) {
         return false;
     }
+    if Kind::is_modal(kind) {
+        return true;
+    }
     may_hold(Kind::has_b(kind), b)
 }
 
-// How many bytes an entry takes.
-fn entry_width(kind: u8) -> usize
-    ensures { λ r. ⌜ (r ≡ entryWidth kind) × (r ≤ 6) ⌝ }
+// How many bytes an entry takes: field B of a box or diamond stands only for an action other than 0.
+fn entry_width(kind: u8, b: u16) -> usize
+    ensures { λ r. ⌜ (r ≡ entryWidth kind b) × (r ≤ 6) ⌝ }
 {
     if Kind::has_b(kind) {
         return 6;
     }
-    if Kind::has_a(kind) {
+    if !Kind::has_a(kind) {
+        return 2;
+    }
+    if b == 0 {
         return 4;
     }
-    2
+    if Kind::is_modal(kind) {
+        return 6;
+    }
+    4
 }
 
 // From the place after the count on: an unfit entry is refused where its map would stand.
@@ -88,10 +97,11 @@ fn judge_entries(kinds: &[u8; 256], a: &[u16; 256], b: &[u16; 256], count: usize
     let mut i: usize = 0;
     while i < count {
         let kind = kinds[i];
-        if !entry_fits(kind, a[i], b[i]) {
+        let second = b[i];
+        if !entry_fits(kind, a[i], second) {
             return stop(ClaimFault::KIND, at);
         }
-        at += entry_width(kind);
+        at += entry_width(kind, second);
         i += 1;
     }
     Step::Next(at)
@@ -151,7 +161,7 @@ fn judge_claim_bytes(
     }
 }
 
-// A claim's records: 12 to 14, then 20 to 23 over the table.
+// A claim's records: 12 to 14, then 20, 71 and 21 to 23 over the table.
 pub fn judge_claim(
     kinds: &[u8; 256],
     a: &[u16; 256],

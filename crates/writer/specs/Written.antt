@@ -15,8 +15,9 @@ use Rattle.formula.specs.Records.{NodeRecord}
 use Rattle.formula.specs.Plain.{tableOf}
 use Rattle.encoding.specs.File.{Reading, refused}
 use Rattle.claim_files.specs.ClaimFile.{encodeClaim}
-use Rattle.proofs.specs.ProofFile.{encodeProof}
-use Rattle.proofs.specs.ProofParts.{kindTable}
+use Rattle.proof_files.specs.ProofFile.{encodeProof}
+use Rattle.proof_files.specs.ProofParts.{kindTable}
+use Rattle.writing.specs.Spelling.{spelledClaim}
 use Rattle.writing.specs.Writing.{ClaimRecords, ProofRecords, writingClaim, writingProof, fileNumber, laidInto}
 use Rattle.writing.specs.Ends.{End, next, stop}
 use Rattle.writing.specs.ProofEnds.{nodesOver}
@@ -59,7 +60,7 @@ module _ (lent n : ℕ) (ks xs ys ms out : List ℕ) {r : ℕ} {out′ : List �
   pub claim-too-short : lent < 256 → Wrote (refused 1 0) out r out′ → ClaimWritten lent n ks xs ys ms out r out′
   claim-too-short h w es long held = claim-promised (record { entries = es; count = n; members = ms }) out (claim-short es n ks xs ys ms held (omega arith) (length out)) w
 
-  pub claim-written : 256 ≤ lent → Wrote (answered (claimJudged n (tableOf ks xs ys n) ms) (length out) (encodeClaim (record { entries = tableOf ks xs ys n; members = ms }))) out r out′
+  pub claim-written : 256 ≤ lent → Wrote (answered (claimJudged n (tableOf ks xs ys n) ms) (length out) (encodeClaim (spelledClaim (tableOf ks xs ys n) ms))) out r out′
       → ClaimWritten lent n ks xs ys ms out r out′
   claim-written h w es long held = claim-promised (record { entries = es; count = n; members = ms }) out (claim-answers es n ks xs ys ms held (omega arith) (length out)) w
 

@@ -4,7 +4,7 @@ ghost use mathlib.Core.Path.{_≡_};
 ghost use Prim.Native.Nat.{_+_, _≤_, _^_};
 ghost use lib.ListN.{length};
 ghost use Rattle.verdict.specs.Verdict.{refused, packed};
-ghost use Rattle.proofs.specs.ProofParts.{kindTable};
+ghost use Rattle.proof_files.specs.ProofParts.{kindTable};
 ghost use Rattle.writing.specs.Held.{recordsOf, Loadable, ColumnsFor, ClaimWritten, ProofWritten};
 ghost use Rattle.writer.specs.Written.{Wrote, provedBy};
 use laying::put_claim;

@@ -19,13 +19,14 @@ use Rattle.formula.specs.Plain.{tableOf, tableOf-length, tableOf-kind}
 use Rattle.encoding.specs.Parse.{pick}
 use Rattle.encoding.specs.File.{Reading, refused, good}
 use Rattle.claim_files.specs.ClaimFile.{encodeClaim}
-use Rattle.proofs.specs.ProofFile.{encodeProof}
-use Rattle.proofs.specs.ReadProof.{readProof}
-use Rattle.proofs.specs.ProofParts.{kindTable, kindClaim}
+use Rattle.proof_files.specs.ProofFile.{encodeProof}
+use Rattle.proof_files.specs.ReadProof.{readProof}
+use Rattle.proof_files.specs.ProofParts.{kindTable, kindClaim}
 use Rattle.tree.specs.Owners.{tree-judged}
 use Rattle.reader.specs.Files.{firstly, readFormed, files}
 use Rattle.proofs.specs.ProofKinds.{by-kinds}
 use Rattle.writing.specs.RecordBytes.{claimBytes, proofBytes}
+use Rattle.writing.specs.Spelling.{spelledClaim}
 use Rattle.writing.specs.Writing.{ClaimRecords, ProofRecords, claimFile, proofFile, shortClaim, shortProof, ifRoom, writingClaim, writingProof}
 use Rattle.writing.specs.Ends.{End, next, stop, goOn, readBy, stop-not-next}
 use Rattle.writing.specs.FieldEnds.{out-of-range}
@@ -80,14 +81,14 @@ module _ (es : Table) (n : ℕ) (ks xs ys ms : List ℕ) (held : EntriesHeld es 
       same-table : take n es ≡ t
       same-table = held long (passes .entries)
 
-      past-claim : (room : ℕ) → writingClaim given room ≡ answered (next o) room (encodeClaim (record { entries = t; members = ms }))
+      past-claim : (room : ℕ) → writingClaim given room ≡ answered (next o) room (encodeClaim (spelledClaim t ms))
       unfolding writingClaim
       past-claim room = rw (enough-claim, read-as h) (room-answered room o (claimFile given) _ (passes .end) (ap (λ (l : Table). claimBytes n l ms) same-table ∙ passes .encoded))
 
-    pub claim-answers : (room : ℕ) → writingClaim given room ≡ answered (claimJudged n t ms) room (encodeClaim (record { entries = t; members = ms }))
+    pub claim-answers : (room : ℕ) → writingClaim given room ≡ answered (claimJudged n t ms) room (encodeClaim (spelledClaim t ms))
     claim-answers room = go (claimJudged n t ms) refl
       where
-        go : (e : End) → claimJudged n t ms ≡ e → writingClaim given room ≡ answered e room (encodeClaim (record { entries = t; members = ms }))
+        go : (e : End) → claimJudged n t ms ≡ e → writingClaim given room ≡ answered e room (encodeClaim (spelledClaim t ms))
         go (stop m q) h = claim-stops room h
         go (next o) h = past-claim h room
 

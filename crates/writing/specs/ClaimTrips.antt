@@ -1,33 +1,39 @@
 -- what is written of a claim's records reads back to them, and the records of a claim that passes are written as its bytes
-use mathlib.Core.Path.{_≡_, refl, sym, ap, _∙_}
+use mathlib.Core.Path.{_≡_, refl, sym, ap, subst, _∙_}
+use mathlib.Core.Logic.{inl, inr}
 use mathlib.Core.List.{List, [], _∷_, _++_}
-use mathlib.Core.Bool.{Bool, true, false}
-use Prim.Native.Nat.{ℕ, _+_, _*_, _≤_}
+use mathlib.Core.Bool.{Bool, true, false, _||_}
+use Prim.Native.Nat.{ℕ, suc, _*_, _≤_}
 use native.Mathlib.Omega.{arith}
 use borrow.Author.Tests.{ltb-false, le-ltb, eq-eqb, le-leb}
-use lib.Dec.{leb, ltb}
+use lib.Dec.{eqb, leb, ltb}
 use lib.ListN.{length, take, length-append}
 use lib.Seq.{length-take-le}
 use Rattle.verdict.specs.Verdict as verdicts
 use Rattle.verdict.specs.Verdict.{Verdict, accepted}
 use Rattle.verdict.specs.Lists.{Each, none, more}
 use Rattle.verdict.specs.Tests.{choose}
-use Rattle.verdict.specs.Tells.{and-tells}
+use Rattle.verdict.specs.Tells.{and-tells, leb-tells}
 use Rattle.bits.specs.IfSet.{if-set-le}
 use Rattle.formula.specs.Kind
 use Rattle.formula.specs.Table.{Entry, Table}
-use Rattle.formula.specs.Claim.{Claim}
-use Rattle.formula.specs.Fields.{hasA, hasB}
-use Rattle.conditions.specs.Judge.{judgeTable}
+use Rattle.formula.specs.Spelled.{Spelled, aStands, bStands, recordOf, recordsOf, tableBy, by-length, zeros}
+use Rattle.formula.specs.Claim as claims
+use Rattle.formula.specs.Claim.{Claim, SpelledClaim}
+use Rattle.formula.specs.Fields.{hasA, hasB, isModal}
+use Rattle.conditions.specs.Judge.{plainly, judgeTable}
+use Rattle.conditions.specs.Formed.{Unwritten}
+use Rattle.conditions.specs.JudgeExact.{judge-accepts}
 use Rattle.encoding.specs.Encode.{Bytes, FitField, encodeTwo, encodeField, encodeAll}
 use Rattle.encoding.specs.File.{Reading, refused, good}
 use Rattle.encoding.specs.FileLaws.{good-same, refused-not-good}
 use Rattle.encoding.specs.Parse.{pick}
-use Rattle.claim_files.specs.ClaimFile.{encodeEntry, FitEntry, ClaimFile}
+use Rattle.claim_files.specs.ClaimFile.{encodeEntry, FitMap, FitEntry, ClaimFile}
 use Rattle.claim_files.specs.ReadClaim.{readClaim}
 use Rattle.claim_files.specs.ClaimExact.{good-claim}
 use Rattle.reader.specs.Files.{firstly, andThen, formed, readFormed}
 use Rattle.writing.specs.RecordBytes.{stands, clipped, entryBytes, claimBytes}
+use Rattle.writing.specs.Spelling.{spelledClaim, modal-fields, bits-stand, claim-spelled, spelled-judged, spelled-so}
 use Rattle.writing.specs.Writing.{ClaimRecords, claimFile, shortClaim, ifRoom, ifLong, writingClaim}
 use Rattle.writing.specs.Ends.{End, next, stop, walk, readBy}
 use Rattle.writing.specs.FieldEnds.{mayHold, numbers-long, field-long, itself}
@@ -61,7 +67,13 @@ unfolding encodeAll
 entries-near [] = omega arith
 entries-near (e ∷ es) = omega (arith, length-append (entryBytes e) (encodeAll entryBytes es), entry-near e, entries-near es)
 
--- what holds of records whose file passes 10 to 23
+-- the records' claim, as it is spelled, is judged by its records
+pub formed-spelled : (es : Table) (ms : List ℕ) → formed (spelledClaim es ms) ≡ firstly (judgeTable plainly es) (good (record { entries = es; members = ms }))
+formed-spelled es ms =
+    ap (λ (v : Verdict). firstly v (good (claims.claimOf (spelledClaim es ms)))) (spelled-judged es)
+    ∙ ap (λ (c : Claim). firstly (judgeTable plainly es) (good c)) (claim-spelled es ms)
+
+-- what holds of records whose file passes 10 to 14, 20, 71 and 21 to 23
 pub record ClaimWritable (c : ClaimRecords) : Type 0 where
   pub back : readFormed (claimFile c) ≡ good (claimOf c)
   pub end : claimEnd (c .count) (take (c .count) (c .entries)) (c .members) ≡ next (length (claimFile c))
@@ -77,14 +89,18 @@ module _ (c : ClaimRecords) (long : shortClaim c ≡ false) where
       let (x, was, table) = and-good (readClaim (claimFile c)) formed h in
       go (claimEnd (c .count) es (c .members)) refl x was table
     where
-      go : (e : End) → claimEnd (c .count) (take (c .count) (c .entries)) (c .members) ≡ e → (x : Claim) → readClaim (claimFile c) ≡ good x → formed x ≡ good k → ClaimWritable c
-      go (stop n q) e x was table = absurd (refused-not-good (sym (claim-ends (c .count) (take (c .count) (c .entries)) (c .members) (long-enough c long) ∙ ap (readBy (claimOf c)) e) ∙ was))
+      ends : {e : End} → claimEnd (c .count) (take (c .count) (c .entries)) (c .members) ≡ e → readClaim (claimFile c) ≡ readBy (spelledClaim (take (c .count) (c .entries)) (c .members)) e
+      ends e = claim-ends (c .count) (take (c .count) (c .entries)) (c .members) (long-enough c long) ∙ ap (readBy (spelledClaim (take (c .count) (c .entries)) (c .members))) e
+
+      go : (e : End) → claimEnd (c .count) (take (c .count) (c .entries)) (c .members) ≡ e → (x : SpelledClaim) → readClaim (claimFile c) ≡ good x → formed x ≡ good k → ClaimWritable c
+      go (stop n q) e x was table = absurd (refused-not-good (sym (ends e) ∙ was))
       go (next o) e x was table =
-          let same : claimOf c ≡ x = good-same (sym (claim-ends (c .count) (take (c .count) (c .entries)) (c .members) (long-enough c long) ∙ ap (readBy (claimOf c)) e) ∙ was) in
+          let same : spelledClaim (take (c .count) (c .entries)) (c .members) ≡ x = good-same (sym (ends e) ∙ was) in
           let p = claim-passed (c .count) (take (c .count) (c .entries)) (c .members) o e in
-          let (ok, _) = first-good (judgeTable (x .entries)) (good x) table in
+          let (_, is) =
+          first-good (judgeTable plainly (take (c .count) (c .entries))) (good (claimOf c)) (sym (formed-spelled (take (c .count) (c .entries)) (c .members)) ∙ ap formed same ∙ table) in
           record {
-            back = rw (was, ok) (ap good (sym same));
+            back = h ∙ sym is;
             end = e ∙ ap next (p .end);
             near = omega (
               arith,
@@ -109,25 +125,46 @@ pub fit-held : (has : Bool) (x : ℕ) → FitField has x → mayHold has x ≡ t
 fit-held true x h = refl
 fit-held false x h = eq-eqb x 0 h
 
-fit-entry : (e : Entry) → FitEntry e → entryFits e ≡ true
-fit-entry e f =
-    and-tells (itself (leb (e .kind) Kind.NAME)) (and-tells (itself (mayHold (hasA (e .kind)) (e .a))) (itself (mayHold (hasB (e .kind)) (e .b))))
-    .holds (le-leb (e .kind) Kind.NAME (f .known), (fit-held (hasA (e .kind)) (e .a) (f .a-fits), fit-held (hasB (e .kind)) (e .b) (f .b-fits)))
+-- an entry of a file holds values where the map of its kind lets it, or the action of a box or diamond
+module _ (s : Spelled) (f : FitEntry s) where
+  or-more : (q m z : Bool) → q || z ≡ true → (q || m) || z ≡ true
+  or-more true m z h = refl
+  or-more false true z h = refl
+  or-more false false z h = h
 
-entries-again : {es : Table} → Each FitEntry es → encodeAll entryBytes es ≡ encodeAll encodeEntry es
-unfolding encodeAll
-entries-again none = refl
-entries-again (more {x = e} {l = es} f fs) =
-    ap (λ (l : List ℕ). l ++ encodeAll entryBytes es) (entry-encoded e (fit-entry e f)) ∙ ap (λ (l : List ℕ). encodeEntry e ++ l) (entries-again fs)
+  fields-fit : FitMap (s .map) (s .kind) → (mayHold (hasA (s .kind)) (s .a) ≡ true) × (mayHold (hasB (s .kind) || isModal (s .kind)) (s .b) ≡ true)
+  fields-fit (inl e) =
+      let (p, q) = bits-stand (hasA (s .kind)) (hasB (s .kind)) in
+      let a : FitField (hasA (s .kind)) (s .a) = subst (λ (b : Bool). FitField b (s .a)) (ap aStands e ∙ p) (f .a-fits) in
+      let b : FitField (hasB (s .kind)) (s .b) = subst (λ (c : Bool). FitField c (s .b)) (ap bStands e ∙ q) (f .b-fits) in
+      (fit-held (hasA (s .kind)) (s .a) a, or-more (hasB (s .kind)) (isModal (s .kind)) (eqb (s .b) 0) (fit-held (hasB (s .kind)) (s .b) b))
+  fields-fit (inr (low, high, _)) =
+      let modal : isModal (s .kind) ≡ true = and-tells (leb-tells Kind.DIAMOND (s .kind)) (leb-tells (s .kind) Kind.BOX) .holds (low, high) in
+      let (p, q) = modal-fields (s .kind) modal in
+      (rw p refl, rw (q, modal) refl)
+
+  fit-entry : entryFits (recordOf s) ≡ true
+  fit-entry =
+      and-tells (itself (leb (s .kind) Kind.NAME)) (and-tells (itself (mayHold (hasA (s .kind)) (s .a))) (itself (mayHold (hasB (s .kind) || isModal (s .kind)) (s .b))))
+      .holds (le-leb (s .kind) Kind.NAME (f .known), fields-fit (f .fits))
+
+-- entries of a file that write no 0 out are written again as they were spelled
+entries-again : {ss : List Spelled} → Each FitEntry ss → Unwritten (zeros ss) (recordsOf ss) → encodeAll entryBytes (recordsOf ss) ≡ encodeAll encodeEntry ss
+unfolding encodeAll tableBy
+entries-again none u = refl
+entries-again (more {x = s} {l = ss} f fs) u =
+    ap (λ (l : List ℕ). l ++ encodeAll entryBytes (recordsOf ss)) (entry-encoded (recordOf s) (fit-entry s f) ∙ ap encodeEntry (spelled-so s f (u 0 (omega arith))))
+    ∙ ap (λ (l : List ℕ). encodeEntry s ++ l) (entries-again fs (λ e h. u (suc e) (omega arith)))
 
 pub clipped-same : (n : ℕ) → n ≤ 65535 → clipped n ≡ n
 clipped-same n h = ap (λ (b : Bool). choose b n 65535) (le-leb n 65535 h)
 
-claim-again : (k : Claim) {bytes : List ℕ} → ClaimFile bytes k → claimBytes (length (k .entries)) (k .entries) (k .members) ≡ bytes
-claim-again k f =
-    let n : length (k .entries) ≤ 65535 = omega (arith, f .fits .entries .count) in
-    let m : length (k .members) ≤ 65535 = omega (arith, f .fits .members .count) in
-    rw (clipped-same (length (k .entries)) n, clipped-same (length (k .members)) m, entries-again (f .fits .entries .each)) (sym (f .encoded))
+claim-again : (x : SpelledClaim) {bytes : List ℕ} → ClaimFile bytes x → Unwritten (zeros (x .spelling)) (recordsOf (x .spelling))
+    → claimBytes (length (recordsOf (x .spelling))) (recordsOf (x .spelling)) (x .members) ≡ bytes
+claim-again x f u =
+    let n : length (x .spelling) ≤ 65535 = omega (arith, f .fits .entries .count) in
+    let m : length (x .members) ≤ 65535 = omega (arith, f .fits .members .count) in
+    rw (by-length recordOf (x .spelling), clipped-same (length (x .spelling)) n, clipped-same (length (x .members)) m, entries-again (f .fits .entries .each) u) (sym (f .encoded))
 
 module _ (c : ClaimRecords) (k : Claim) (given : ClaimGiven c k) {bytes : List ℕ} (bs : Bytes bytes) (reads : readFormed bytes ≡ good k) where
   -- the records of a claim that passes make its bytes
@@ -135,8 +172,11 @@ module _ (c : ClaimRecords) (k : Claim) (given : ClaimGiven c k) {bytes : List �
   unfolding readFormed
   claim-bytes-again =
       let (x, was, table) = and-good (readClaim bytes) formed reads in
-      let (_, same) = first-good (judgeTable (x .entries)) (good x) table in
-      rw (given .entries, given .count, given .members) (claim-again k (good-claim bs (was ∙ same)))
+      let z = zeros (x .spelling) in
+      let t = recordsOf (x .spelling) in
+      let (ok, same) = first-good (judgeTable z t) (good (claims.claimOf x)) table in
+      let is : claims.claimOf x ≡ k = good-same same in
+      rw (given .entries, given .count, given .members, ← is) (claim-again x (good-claim bs was) (judge-accepts z t .0 ok .1))
 
 -- a file that is written
 pub record ClaimLaid (c : ClaimRecords) (room : ℕ) (file : List ℕ) : Type 0 where

@@ -1,32 +1,33 @@
--- records that pass are encoded as the files of what they stand for, and what the reader makes of them, 20 to 23 and 35 included
+-- records that pass are encoded as the files of what they stand for, and what the reader makes of them, 20, 71, 21 to 23 and 35 included
 use mathlib.Core.Path.{_≡_, refl, ap, _∙_}
 use mathlib.Core.List.{List, [], _∷_, _++_}
 use mathlib.Core.Bool.{false}
 use Prim.Native.Nat.{ℕ, _+_, _*_, _≤_}
 use native.Mathlib.Omega.{arith}
-use lib.ListN.{length, take, drop, length-drop}
+use lib.ListN.{length, take, drop, length-drop, length-map}
 use Rattle.verdict.specs.Verdict as verdicts
 use Rattle.verdict.specs.Verdict.{Verdict, accepted}
 use Rattle.verdict.specs.Lists.{Each, none, more}
 use Rattle.formula.specs.Table.{Table}
-use Rattle.formula.specs.Claim.{Claim}
+use Rattle.formula.specs.Claim.{Claim, SpelledClaim}
 use Rattle.formula.specs.Records.{NodeRecord}
 use Rattle.formula.specs.Fields.{linkWidth}
-use Rattle.conditions.specs.Judge.{judgeTable}
+use Rattle.conditions.specs.Judge.{plainly, judgeTable}
 use Rattle.encoding.specs.Encode.{encodeAll}
 use Rattle.encoding.specs.File.{Reading, refused, good}
 use Rattle.claim_files.specs.ClaimFile.{encodeEntry, encodeClaim}
-use Rattle.proofs.specs.ProofFile.{encodeNode, encodeProof}
+use Rattle.proof_files.specs.ProofFile.{encodeNode, encodeProof}
 use Rattle.tree.specs.Owners.{tree-judged}
 use Rattle.reader.specs.Files.{firstly, andThen, formed, readFormed}
 use Rattle.writing.specs.RecordBytes.{entryBytes, claimBytes, nodesBytes, proofBytes}
+use Rattle.writing.specs.Spelling.{spelledAs, spellingOf, spelledClaim}
 use Rattle.writing.specs.Writing.{ClaimRecords, claimFile, shortClaim}
 use Rattle.writing.specs.Ends.{End, next, stop, goOn, walk, readBy, stop-not-next, passed, went}
 use Rattle.writing.specs.FieldEnds.{countEnd}
 use Rattle.writing.specs.ClaimEnds.{entryFits, entryWidth, entry-encoded, entryEnd, entriesEnd, tableEnd, listedEnd, claimEnd, claim-passed, claim-ends}
 use Rattle.writing.specs.NodeEnds.{nodeOf, nodeFits, sequentEnd, nodeEnd, node-encoded, node-past}
 use Rattle.writing.specs.ProofEnds.{nodesOver, nodesEnd, enough, proofEnd, proof-passed}
-use Rattle.writing.specs.ClaimTrips.{claimOf, long-enough, clipped-same}
+use Rattle.writing.specs.ClaimTrips.{claimOf, long-enough, formed-spelled, clipped-same}
 use Rattle.writing.specs.ProofTrips.{over-records}
 
 -- a judge after the walk: it refuses, or the walk's end stands
@@ -34,24 +35,24 @@ abbrev pub judged : Verdict → ℕ → End
 judged accepted o = next o
 judged (verdicts.refused n q) o = stop n q
 
--- 12 to 14, then 20 to 23
+-- 12 to 14, then 20, 71 and 21 to 23
 abbrev pub claimJudged : ℕ → Table → List ℕ → End
-claimJudged n t ms = goOn (claimEnd n t ms) (judged (judgeTable t))
+claimJudged n t ms = goOn (claimEnd n t ms) (judged (judgeTable plainly t))
 
 -- 32 to 34, then 35
 abbrev pub proofJudged : Table → ℕ → List NodeRecord → List ℕ → End
 proofJudged t n vs cs = goOn (proofEnd t n vs cs) (judged (tree-judged (nodesOver vs cs)))
 
--- entries that pass have the bytes of entries
-pub entries-encoded : (es : Table) (at o : ℕ) → entriesEnd es at ≡ next o → encodeAll entryBytes es ≡ encodeAll encodeEntry es
+-- entries that pass have the bytes of entries, as the writer spells them
+pub entries-encoded : (es : Table) (at o : ℕ) → entriesEnd es at ≡ next o → encodeAll entryBytes es ≡ encodeAll encodeEntry (spellingOf es)
 unfolding walk encodeAll
 entries-encoded [] at o h = refl
 entries-encoded (e ∷ es) at o h =
     let w = went (entryEnd 0 e at) (λ o. entriesEnd es o) h in
-    let (fits, _) = passed (entryFits e) (next (at + entryWidth (e .kind))) 13 at (w .first) in
-    ap (λ (l : List ℕ). l ++ encodeAll entryBytes es) (entry-encoded e fits) ∙ ap (λ (l : List ℕ). encodeEntry e ++ l) (entries-encoded es (w .place) o (w .then))
+    let (fits, _) = passed (entryFits e) (next (at + entryWidth (e .kind) (e .b))) 13 at (w .first) in
+    ap (λ (l : List ℕ). l ++ encodeAll entryBytes es) (entry-encoded e fits) ∙ ap (λ (l : List ℕ). encodeEntry (spelledAs e) ++ l) (entries-encoded es (w .place) o (w .then))
 
-pub claim-encoded : (n : ℕ) (es : Table) (ms : List ℕ) (o : ℕ) → length es ≡ n → claimEnd n es ms ≡ next o → claimBytes n es ms ≡ encodeClaim (record { entries = es; members = ms })
+pub claim-encoded : (n : ℕ) (es : Table) (ms : List ℕ) (o : ℕ) → length es ≡ n → claimEnd n es ms ≡ next o → claimBytes n es ms ≡ encodeClaim (spelledClaim es ms)
 unfolding walk
 claim-encoded n es ms o long h =
     let p = claim-passed n es ms o h in
@@ -59,7 +60,7 @@ claim-encoded n es ms o long h =
     let some = went (countEnd 256 12 n 4) (λ o. entriesEnd es o) (table .first) in
     let i : n ≤ 65535 = omega (arith, p .entries .1) in
     let j : length ms ≤ 65535 = omega (arith, p .members .1) in
-    rw (clipped-same n i, clipped-same (length ms) j, entries-encoded es (some .place) (table .place) (some .then), long) refl
+    rw (clipped-same n i, clipped-same (length ms) j, entries-encoded es (some .place) (table .place) (some .then), length-map es spelledAs, long) refl
 
 module _ (t : Table) where
   pub nodes-encoded : (vs : List NodeRecord) (cs : List ℕ) (at o : ℕ) → 24 * length vs ≤ length cs → nodesEnd t vs cs at ≡ next o → nodesBytes vs cs ≡ encodeAll encodeNode (nodesOver vs cs)
@@ -103,20 +104,20 @@ module _ (k : Claim) (n : ℕ) (vs : List NodeRecord) (cs : List ℕ) (same : n 
   pub proof-few : (o : ℕ) → proofEnd (k .entries) n vs cs ≡ next o → Each (λ v. v .count ≤ 24) vs
   proof-few o h = let (at, long, walked) = nodes-walked o h in nodes-few (k .entries) vs cs at o long walked
 
--- the reading of a claim's records, 20 to 23 included
-then-table : (c : Claim) (e : End) → andThen (readBy c e) formed ≡ readBy c (goOn e (judged (judgeTable (c .entries))))
-then-table c (stop n q) = refl
-then-table c (next o) = go (judgeTable (c .entries))
+-- the reading of a claim's records, 20, 71 and 21 to 23 included
+then-table : (t : Table) (ms : List ℕ) (e : End) → andThen (readBy (spelledClaim t ms) e) formed ≡ readBy (record { entries = t; members = ms }) (goOn e (judged (judgeTable plainly t)))
+then-table t ms (stop n q) = refl
+then-table t ms (next o) = formed-spelled t ms ∙ go (record { entries = t; members = ms }) (judgeTable plainly t)
   where
-    go : (v : Verdict) → firstly v (good c) ≡ readBy c (judged v o)
-    go accepted = refl
-    go (verdicts.refused n q) = refl
+    go : (c : Claim) (v : Verdict) → firstly v (good c) ≡ readBy c (judged v o)
+    go c accepted = refl
+    go c (verdicts.refused n q) = refl
 
 pub claim-reading : (c : ClaimRecords) → shortClaim c ≡ false → readFormed (claimFile c) ≡ readBy (claimOf c) (claimJudged (c .count) (take (c .count) (c .entries)) (c .members))
 unfolding readFormed
 claim-reading c long =
-    ap (λ (r : Reading Claim). andThen r formed) (claim-ends (c .count) (take (c .count) (c .entries)) (c .members) (long-enough c long))
-    ∙ then-table (claimOf c) (claimEnd (c .count) (take (c .count) (c .entries)) (c .members))
+    ap (λ (r : Reading SpelledClaim). andThen r formed) (claim-ends (c .count) (take (c .count) (c .entries)) (c .members) (long-enough c long))
+    ∙ then-table (take (c .count) (c .entries)) (c .members) (claimEnd (c .count) (take (c .count) (c .entries)) (c .members))
 
 -- a walk that a judge let pass
 pub judged-next : (e : End) (v : Verdict) {o : ℕ} → goOn e (judged v) ≡ next o → (e ≡ next o) × (v ≡ accepted)
@@ -128,12 +129,12 @@ judged-next (next u) (verdicts.refused n q) h = absurd (stop-not-next h)
 pub record ClaimPasses (n : ℕ) (t : Table) (ms : List ℕ) (o : ℕ) : Type 0 where
   pub entries : n ≤ 256
   pub members : length ms ≤ 24
-  pub encoded : claimBytes n t ms ≡ encodeClaim (record { entries = t; members = ms })
-  pub end : o ≡ length (encodeClaim (record { entries = t; members = ms }))
+  pub encoded : claimBytes n t ms ≡ encodeClaim (spelledClaim t ms)
+  pub end : o ≡ length (encodeClaim (spelledClaim t ms))
 
 pub claim-passes : (n : ℕ) (t : Table) (ms : List ℕ) {o : ℕ} → length t ≡ n → claimJudged n t ms ≡ next o → ClaimPasses n t ms o
 claim-passes n t ms {o} long h =
-    let (walked, _) = judged-next (claimEnd n t ms) (judgeTable t) h in
+    let (walked, _) = judged-next (claimEnd n t ms) (judgeTable plainly t) h in
     let p = claim-passed n t ms o walked in
     let same = claim-encoded n t ms o long walked in
     record { entries = p .entries .1; members = p .members .1; encoded = same; end = p .end ∙ ap length same }

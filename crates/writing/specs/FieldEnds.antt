@@ -44,6 +44,15 @@ pub held-stands : (has : Bool) (x : ℕ) → mayHold has x ≡ true → stands h
 held-stands true x h = refl
 held-stands false x h = ap not h
 
+-- a field whose bit stands wherever it holds something may hold what it holds
+pub stands-held : (has : Bool) (x : ℕ) → mayHold (stands has x) x ≡ true
+stands-held has x = go has (eqb x 0)
+  where
+    go : (p z : Bool) → (p || not z) || z ≡ true
+    go true z = refl
+    go false true = refl
+    go false false = refl
+
 -- what a test tells of itself
 abbrev pub itself : (b : Bool) → Tells b (b ≡ true)
 itself b = record { says = λ h. h; holds = λ h. h }

@@ -1,4 +1,5 @@
 pub mod RecordBytes
+pub mod Spelling
 pub mod Writing
 pub mod Ends
 pub mod FieldEnds

@@ -17,8 +17,8 @@ use Rattle.formula.specs.Records.{NodeRecord}
 use Rattle.formula.specs.Fields.{hasPrincipal, hasFirst, hasSecond, hasBack, lowMap, linkWidth, linkWidth-le}
 use Rattle.encoding.specs.Encode.{encodeTwo, encodePart, encodeField, encodeAll}
 use Rattle.encoding.specs.Parse.{Got, fault, got, pick, bind, guard, via, seq, part, two, count, in-range, fits-from, times}
-use Rattle.proofs.specs.ProofFile.{Links, encodeCodes, encodeNode, full}
-use Rattle.proofs.specs.ReadProof.{early, ruleOf, fields, isCode, sequent, made, node}
+use Rattle.proof_files.specs.ProofFile.{Links, encodeCodes, encodeNode, full}
+use Rattle.proof_files.specs.ReadProof.{early, ruleOf, fields, isCode, sequent, made, node}
 use Rattle.writing.specs.RecordBytes.{stands, nodeBytes}
 use Rattle.writing.specs.Ends.{End, next, stop, goOn, walk, gotBy, passed, went, next-same}
 use Rattle.writing.specs.FieldEnds.{field-meets, field-long, mayHold, held-stands, itself, stands-over, nothing-over, in-range-tells, risingEnd, rising-met, rising-past, numbers-long}

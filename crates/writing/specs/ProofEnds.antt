@@ -16,8 +16,8 @@ use Rattle.encoding.specs.File.{Reading, ending}
 use Rattle.encoding.specs.Parse.{Got, got, pick, bind, count, in-range, times}
 use Rattle.encoding.specs.Opening.{opens}
 use Rattle.encoding.specs.Walk.{file-opens}
-use Rattle.proofs.specs.ProofFile.{proofOpening}
-use Rattle.proofs.specs.ReadProof.{early, node, nodes, derivationOf, body, readProof}
+use Rattle.proof_files.specs.ProofFile.{proofOpening}
+use Rattle.proof_files.specs.ReadProof.{early, node, nodes, derivationOf, body, readProof}
 use Rattle.writing.specs.RecordBytes.{nodeBytes, nodesBytes, proofBytes}
 use Rattle.writing.specs.Ends.{End, next, stop, goOn, walk, gotBy, readBy, passed, went, next-same}
 use Rattle.writing.specs.FieldEnds.{countEnd, in-range-tells, count-meets}

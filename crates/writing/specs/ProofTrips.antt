@@ -20,9 +20,9 @@ use Rattle.formula.specs.Fields.{hasPrincipal, hasFirst, hasSecond, hasBack}
 use Rattle.encoding.specs.Encode.{Bytes, encodeAll}
 use Rattle.encoding.specs.File.{Reading, good}
 use Rattle.encoding.specs.FileLaws.{good-same, refused-not-good}
-use Rattle.proofs.specs.ProofFile.{encodeNode, FitNode, ProofFile}
-use Rattle.proofs.specs.ReadProof.{readProof}
-use Rattle.proofs.specs.ProofExact.{good-proof}
+use Rattle.proof_files.specs.ProofFile.{encodeNode, FitNode, ProofFile}
+use Rattle.proof_files.specs.ReadProof.{readProof}
+use Rattle.proof_files.specs.ProofExact.{good-proof}
 use Rattle.tree.specs.Owners.{tree-judged}
 use Rattle.reader.specs.Files.{Files, firstly, andThen, readFormed, besideClaim, files}
 use Rattle.writing.specs.RecordBytes.{nodeBytes, nodesBytes, proofBytes}

@@ -11,9 +11,10 @@ use Rattle.formula.specs.Records.{NodeRecord}
 use Rattle.formula.specs.Fields.{hasA, hasB, hasPrincipal, hasFirst, hasSecond, hasBack}
 use Rattle.encoding.specs.Encode.{encodeTwo, encodePart, encodeField, encodeAll}
 use Rattle.claim_files.specs.ClaimFile.{claimOpening}
-use Rattle.proofs.specs.ProofFile.{proofOpening}
+use Rattle.proof_files.specs.ProofFile.{proofOpening}
 
--- a field stands where the kind or rule has it, and where it holds a value other than 0: then the map is unfit
+-- a field stands where the kind or rule has it, and where it holds a value other than 0: then the map is unfit, unless that is the action of a
+-- box or diamond. So action 0 is never written out
 abbrev pub stands : Bool → ℕ → Bool
 stands has x = has || not (eqb x 0)
 

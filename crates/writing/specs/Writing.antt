@@ -48,7 +48,7 @@ ifLong short next = pick short (refused 1 0) next
 abbrev pub ifRoom : ℕ → List ℕ → Reading (List ℕ)
 ifRoom room file = pick (ltb room (length file)) (refused 70 0) (good file)
 
--- the refusal that the reader would give for the file, 20 to 23 after 12 to 14
+-- the refusal that the reader would give for the file, 20, 71 and 21 to 23 after 12 to 14
 unfoldable pub writingClaim : ClaimRecords → ℕ → Reading (List ℕ)
 unfolding readFormed
 writingClaim c room = ifLong (shortClaim c) (andThen (readFormed (claimFile c)) (λ _. ifRoom room (claimFile c)))

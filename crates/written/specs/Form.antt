@@ -14,4 +14,4 @@ pub data Form : Type 0 where
   deriving Discrete as Form-discrete
 
 abbrev pub same-form : (F G : Form) → Dec (F ≡ G)
-same-form = Form-discrete (Leaf-discrete ℕ-discrete) Two-discrete Step-discrete Fix-discrete ℕ-discrete
+same-form = Form-discrete (Leaf-discrete ℕ-discrete) Two-discrete (Step-discrete ℕ-discrete) Fix-discrete ℕ-discrete

@@ -2,7 +2,7 @@
 use mathlib.Core.Path.{_≡_}
 use Prim.Native.Nat.{ℕ}
 use Rattle.formula.specs.Kind
-use Rattle.formula.specs.Table.{Table, entry, kind}
+use Rattle.formula.specs.Table.{Table, entry, kind, action}
 use Rattle.formula.specs.Codes.{Formula}
 use Rattle.formula.specs.Shape.{Leaf, leaf, shape}
 use Rattle.formula.specs.ShapeLaws.{true-shape, letter-shape, negated-shape, box-shape, true-kind, letter-kind, negated-kind, box-kind}
@@ -29,8 +29,8 @@ module _ (t : Table) (wf : WellFormed t) where
   negated-like e f q F r = negated-kind t f (leaf-like e f (negated-shape t e q) F r)
 
   pub box-like : (e f : ℕ) → kind t e ≡ Kind.BOX → Formula t f → SameFormula t e f
-      → (kind t f ≡ Kind.BOX) × SameFormula t (targetA t e) (targetA t f)
+      → (kind t f ≡ Kind.BOX) × (action t f ≡ action t e) × SameFormula t (targetA t e) (targetA t f)
   box-like e f q F r =
       let (c, w, g) = like t wf e f r (box-shape t e q) tt (formula-shape t f F) in
-      let (k, a) = box-kind t f w in
-      (k, rw a g)
+      let (k, a, n) = box-kind t f w in
+      (k, n, rw a g)

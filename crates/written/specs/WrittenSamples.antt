@@ -38,9 +38,9 @@ twins =
     ∷ one Kind.BOX 2 ∷ one Kind.NU 6 ∷ one Kind.MU 6 ∷ []
 
 abbrev nuBox : Form
-nuBox = bind nu (modal box (bound 0))
+nuBox = bind nu (modal (box 0) (bound 0))
 
-twin-formulas : (written twins 2 ≡ nuBox) × (written twins 6 ≡ modal box nuBox) × (written twins 7 ≡ bind nu (modal box nuBox))
+twin-formulas : (written twins 2 ≡ nuBox) × (written twins 6 ≡ modal (box 0) nuBox) × (written twins 7 ≡ bind nu (modal (box 0) nuBox))
 unfolding written
 twin-formulas = (refl, refl, refl)
 
@@ -85,9 +85,9 @@ nested =
     ∷ one Kind.NAME 13 ∷ one Kind.NAME 12 ∷ one Kind.BOX 7 ∷ one Kind.BOX 8 ∷ two Kind.OR 10 9 ∷ one Kind.NU 11 ∷ one Kind.NU 12 ∷ []
 
 abbrev outerFirst : Form
-outerFirst = bind nu (bind nu (pair or (modal box (bound 1)) (modal box (bound 0))))
+outerFirst = bind nu (bind nu (pair or (modal (box 0) (bound 1)) (modal (box 0) (bound 0))))
 
-nested-formulas : (written nested 6 ≡ outerFirst) × (written nested 5 ≡ bind nu (pair or (modal box outerFirst) (modal box (bound 0))))
+nested-formulas : (written nested 6 ≡ outerFirst) × (written nested 5 ≡ bind nu (pair or (modal (box 0) outerFirst) (modal (box 0) (bound 0))))
 unfolding written
 nested-formulas = (refl, refl)
 

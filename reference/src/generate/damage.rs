@@ -5,7 +5,7 @@ use crate::draft::{File, Mark};
 
 pub fn damage(rng: &mut Rng, file: &File) -> Vec<u8> {
     let mut bytes = file.bytes.clone();
-    match rng.below(12) {
+    match rng.below(13) {
         0 => flip(rng, &mut bytes),
         1 => bytes.truncate(rng.below(file.bytes.len())),
         2 => bytes.truncate(file.bytes.len().saturating_sub(rng.between(1, 3))),
@@ -16,9 +16,26 @@ pub fn damage(rng: &mut Rng, file: &File) -> Vec<u8> {
         7 => damage_mark(rng, file, &mut bytes, Mark::Count),
         8 => damage_mark(rng, file, &mut bytes, Mark::Field),
         9 => drop_byte(rng, &mut bytes),
+        10 if file.has(Mark::Actions) => damage_mark(rng, file, &mut bytes, Mark::Actions),
         _ => damage_mark(rng, file, &mut bytes, Mark::Member),
     }
     bytes
+}
+
+/// Damage to the last two hundredths of a long file.
+pub fn damage_end(rng: &mut Rng, file: &File) -> Vec<u8> {
+    let start = file.bytes.len() - file.bytes.len() / 50;
+    let late = |mark: &&(Mark, usize, usize)| mark.1 >= start;
+    let end = File {
+        bytes: file.bytes[start..].to_vec(),
+        marks: file
+            .marks
+            .iter()
+            .filter(late)
+            .map(|&(mark, at, width)| (mark, at - start, width))
+            .collect(),
+    };
+    [&file.bytes[..start], &damage(rng, &end)].concat()
 }
 
 fn flip(rng: &mut Rng, bytes: &mut [u8]) {
@@ -40,7 +57,9 @@ fn damage_opening(rng: &mut Rng, bytes: &mut Vec<u8>) {
         0 => flip(rng, &mut bytes[..4]),
         1 => bytes.truncate(rng.below(4)),
         _ => {
-            let other = rng.pick(&[*b"CLM1", *b"PRF1", *b"MDL1", *b"CLM2", *b"PRF2"]);
+            let other = rng.pick(&[
+                *b"CLM1", *b"PRF1", *b"MDL1", *b"MDL2", *b"CLM2", *b"PRF2", *b"MDL3",
+            ]);
             bytes.splice(0..4, other.unwrap_or(*b"CLM0"));
         }
     }

@@ -1,10 +1,11 @@
 //! Claims and proofs at the limits of the form, and claims that take
 //! exponential time where operands or rounds are walked afresh.
 
+use super::actions;
 use super::near_miss::put_above;
 use super::rng::Rng;
 use crate::claim::{Entry, Kind};
-use crate::draft::{self, DraftNode, File};
+use crate::draft::{self, DraftNode, DraftState, File};
 use crate::proof::Rule;
 
 /// `A or A`, or `A and A`, over and over, on one letter.
@@ -92,8 +93,14 @@ pub fn side_by_side(count: u16) -> Vec<Entry> {
     entries
 }
 
-/// A claim on the topmost entry of a table hard to walk.
+/// A table hard to walk.
 pub fn hard_entries(rng: &mut Rng) -> Vec<Entry> {
+    let mut entries = hard_entries_by_one(rng);
+    actions::spread(rng, &mut entries);
+    entries
+}
+
+fn hard_entries_by_one(rng: &mut Rng) -> Vec<Entry> {
     let one_of = |rng: &mut Rng, kinds: [Kind; 2]| kinds[rng.below(2)];
     match rng.below(4) {
         0 => tower(
@@ -127,6 +134,16 @@ pub fn limits(rng: &mut Rng) -> (File, File) {
         2 => chain(rng.between(1023, 1025)),
         _ => letter(rng.between(30, 33) as u16),
     }
+}
+
+/// The longest model, of 67,013 bytes: 64 states, each with all letters, and all
+/// states its successors by each action.
+pub fn longest_model() -> File {
+    let state = DraftState {
+        letters: u32::MAX,
+        successors: std::array::from_fn(|_| (0..64).collect()),
+    };
+    draft::action_model(&vec![state; 64])
 }
 
 fn true_leaf(entry: u16) -> DraftNode {

@@ -2,6 +2,7 @@
 //! and records to be written, good, nearly good and damaged. The same seed gives
 //! the same inputs.
 
+mod actions;
 mod damage;
 mod formulas;
 mod models;
@@ -22,6 +23,7 @@ mod twins;
 
 pub mod extremes;
 
+pub use actions::stepped_by;
 pub use paths::{leaves_focus, loop_paths};
 pub use renamed::twins_used;
 pub use rng::Rng;
@@ -30,8 +32,7 @@ pub use tally::Tally;
 use crate::check::{check, evaluate};
 use crate::claim::Entry;
 use crate::corpus::{CheckRecord, EvalRecord, WriteRecord};
-use crate::draft;
-use crate::refusal::answer;
+use crate::refusal::answer_wide;
 
 /// An endless run of claims and proofs with the reference's answers.
 pub fn checks(seed: u64) -> impl Iterator<Item = CheckRecord> {
@@ -66,7 +67,7 @@ pub fn evals(seed: u64) -> impl Iterator<Item = EvalRecord> {
         EvalRecord {
             claim,
             model,
-            answer: answer(&outcome),
+            answer: answer_wide(&outcome),
             words: outcome.unwrap_or_default(),
         }
     })
@@ -92,9 +93,9 @@ pub fn accepted(seed: u64) -> impl Iterator<Item = (Vec<u8>, Vec<u8>)> {
     })
 }
 
-/// Well-formed models of at most 64 states.
+/// Well-formed models of at most 64 states, in both forms.
 pub fn models(seed: u64) -> impl Iterator<Item = Vec<u8>> {
-    inputs(seed, |rng| draft::model(&models::states(rng)).bytes)
+    inputs(seed, |rng| models::model(rng).bytes)
 }
 
 /// Well-formed small claims, with models of at most `states` states.

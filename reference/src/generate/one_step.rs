@@ -7,7 +7,7 @@ use super::rng::Rng;
 use super::step::{children, Flaw};
 use super::twins::twins;
 use crate::alike::least_alike;
-use crate::claim::{Entry, Kind};
+use crate::claim::{Entry, Kind, ACTIONS};
 use crate::draft::DraftNode;
 use crate::formula::free_names;
 use crate::proof::Rule;
@@ -35,17 +35,19 @@ pub fn one_step(rng: &mut Rng) -> Proved {
     }
 }
 
-/// Any small formula, and entries for every rule.
+/// Any small formula, and entries for every rule, the boxes and diamonds mostly of
+/// one action.
 fn plain_table(rng: &mut Rng) -> Vec<Entry> {
     let mut entries = small_entries(rng);
     let leaves = [(Kind::Letter, 0), (Kind::Negated, 0), (Kind::True, 0)];
     entries.extend(leaves.map(|(kind, letter)| Entry::new(kind, letter, 0)));
+    let action = rng.below(ACTIONS) as u16;
     for kind in [Kind::Box, Kind::Diamond, Kind::Diamond, Kind::Or, Kind::And] {
         let closed = closed(&entries);
         let [a, b] = [(); 2].map(|()| rng.pick(&closed).unwrap_or(0));
         entries.push(match kind {
             Kind::Or | Kind::And => Entry::new(kind, a, b),
-            _ => Entry::new(kind, a, 0),
+            _ => Entry::new(kind, a, action ^ u16::from(rng.chance(1, 4))),
         });
     }
     entries

@@ -1,7 +1,8 @@
 //! Whole inputs: claims with proofs and claims with models, good and bad.
 
-use super::damage::damage;
-use super::extremes::{hard_entries, limits};
+use super::actions;
+use super::damage::{damage, damage_end};
+use super::extremes::{hard_entries, limits, longest_model};
 use super::formulas::{Builder, Scope, Shape};
 use super::models;
 use super::near_miss::near_miss;
@@ -18,6 +19,7 @@ use crate::check::{check, judge};
 use crate::claim::{Entry, Kind};
 use crate::draft::{self, DraftNode, File};
 use crate::proof::Rule;
+use crate::sequent::entry_of;
 
 /// A claim with a proof not yet laid down.
 pub struct Proved {
@@ -63,7 +65,10 @@ fn accepted_with_loop(rng: &mut Rng) -> Proved {
 /// through without making it; a few are tried.
 fn flawed(rng: &mut Rng) -> Proved {
     for _ in 0..6 {
-        let flaw = rng.pick(&FLAWS).unwrap_or(Flaw::GivesUp);
+        let flaw = match rng.below(4) {
+            0 => Flaw::BoxOfAnyAction,
+            _ => rng.pick(&FLAWS).unwrap_or(Flaw::GivesUp),
+        };
         let claim = match rng.below(3) {
             0 => any_claim(rng, false),
             _ => provable(rng),
@@ -108,7 +113,8 @@ fn any_claim(rng: &mut Rng, wild: bool) -> Provable {
     for _ in 0..roots {
         builder.formula(Scope::closed(), shape.depth);
     }
-    let entries = builder.entries;
+    let mut entries = builder.entries;
+    actions::spread(rng, &mut entries);
     let members = any_members(rng, &entries);
     Provable {
         dual: vec![None; entries.len()],
@@ -134,12 +140,13 @@ fn any_members(rng: &mut Rng, entries: &[Entry]) -> Vec<u16> {
 
 /// A claim and a proof with whatever flaw; the claim may break 20 to 23.
 pub fn any_proved(rng: &mut Rng) -> Proved {
-    match rng.below(8) {
+    match rng.below(9) {
         0..=2 => accepted(rng),
         3 => flawed(rng),
         4 => changed(rng),
         5 => other_members(rng),
-        6 => hard_pair(rng),
+        6 => other_action(rng),
+        7 => hard_pair(rng),
         _ => {
             let claim = any_claim(rng, true);
             Proved {
@@ -160,7 +167,7 @@ pub fn check_pair(rng: &mut Rng) -> (Vec<u8>, Vec<u8>) {
 }
 
 fn any_pair(rng: &mut Rng) -> (Vec<u8>, Vec<u8>) {
-    match rng.below(40) {
+    match rng.below(46) {
         0..=9 => accepted(rng).files(),
         10..=15 => flawed(rng).files(),
         16..=27 => changed(rng).files(),
@@ -173,9 +180,11 @@ fn any_pair(rng: &mut Rng) -> (Vec<u8>, Vec<u8>) {
             let proved = accepted(rng);
             (damage(rng, &proved.claim()), proved.proof().bytes)
         }
-        34..=36 => (wild_claim(rng).bytes, accepted(rng).proof().bytes),
-        37 => (accepted(rng).claim().bytes, accepted(rng).proof().bytes),
-        38 => other_members(rng).files(),
+        34..=36 => (wild_claim(rng).file().bytes, accepted(rng).proof().bytes),
+        37..=39 => (unfit_claim(rng).bytes, accepted(rng).proof().bytes),
+        40..=42 => other_action(rng).files(),
+        43 => (accepted(rng).claim().bytes, accepted(rng).proof().bytes),
+        44 => other_members(rng).files(),
         _ => rare_pair(rng),
     }
 }
@@ -254,8 +263,33 @@ fn other_members(rng: &mut Rng) -> Proved {
     proved
 }
 
-/// A claim that may break scope, alternation, guardedness or bounds.
-fn wild_claim(rng: &mut Rng) -> File {
+/// A good proof of a claim in which one box or diamond has another action, mostly
+/// one of a box step.
+fn other_action(rng: &mut Rng) -> Proved {
+    let mut proved = accepted(rng);
+    let steps = proved.nodes.iter().filter(|node| node.rule == Rule::Box);
+    let stepping: Vec<usize> = steps
+        .flat_map(|node| node.codes.iter().map(|&code| entry_of(code)))
+        .collect();
+    let at = match rng.chance(2, 3) {
+        true => rng.pick(&stepping),
+        false => None,
+    };
+    actions::change_one(rng, &mut proved.entries, at);
+    proved
+}
+
+/// A claim with actions that are none; it may break the other conditions too.
+fn unfit_claim(rng: &mut Rng) -> File {
+    let claim = match rng.below(3) {
+        0 => any_claim(rng, true),
+        _ => provable(rng),
+    };
+    actions::unfit_claim(rng, &claim.entries, &claim.members)
+}
+
+/// A claim that may break scope, alternation, guardedness, bounds or actions.
+fn wild_claim(rng: &mut Rng) -> Provable {
     let mut claim = any_claim(rng, true);
     if rng.chance(1, 3) {
         let at = rng.below(claim.entries.len());
@@ -271,7 +305,7 @@ fn wild_claim(rng: &mut Rng) -> File {
             entry.b = rng.below(count) as u16;
         }
     }
-    draft::claim(&claim.entries, &claim.members)
+    claim
 }
 
 fn noise(rng: &mut Rng, opening: &[u8; 4]) -> Vec<u8> {
@@ -289,34 +323,41 @@ pub fn eval_pair(rng: &mut Rng) -> (Vec<u8>, Vec<u8>) {
     let claim = match rng.below(20) {
         0 => hard_claim(rng),
         1..=3 => wild_claim(rng),
-        4..=8 => {
-            let claim = provable(rng);
-            draft::claim(&claim.entries, &claim.members)
-        }
-        _ => {
-            let claim = any_claim(rng, false);
-            draft::claim(&claim.entries, &claim.members)
-        }
+        4..=8 => provable(rng),
+        _ => any_claim(rng, false),
     };
-    let model = draft::model(&models::states(rng));
-    match rng.below(10) {
-        0..=5 => (claim.bytes, model.bytes),
-        6 => (damage(rng, &claim), model.bytes),
-        _ => (claim.bytes, damaged_model(rng, &model)),
+    let model = models::model_for(rng, &claim.entries);
+    match rng.below(11) {
+        0..=5 => (claim.file().bytes, model.bytes),
+        6 => (damage(rng, &claim.file()), model.bytes),
+        7 => {
+            let unfit = actions::unfit_claim(rng, &claim.entries, &claim.members);
+            (unfit.bytes, model.bytes)
+        }
+        _ => (claim.file().bytes, damaged_model(rng, &model)),
     }
 }
 
-fn hard_claim(rng: &mut Rng) -> File {
+/// A claim on the topmost of entries hard to walk.
+fn hard_claim(rng: &mut Rng) -> Provable {
     let entries = hard_entries(rng);
-    let last = (entries.len() - 1) as u16;
-    draft::claim(&entries, &[last])
+    Provable {
+        members: vec![(entries.len() - 1) as u16],
+        dual: vec![None; entries.len()],
+        valid: Bits::default(),
+        entries,
+    }
 }
 
-/// Byte damage, or one state too many, or none.
+/// Byte damage, or one state too many, or none. Seldom the longest model, for it
+/// takes long to write.
 fn damaged_model(rng: &mut Rng, model: &File) -> Vec<u8> {
-    match rng.below(12) {
-        0 => draft::model(&models::states_of(rng, 65)).bytes,
-        1 => draft::model(&[]).bytes,
+    let laid_down = rng.pick(&[draft::model, draft::action_model]);
+    let laid_down = laid_down.unwrap_or(draft::model);
+    match rng.below(48) {
+        0..=3 => laid_down(&models::states(rng, 65, &[0, 3])).bytes,
+        4..=7 => laid_down(&[]).bytes,
+        8 => damage_end(rng, &longest_model()),
         _ => damage(rng, model),
     }
 }
@@ -331,7 +372,9 @@ pub fn small_entries(rng: &mut Rng) -> Vec<Entry> {
     };
     let mut builder = Builder::new(rng, shape);
     builder.formula(Scope::closed(), shape.depth);
-    builder.entries
+    let mut entries = builder.entries;
+    actions::spread(rng, &mut entries);
+    entries
 }
 
 /// A well-formed claim and model, the claim small enough for slow methods.
@@ -339,6 +382,6 @@ pub fn small_eval_pair(rng: &mut Rng, states: usize) -> (Vec<u8>, Vec<u8>) {
     let entries = small_entries(rng);
     let root = (entries.len() - 1) as u16;
     let count = rng.between(1, states);
-    let model = draft::model(&models::states_of(rng, count));
+    let model = models::model_of(rng, count, &entries);
     (draft::claim(&entries, &[root]).bytes, model.bytes)
 }

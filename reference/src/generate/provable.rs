@@ -1,9 +1,11 @@
 //! Claims that hold, with what the search should know of why they do.
 
+use super::actions;
 use super::formulas::{Builder, Scope, Shape};
 use super::rng::Rng;
 use crate::bits::Bits;
-use crate::claim::{Entry, Kind};
+use crate::claim::{Entry, Kind, ACTIONS};
+use crate::draft::{self, File};
 
 /// A claim with hints for the search.
 #[derive(Clone)]
@@ -16,6 +18,12 @@ pub struct Provable {
     pub dual: Vec<Option<u16>>,
 }
 
+impl Provable {
+    pub fn file(&self) -> File {
+        draft::claim(&self.entries, &self.members)
+    }
+}
+
 /// Some claim that holds, in one of several manners, at times with members that
 /// add nothing.
 pub fn provable(rng: &mut Rng) -> Provable {
@@ -25,10 +33,11 @@ pub fn provable(rng: &mut Rng) -> Provable {
         letters: if rng.chance(1, 8) { 32 } else { 3 },
         wild: false,
     };
-    let mut claim = match rng.below(5) {
+    let mut claim = match rng.below(6) {
         0 => excluded_middle(rng, shape),
         1 => with_choice(excluded_middle(rng, shape)),
         2 => greatest(rng, shape),
+        3 => by_several_actions(rng, shape),
         _ => valid(rng, shape),
     };
     for _ in 0..rng.below(4) {
@@ -48,12 +57,14 @@ fn valid(rng: &mut Rng, shape: Shape) -> Provable {
     let mut builder = Builder::new(rng, shape);
     let root = builder.valid(Scope::closed(), shape.depth);
     let valid = builder.valid_entries();
-    let dual = vec![None; builder.entries.len()];
+    // What is true everywhere is so whatever the actions are.
+    let mut entries = builder.entries;
+    actions::spread(rng, &mut entries);
     Provable {
-        entries: builder.entries,
+        dual: vec![None; entries.len()],
+        entries,
         members: vec![root],
         valid,
-        dual,
     }
 }
 
@@ -87,6 +98,7 @@ fn greatest(rng: &mut Rng, shape: Shape) -> Provable {
         }
         entries.push(Entry::new(Kind::Nu, entries.len() as u16 - 1, 0));
     }
+    actions::spread(rng, &mut entries);
     Provable {
         members: vec![(entries.len() - 1) as u16],
         dual: vec![None; entries.len()],
@@ -116,7 +128,7 @@ fn beside_a_letter(rng: &mut Rng, shape: Shape, last: u16) -> [Entry; 2] {
     ]
 }
 
-/// Any closed formula and its negation, interleaved at random.
+/// Any closed formula and its negation.
 fn excluded_middle(rng: &mut Rng, shape: Shape) -> Provable {
     let half = Shape {
         size: shape.size / 2,
@@ -124,21 +136,54 @@ fn excluded_middle(rng: &mut Rng, shape: Shape) -> Provable {
         ..shape
     };
     let mut builder = Builder::new(rng, half);
-    let root = usize::from(builder.formula(Scope::closed(), half.depth));
-    let plain = builder.entries;
+    let root = builder.formula(Scope::closed(), half.depth);
+    let mut plain = builder.entries;
+    actions::spread(rng, &mut plain);
+    with_negation(rng, &plain, root)
+}
+
+/// A letter under several steps, beside each a step by another action as a rule,
+/// and its negation. On the way up a box and the diamond of its action meet
+/// diamonds of others.
+fn by_several_actions(rng: &mut Rng, shape: Shape) -> Provable {
+    let letter = |rng: &mut Rng| rng.below(shape.letters.into()) as u16;
+    let mut plain = vec![Entry::new(Kind::Letter, letter(rng), 0)];
+    let step = |rng: &mut Rng, below: u16| {
+        let kind = rng.pick(&[Kind::Diamond, Kind::Box]);
+        let action = rng.below(ACTIONS) as u16;
+        Entry::new(kind.unwrap_or(Kind::Box), below, action)
+    };
+    for _ in 0..rng.between(1, 5) {
+        let last = plain.len() as u16 - 1;
+        let beside = rng.below(plain.len()) as u16;
+        plain.extend([step(rng, last), step(rng, beside)]);
+        let join = rng.pick(&[Kind::Or, Kind::And]).unwrap_or(Kind::Or);
+        plain.push(Entry::new(join, last + 1, last + 2));
+    }
+    with_negation(rng, &plain, plain.len() as u16 - 1)
+}
+
+/// A table and its negation, interleaved at random.
+fn with_negation(rng: &mut Rng, plain: &[Entry], root: u16) -> Provable {
     let (ours, theirs) = interleave(rng, plain.len());
     let mut entries = vec![Entry::new(Kind::False, 0, 0); 2 * plain.len()];
     let mut dual = vec![None; entries.len()];
     for (number, entry) in plain.iter().enumerate() {
         let (one, other) = (ours[number], theirs[number]);
-        entries[usize::from(one)] = moved(entry, entry.kind, &ours);
-        entries[usize::from(other)] = moved(entry, dual_kind(entry.kind), &theirs);
+        let to =
+            |numbers: &[u16], operand: u16| numbers.get(usize::from(operand)).copied().unwrap_or(0);
+        let mut negation = entry.over(|operand| to(&theirs, operand));
+        negation.kind = dual_kind(entry.kind);
+        entries[usize::from(one)] = entry.over(|operand| to(&ours, operand));
+        entries[usize::from(other)] = negation;
         dual[usize::from(one)] = Some(other);
         dual[usize::from(other)] = Some(one);
     }
     Provable {
         entries,
-        members: vec![ours[root], theirs[root]],
+        members: [ours, theirs]
+            .map(|numbers| numbers[usize::from(root)])
+            .to_vec(),
         valid: Bits::default(),
         dual,
     }
@@ -163,15 +208,6 @@ fn interleave(rng: &mut Rng, count: usize) -> (Vec<u16>, Vec<u16>) {
         list.push(number);
     }
     (one, other)
-}
-
-fn moved(entry: &Entry, kind: Kind, numbers: &[u16]) -> Entry {
-    let moved = |operand: u16| numbers.get(usize::from(operand)).copied().unwrap_or(0);
-    match entry.kind {
-        Kind::False | Kind::True | Kind::Letter | Kind::Negated => Entry { kind, ..*entry },
-        Kind::Or | Kind::And => Entry::new(kind, moved(entry.a), moved(entry.b)),
-        _ => Entry::new(kind, moved(entry.a), 0),
-    }
 }
 
 fn dual_kind(kind: Kind) -> Kind {

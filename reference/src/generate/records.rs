@@ -1,9 +1,10 @@
 //! Records to be written: those of generated claims and proofs, as they are or
 //! with something changed, in slices of any length that may be lent.
 
+use super::actions;
 use super::pairs::{self, Proved};
 use super::rng::Rng;
-use crate::claim::{Entry, Kind};
+use crate::claim::{Entry, Kind, ACTIONS};
 use crate::draft::DraftNode;
 use crate::proof::Rule;
 use crate::write::{EntryRecord, NodeRecord, Records};
@@ -43,7 +44,7 @@ fn field(map: u8, bit: u8, field: u16) -> u16 {
 }
 
 fn entry_record(entry: &Entry) -> EntryRecord {
-    let map = entry.kind.map();
+    let map = entry.map();
     EntryRecord {
         kind: entry.kind as u8,
         a: field(map, 0, entry.a),
@@ -71,6 +72,7 @@ fn large(rng: &mut Rng) -> Proved {
         let kind = rng.pick(&[Kind::Or, Kind::And, Kind::Box]);
         entries.push(Entry::new(kind.unwrap_or(Kind::Or), below, 0));
     }
+    actions::spread(rng, &mut entries);
     let members = rising(rng, 256);
     let count = rng.between(1000, 1025) as u16;
     let rules = [Rule::W, Rule::D, Rule::F, Rule::Or];
@@ -157,10 +159,30 @@ fn change_entry(rng: &mut Rng, records: &mut Records) {
     let Some(entry) = records.entries.get_mut(at) else {
         return;
     };
-    match rng.below(3) {
+    match rng.below(5) {
         0 => entry.kind = other_byte(rng, entry.kind),
         1 => entry.a = other_number(rng, entry.a),
-        _ => entry.b = other_number(rng, entry.b),
+        2 => entry.b = other_number(rng, entry.b),
+        _ => change_action(rng, &mut records.entries),
+    }
+}
+
+/// Another action, or one above 15, of a box or diamond; at times its operand is
+/// out of bounds too.
+fn change_action(rng: &mut Rng, entries: &mut [EntryRecord]) {
+    let modal = [Kind::Diamond, Kind::Box].map(|kind| kind as u8);
+    let places: Vec<usize> = (0..entries.len())
+        .filter(|&at| modal.contains(&entries[at].kind))
+        .collect();
+    let Some(at) = rng.pick(&places) else {
+        return;
+    };
+    entries[at].b = match rng.chance(1, 2) {
+        true => actions::above(rng),
+        false => rng.below(ACTIONS) as u16,
+    };
+    if rng.chance(1, 4) {
+        entries[at].a = at as u16;
     }
 }
 

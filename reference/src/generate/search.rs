@@ -343,7 +343,7 @@ impl Search<'_> {
         self.give_up(sequent)
     }
 
-    /// Weakens to the box and the diamonds, then makes the box step.
+    /// Weakens to the box and the diamonds of its action, then makes the box step.
     fn toward_box(&mut self, sequent: Vec<u16>, principal: u16) -> Option<usize> {
         let mut kept: Vec<u16> = sequent.clone();
         kept.retain(|&code| self.goes_with_box(code, principal));
@@ -358,12 +358,12 @@ impl Search<'_> {
 
     fn goes_with_box(&self, code: u16, principal: u16) -> bool {
         let kind = self.entry(code).kind;
-        let (member, principal) = (self.member(code), self.member(principal));
-        member == principal
-            || kind == Kind::Diamond
+        let (member, boxed) = (self.member(code), self.member(principal));
+        member == boxed
+            || step::follows(&self.claim.entries, self.flaw, code, principal)
             || match self.flaw {
                 Flaw::BoxKeepsBoxes => kind == Kind::Box,
-                Flaw::BoxKeepsCopy => member ^ 1 == principal,
+                Flaw::BoxKeepsCopy => member ^ 1 == boxed,
                 Flaw::BoxDropsOthers => true,
                 _ => false,
             }

@@ -26,6 +26,8 @@ pub enum Flaw {
     BoxKeepsCopy,
     /// A box step made without weakening the others away.
     BoxDropsOthers,
+    /// A box step that keeps diamonds of other actions.
+    BoxOfAnyAction,
     /// An axiom with members beside it.
     AxiomWithMore,
     /// Back leaves linked to a D with the same formulas, not all in the same
@@ -35,7 +37,7 @@ pub enum Flaw {
     GivesUp,
 }
 
-pub const FLAWS: [Flaw; 12] = [
+pub const FLAWS: [Flaw; 13] = [
     Flaw::LoopWithoutFocus,
     Flaw::LoopWithoutBox,
     Flaw::LoopThroughF,
@@ -45,6 +47,7 @@ pub const FLAWS: [Flaw; 12] = [
     Flaw::BoxKeepsBoxes,
     Flaw::BoxKeepsCopy,
     Flaw::BoxDropsOthers,
+    Flaw::BoxOfAnyAction,
     Flaw::AxiomWithMore,
     Flaw::LoopInOtherFocus,
     Flaw::GivesUp,
@@ -91,13 +94,21 @@ fn box_child((entries, least): Table, flaw: Flaw, sequent: &[u16], principal: u1
         let entry = entries[entry_of(code)];
         let same = |other: u16| member(least, other) == member(least, principal);
         let copy = flaw == Flaw::BoxKeepsCopy && same(code ^ 1);
-        if same(code) || copy || entry.kind == Kind::Diamond {
+        if same(code) || copy || follows(entries, flaw, code, principal) {
             insert(&mut child, target(entries, entry.a) * 2 + (code & 1));
         } else if flaw == Flaw::BoxKeepsBoxes {
             insert(&mut child, code);
         }
     }
     child
+}
+
+/// Whether a box step takes a code along as one of the others: a diamond of the
+/// principal's action.
+pub fn follows(entries: &[Entry], flaw: Flaw, code: u16, principal: u16) -> bool {
+    let entry = entries[entry_of(code)];
+    let action = entries[entry_of(principal)].b;
+    entry.kind == Kind::Diamond && (entry.b == action || flaw == Flaw::BoxOfAnyAction)
 }
 
 pub fn target(entries: &[Entry], operand: u16) -> u16 {

@@ -8,10 +8,10 @@ use std::fmt;
 pub struct Tally(BTreeMap<u32, usize>);
 
 impl Tally {
-    pub fn of(answers: impl Iterator<Item = u32>) -> Tally {
+    pub fn of(numbers: impl Iterator<Item = u32>) -> Tally {
         let mut tally = Tally::default();
-        for answer in answers {
-            *tally.0.entry(answer >> 16).or_default() += 1;
+        for number in numbers {
+            *tally.0.entry(number).or_default() += 1;
         }
         tally
     }

@@ -101,15 +101,11 @@ impl<'a> Draft<'a> {
         let mixed = rng.chance(2, 3);
         for (number, entry) in self.plain.iter().enumerate() {
             for copy in 0..self.copies[number].len() {
-                let mut drawn = |operand| self.operand(rng, doubled, copy, operand, mixed);
-                let (a, b) = match entry.kind {
-                    Kind::False | Kind::True | Kind::Letter | Kind::Negated => (entry.a, entry.b),
-                    Kind::Name => (self.copy(copy, entry.a), 0),
-                    Kind::Or | Kind::And => (drawn(entry.a), drawn(entry.b)),
-                    _ => (drawn(entry.a), 0),
-                };
-                let number = usize::from(self.copies[number][copy]);
-                self.entries[number] = Entry::new(entry.kind, a, b);
+                let drawn = entry.over(|operand| match entry.kind {
+                    Kind::Name => self.copy(copy, operand),
+                    _ => self.operand(rng, doubled, copy, operand, mixed),
+                });
+                self.entries[usize::from(self.copies[number][copy])] = drawn;
             }
         }
     }
@@ -189,8 +185,8 @@ impl<'a> Draft<'a> {
     }
 
     /// One entry that is not as it should be in a copy: an operand from the copy
-    /// with the other names, two operands exchanged, another letter, or the name
-    /// of another fixpoint. What would make the table ill-formed is left.
+    /// with the other names, two operands exchanged, another letter or action, or
+    /// the name of another fixpoint. What would make the table ill-formed is left.
     fn mistake(&mut self, rng: &mut Rng) {
         let at = rng.below(self.entries.len());
         let before = self.entries[at];
@@ -200,6 +196,7 @@ impl<'a> Draft<'a> {
             Kind::Name => Entry::new(kind, self.other_fixpoint(rng, a), b),
             Kind::Letter | Kind::Negated => Entry::new(kind, a ^ 1, b),
             Kind::Or | Kind::And if rng.chance(1, 2) => Entry::new(kind, b, a),
+            Kind::Diamond | Kind::Box if rng.chance(1, 2) => Entry::new(kind, a, b ^ 1),
             _ => Entry::new(kind, self.other_copy(rng, a), b),
         };
         let well_formed = self
@@ -280,11 +277,7 @@ impl<'a> Draft<'a> {
         let moved = |operand: u16| number[usize::from(operand)];
         let all_moved = |copies: &Vec<u16>| copies.iter().map(|&copy| moved(copy)).collect();
         let entries = order.iter().map(|&at| self.entries[usize::from(at)]);
-        let entries = entries.map(|Entry { kind, a, b }| match kind {
-            Kind::False | Kind::True | Kind::Letter | Kind::Negated => Entry::new(kind, a, b),
-            Kind::Or | Kind::And => Entry::new(kind, moved(a), moved(b)),
-            _ => Entry::new(kind, moved(a), 0),
-        });
+        let entries = entries.map(|entry| entry.over(moved));
         Twins {
             entries: entries.collect(),
             copies: self.copies.iter().map(all_moved).collect(),

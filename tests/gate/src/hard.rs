@@ -17,14 +17,32 @@ pub fn model(
     letters: impl Fn(usize) -> u32,
     leads: impl Fn(usize, usize) -> bool,
 ) -> Vec<u8> {
-    let state = |state: usize| DraftState {
-        letters: letters(state),
-        successors: (0..states)
-            .filter(|&next| leads(state, next))
-            .map(|next| next as u8)
-            .collect(),
+    let state = |state| {
+        DraftState::new(
+            letters(state),
+            successors(states, |next| leads(state, next)),
+        )
     };
     draft::model(&(0..states).map(state).collect::<Vec<_>>()).bytes
+}
+
+/// The same by action.
+pub fn action_model(
+    states: usize,
+    letters: impl Fn(usize) -> u32,
+    leads: impl Fn(usize, usize, usize) -> bool,
+) -> Vec<u8> {
+    let list = |action, state| successors(states, |next| leads(action, state, next));
+    let state = |state: usize| DraftState {
+        letters: letters(state),
+        successors: std::array::from_fn(|action| list(action, state)),
+    };
+    draft::action_model(&(0..states).map(state).collect::<Vec<_>>()).bytes
+}
+
+fn successors(states: usize, leads: impl Fn(usize) -> bool) -> Vec<u8> {
+    let found = (0..states).filter(|&next| leads(next));
+    found.map(|next| next as u8).collect()
 }
 
 /// A table whose names are laid down before their fixpoints.

@@ -11,9 +11,10 @@ pub const NODES: usize = 1024;
 pub const CODES: usize = 24_576;
 pub const WORDS: usize = 256;
 
-/// No claim and no proof is longer.
+/// No claim, no proof and no model is longer.
 pub const CLAIM_BYTES: usize = 1592;
 pub const PROOF_BYTES: usize = 58_374;
+pub const MODEL_BYTES: usize = 67_013;
 
 /// How many values of the same block lie before and behind a lent slice. The
 /// number is odd, so that records begin at places of the least alignment.

@@ -133,7 +133,7 @@ mod calls {
             entries_len: usize,
             words: *mut u64,
             words_len: usize,
-        ) -> u32;
+        ) -> u64;
 
         pub fn focus_write_claim(
             entries: *const Entry,
@@ -221,7 +221,8 @@ pub fn present_in(
     }
 }
 
-pub fn evaluate(claim: &[u8], model: &[u8], lent: &mut LentWords) -> u32 {
+/// 0, or refusal × 2^32 + place.
+pub fn evaluate(claim: &[u8], model: &[u8], lent: &mut LentWords) -> u64 {
     let entries = lent.entries.lend();
     let words = lent.words.lend();
     // SAFETY: as for presenting.

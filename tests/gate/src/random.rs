@@ -1,11 +1,12 @@
 //! Random claims and models for evaluation: well formed by construction, or
 //! damaged on purpose. The reference has a generator that grows formulas from
 //! above; this one lays tables down from below, so that operands are shared at
-//! random, names stay free over many fixpoints, and blocks tangle.
+//! random, names stay free over many fixpoints, and blocks tangle. Claim and model
+//! go by the same actions as a rule.
 
-use reference::draft::{self, DraftState};
+use reference::draft::{self, DraftState, File, Mark};
 use reference::generate::Rng;
-use reference::{Entry, Kind};
+use reference::{Entry, Kind, ACTIONS};
 use std::collections::BTreeSet;
 
 pub struct Pair {
@@ -22,23 +23,44 @@ pub fn pairs(seed: u64) -> impl Iterator<Item = Pair> {
 }
 
 fn pair(rng: &mut Rng) -> Pair {
-    let entries = entries(rng);
+    let actions = actions(rng);
+    let entries = entries(rng, &actions);
     let members = members(rng, &entries);
-    let states = states(rng);
+    let states = states(rng, &actions);
     let claim = draft::claim(&entries, &members).bytes;
-    let model = draft::model(&states).bytes;
+    let form = form(rng);
+    let model = form(&states);
     let damaged = rng.chance(1, 4);
     let (claim, model) = match (damaged, rng.below(4)) {
-        (false, _) => (claim, model),
-        (true, 0) => (damage(rng, claim), model),
-        (true, 1) => (ill_formed(rng, entries, &members), model),
-        (true, 2) => (claim, damage(rng, model)),
-        (true, _) => (claim, unfit(rng, states)),
+        (false, _) => (claim, model.bytes),
+        (true, 0) => (damage(rng, claim), model.bytes),
+        (true, 1) => (ill_formed(rng, entries, &members), model.bytes),
+        (true, 2) => (claim, damage(rng, model.bytes)),
+        (true, _) => (claim, unfit(rng, states, form)),
     };
     Pair {
         claim,
         model,
         damaged,
+    }
+}
+
+/// 0 alone, a few or all.
+fn actions(rng: &mut Rng) -> Vec<u16> {
+    match rng.below(8) {
+        0..=1 => vec![0],
+        2 => (0..ACTIONS as u16).collect(),
+        _ => (0..rng.between(1, 4))
+            .map(|_| rng.below(ACTIONS) as u16)
+            .collect(),
+    }
+}
+
+/// The form with actions, or seldom the one with action 0 alone.
+fn form(rng: &mut Rng) -> fn(&[DraftState]) -> File {
+    match rng.below(6) {
+        0 => draft::model,
+        _ => draft::action_model,
     }
 }
 
@@ -52,14 +74,15 @@ struct Names {
 
 /// A table in the making. Where fixpoints will stand, and of which kind, is
 /// settled first: names below them need their numbers.
-struct Table {
+struct Table<'a> {
+    actions: &'a [u16],
     fixpoints: Vec<Option<Kind>>,
     entries: Vec<Entry>,
     names: Vec<Names>,
 }
 
-/// A well-formed table.
-pub fn entries(rng: &mut Rng) -> Vec<Entry> {
+/// A well-formed table that goes by these actions.
+fn entries(rng: &mut Rng, actions: &[u16]) -> Vec<Entry> {
     let size = match rng.below(16) {
         0 => 256,
         1 => rng.between(100, 255),
@@ -67,6 +90,7 @@ pub fn entries(rng: &mut Rng) -> Vec<Entry> {
         _ => rng.between(1, 30),
     };
     let mut table = Table {
+        actions,
         fixpoints: fixpoints(rng, size),
         entries: Vec::with_capacity(size),
         names: Vec::with_capacity(size),
@@ -101,7 +125,7 @@ fn other(kind: Kind) -> Kind {
     }
 }
 
-impl Table {
+impl Table<'_> {
     fn lay(&mut self, rng: &mut Rng) {
         let number = self.entries.len();
         let entry = match (self.fixpoints[number], rng.below(10)) {
@@ -112,8 +136,8 @@ impl Table {
             (None, 1..=3) => self.name(rng),
             (None, 4..=5) => self.joined(rng, Kind::Or),
             (None, 6) => self.joined(rng, Kind::And),
-            (None, 7..=8) => Entry::new(Kind::Diamond, self.operand(rng), 0),
-            (None, _) => Entry::new(Kind::Box, self.operand(rng), 0),
+            (None, 7..=8) => self.modal(rng, Kind::Diamond),
+            (None, _) => self.modal(rng, Kind::Box),
         };
         self.push(entry);
     }
@@ -133,6 +157,11 @@ impl Table {
 
     fn joined(&self, rng: &mut Rng, kind: Kind) -> Entry {
         Entry::new(kind, self.operand(rng), self.operand(rng))
+    }
+
+    fn modal(&self, rng: &mut Rng, kind: Kind) -> Entry {
+        let action = rng.pick(self.actions).unwrap_or(0);
+        Entry::new(kind, self.operand(rng), action)
     }
 
     /// An entry whose free names all lie above the one being laid down, of several
@@ -237,7 +266,8 @@ fn members(rng: &mut Rng, entries: &[Entry]) -> Vec<u16> {
     members
 }
 
-fn states(rng: &mut Rng) -> Vec<DraftState> {
+/// States with a graph of its own for each action, now and then for one more.
+fn states(rng: &mut Rng, actions: &[u16]) -> Vec<DraftState> {
     let count = match rng.below(8) {
         0 => 1,
         1 => 64,
@@ -245,7 +275,13 @@ fn states(rng: &mut Rng) -> Vec<DraftState> {
         3 => rng.between(10, 62),
         _ => rng.between(2, 12),
     };
-    let shape = rng.below(9);
+    let mut shapes = [None; ACTIONS];
+    for &action in actions {
+        shapes[usize::from(action)] = Some(rng.below(9));
+    }
+    if rng.chance(1, 3) {
+        shapes[rng.below(ACTIONS)] = Some(rng.below(9));
+    }
     let letters = if rng.chance(1, 4) { u32::MAX } else { 15 };
     let rare = rng.chance(1, 3);
     (0..count)
@@ -254,10 +290,13 @@ fn states(rng: &mut Rng) -> Vec<DraftState> {
                 true => 1 << rng.below(8) & letters,
                 false => rng.word() as u32 & letters,
             },
-            successors: (0..count)
-                .filter(|&next| leads(rng, shape, state, next, count))
-                .map(|next| next as u8)
-                .collect(),
+            successors: shapes.map(|shape| match shape {
+                Some(shape) => (0..count)
+                    .filter(|&next| leads(rng, shape, state, next, count))
+                    .map(|next| next as u8)
+                    .collect(),
+                None => Vec::new(),
+            }),
         })
         .collect()
 }
@@ -294,17 +333,24 @@ fn damage(rng: &mut Rng, mut bytes: Vec<u8>) -> Vec<u8> {
     bytes
 }
 
-/// A table with one entry changed: 14, 20 to 23, or still well formed.
+/// A table with one entry changed: 14, 20 to 23, 71, or still well formed; or with
+/// zeros written out.
 fn ill_formed(rng: &mut Rng, mut entries: Vec<Entry>, members: &[u16]) -> Vec<u8> {
     let count = entries.len();
     let any = rng.below(count + 1) as u16;
-    let entry = &mut entries[rng.below(count)];
-    match rng.below(5) {
+    let at = rng.below(count);
+    if rng.chance(1, 6) {
+        let written_out = |number: usize| entries[number].b == 0 && number >= at;
+        return draft::claim_written_out(&entries, members, written_out).bytes;
+    }
+    let entry = &mut entries[at];
+    match rng.below(6) {
         0 => entry.a = any,
         1 => entry.b = any,
         2 => entry.a = rng.word() as u16,
         // A name of this or another fixpoint, or of none.
         3 => *entry = Entry::new(Kind::Name, any, 0),
+        4 => *entry = Entry::new(Kind::Box, any, rng.between(14, 18) as u16),
         _ => {
             entry.kind = match entry.kind {
                 Kind::Mu => Kind::Nu,
@@ -319,16 +365,34 @@ fn ill_formed(rng: &mut Rng, mut entries: Vec<Entry>, members: &[u16]) -> Vec<u8
 }
 
 /// A model with one state unlike any that a file may have: 61 to 64.
-fn unfit(rng: &mut Rng, mut states: Vec<DraftState>) -> Vec<u8> {
+fn unfit(rng: &mut Rng, mut states: Vec<DraftState>, form: fn(&[DraftState]) -> File) -> Vec<u8> {
     let count = states.len();
     let at = rng.below(count);
-    let successors = &mut states[at].successors;
-    match rng.below(5) {
-        0 => successors.push(count as u8),
-        1 => successors.insert(0, rng.below(count) as u8),
-        2 => successors.resize(65, 0),
+    let lists = &mut states[at].successors;
+    let there: Vec<usize> = (0..ACTIONS).filter(|&n| !lists[n].is_empty()).collect();
+    let list = &mut lists[rng.pick(&there).unwrap_or(0)];
+    match rng.below(8) {
+        0 => list.push(count as u8),
+        1 => list.insert(0, rng.below(count) as u8),
+        2 => list.resize(65, 0),
         3 => states.resize(rng.between(65, 67), DraftState::default()),
-        _ => states.clear(),
+        4 => states.clear(),
+        _ => return with_zero(rng, form(&states)),
     }
-    draft::model(&states).bytes
+    form(&states).bytes
+}
+
+/// An empty map of actions, a zero count of any list, a zero mask, or no states.
+fn with_zero(rng: &mut Rng, mut file: File) -> Vec<u8> {
+    let may_not = |mark: &Mark| matches!(mark, Mark::Actions | Mark::Count | Mark::Field);
+    let fields: Vec<(usize, usize)> = file
+        .marks
+        .iter()
+        .filter(|(mark, ..)| may_not(mark))
+        .map(|&(_, at, width)| (at, width))
+        .collect();
+    if let Some((at, width)) = rng.pick(&fields) {
+        file.bytes[at..at + width].fill(0);
+    }
+    file.bytes
 }

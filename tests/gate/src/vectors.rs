@@ -9,6 +9,7 @@ pub fn checks() -> Vec<CheckRecord> {
         ("base/check.bin", 3551),
         ("t02/check.bin", 1527),
         ("t03/check.bin", 1534),
+        ("t04/check.bin", 1435),
     ];
     let records = files.map(|(file, count)| {
         let records = corpus::read_checks(&read(file)).expect("whole records");
@@ -19,15 +20,20 @@ pub fn checks() -> Vec<CheckRecord> {
 }
 
 pub fn evals() -> Vec<EvalRecord> {
-    let records = corpus::read_evals(&read("base/eval.bin")).expect("whole records");
-    assert_eq!(records.len(), 519);
-    records
+    let base = corpus::read_narrow_evals(&read("base/eval.bin")).expect("whole records");
+    let by_action = corpus::read_evals(&read("t04/eval.bin")).expect("whole records");
+    assert_eq!((base.len(), by_action.len()), (519, 399));
+    [base, by_action].concat()
 }
 
 pub fn writes() -> Vec<WriteRecord> {
-    let records = corpus::read_writes(&read("t01/write.bin")).expect("whole records");
-    assert_eq!(records.len(), 640);
-    records
+    let files = [("t01/write.bin", 640), ("t04/write.bin", 337)];
+    let records = files.map(|(file, count)| {
+        let records = corpus::read_writes(&read(file)).expect("whole records");
+        assert_eq!(records.len(), count, "{file}");
+        records
+    });
+    records.concat()
 }
 
 fn read(file: &str) -> Vec<u8> {

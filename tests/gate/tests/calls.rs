@@ -17,6 +17,8 @@ enum Call {
     PresentingGood,
     /// A pair that earns 38 at 3.
     PresentingBad,
+    /// A claim with an action that is none, 71 at 1, beside any proof.
+    PresentingUnfit,
     /// A pair that is accepted, and every slice too short by one.
     PresentingShort,
 }
@@ -41,9 +43,11 @@ enum After {
 
 use After::{Holding, Kept, Moved};
 use Answer::{Done, HeldTag, Refused};
-use Call::{Closing, Opening, PresentingBad, PresentingGood, PresentingShort, Taking};
+use Call::{Closing, Opening, Taking};
+use Call::{PresentingBad, PresentingGood, PresentingShort, PresentingUnfit};
 
 const BAD: u32 = 38 << 16 | 3;
+const UNFIT: u32 = 71 << 16 | 1;
 const SHORT: u32 = 1 << 16;
 const IS_CLOSED: u32 = 50 << 16;
 const HELD: u32 = 51 << 16;
@@ -56,7 +60,7 @@ const NO_PHASES: [u8; 2] = [3, 255];
 /// "50 closed (presenting, taking, closing); 51 permit held (presenting); 52 none
 /// held while open (taking); 53 not closed (opening)", all of them "before any of
 /// the above".
-const TABLE: [(Call, u8, Answer, After); 18] = [
+const TABLE: [(Call, u8, Answer, After); 21] = [
     (Opening, Gate::CLOSED, Done, Moved(Gate::OPEN)),
     (Opening, Gate::OPEN, Refused(NOT_CLOSED), Kept),
     (Opening, Gate::HOLDING, Refused(NOT_CLOSED), Kept),
@@ -72,6 +76,9 @@ const TABLE: [(Call, u8, Answer, After); 18] = [
     (PresentingBad, Gate::CLOSED, Refused(IS_CLOSED), Kept),
     (PresentingBad, Gate::OPEN, Refused(BAD), Kept),
     (PresentingBad, Gate::HOLDING, Refused(HELD), Kept),
+    (PresentingUnfit, Gate::CLOSED, Refused(IS_CLOSED), Kept),
+    (PresentingUnfit, Gate::OPEN, Refused(UNFIT), Kept),
+    (PresentingUnfit, Gate::HOLDING, Refused(HELD), Kept),
     (PresentingShort, Gate::CLOSED, Refused(IS_CLOSED), Kept),
     (PresentingShort, Gate::OPEN, Refused(SHORT), Kept),
     (PresentingShort, Gate::HOLDING, Refused(HELD), Kept),
@@ -85,6 +92,7 @@ fn refused_permit(refusal: u32) -> u64 {
 struct Files {
     good: (Vec<u8>, Vec<u8>),
     bad: (Vec<u8>, Vec<u8>),
+    unfit: (Vec<u8>, Vec<u8>),
     least: Lent,
     short: Lent,
 }
@@ -100,6 +108,7 @@ impl Files {
         Files {
             good: with(0),
             bad: with(BAD),
+            unfit: with(UNFIT),
             least: Lent::least(),
             short: Lent::new(ENTRIES - 1, NODES - 1, CODES - 1),
         }
@@ -110,6 +119,7 @@ impl Files {
         let Files {
             good,
             bad,
+            unfit,
             least,
             short,
         } = self;
@@ -119,6 +129,7 @@ impl Files {
             Taking => take(gate),
             PresentingGood => present(gate, tag, &good.0, &good.1, least).into(),
             PresentingBad => present(gate, tag, &bad.0, &bad.1, least).into(),
+            PresentingUnfit => present(gate, tag, &unfit.0, &unfit.1, least).into(),
             PresentingShort => present(gate, tag, &good.0, &good.1, short).into(),
         }
     }
@@ -210,6 +221,7 @@ fn a_permit_from_opening_to_closing() {
         assert_eq!(then(Opening, 0), 0);
         assert_eq!(then(PresentingShort, 1), SHORT.into());
         assert_eq!(then(PresentingBad, 2), BAD.into());
+        assert_eq!(then(PresentingUnfit, 3), UNFIT.into());
         assert_eq!(then(Taking, 0), refused_permit(NONE_HELD));
         assert_eq!(then(PresentingGood, tag), 0);
         assert_eq!(then(PresentingGood, 5), HELD.into());

@@ -1,18 +1,20 @@
 //! Evaluation, over the vectors and over random claims and models: the answer and
 //! every place of the lent slices.
 
-use gate_tests::lent::{LentWords, ENTRIES, WORDS};
+use gate_tests::lent::{LentWords, ENTRIES, MODEL_BYTES, WORDS};
 use gate_tests::{decode, evaluate, hard, random, setting, vectors};
 use reference::corpus::EvalRecord;
-use reference::{describe, generate, Entry, Kind, Refusal};
+use reference::draft::{self, DraftState};
+use reference::generate::{self, extremes};
+use reference::{answer_wide, describe_wide, Entry, Kind, Refusal, ACTIONS};
 use std::collections::BTreeMap;
 
-/// "Refusals 1 to 34 and 60 to 64 write nothing to lent slices. ... after a
-/// finished evaluation, record slices hold the whole decoding".
+/// "Refusals 1 to 34 and 60 to 64 write nothing to lent slices", nor does 71. "...
+/// after a finished evaluation, record slices hold the whole decoding".
 fn assert_evaluated(record: &EvalRecord, lent: &mut LentWords, what: &str) {
     lent.renew();
     let got = evaluate(&record.claim, &record.model, lent);
-    assert_eq!(describe(got), describe(record.answer), "{what}");
+    assert_eq!(describe_wide(got), describe_wide(record.answer), "{what}");
     match record.answer {
         0 => lent.assert_holds(&decode::entries(&record.claim), &record.words, what),
         _ => lent.assert_untouched(what),
@@ -25,7 +27,7 @@ fn judged(claim: &[u8], model: &[u8]) -> EvalRecord {
     EvalRecord {
         claim: claim.to_vec(),
         model: model.to_vec(),
-        answer: outcome.as_ref().map_or_else(|r| r.packed(), |_| 0),
+        answer: answer_wide(&outcome),
         words: outcome.unwrap_or_default(),
     }
 }
@@ -34,12 +36,14 @@ fn judged(claim: &[u8], model: &[u8]) -> EvalRecord {
 fn every_eval_record_in_slices_of_the_least_lengths() {
     let mut lent = LentWords::least();
     let mut evaluated = 0;
-    for (index, record) in vectors::evals().iter().enumerate() {
+    let records = vectors::evals();
+    for (index, record) in records.iter().enumerate() {
         assert_evaluated(record, &mut lent, &format!("eval record {index}"));
         evaluated += u64::from(record.answer == 0);
     }
-    assert!(evaluated > 200, "only {evaluated} records are evaluated");
-    println!("gate: 519 eval records agree, {evaluated} evaluated");
+    assert!(evaluated > 350, "only {evaluated} records are evaluated");
+    let all = records.len();
+    println!("gate: {all} eval records agree, {evaluated} evaluated");
 }
 
 #[test]
@@ -61,8 +65,8 @@ fn what_stood_in_the_slices_does_not_count() {
     for (index, record) in vectors::evals().iter().enumerate() {
         let got = evaluate(&record.claim, &record.model, &mut lent);
         assert_eq!(
-            describe(got),
-            describe(record.answer),
+            describe_wide(got),
+            describe_wide(record.answer),
             "eval record {index}"
         );
         assert!(lent.words.lend().starts_with(&record.words));
@@ -76,7 +80,7 @@ fn a_short_slice_earns_1_and_is_not_written() {
     let records = vectors::evals();
     let chosen: BTreeMap<u32, &EvalRecord> = records
         .iter()
-        .map(|record| (record.answer >> 16, record))
+        .map(|record| (record.number(), record))
         .collect();
     assert!(chosen.len() > 10, "few numbers: {:?}", chosen.keys());
     for (entries, words) in [
@@ -92,8 +96,11 @@ fn a_short_slice_earns_1_and_is_not_written() {
         let mut lent = LentWords::new(entries, words);
         for record in chosen.values() {
             let got = evaluate(&record.claim, &record.model, &mut lent);
-            let what = format!("{entries} and {words}, else {}", describe(record.answer));
-            assert_eq!(describe(got), "refuse 1 at 0", "{what}");
+            let what = format!(
+                "{entries} and {words}, else {}",
+                describe_wide(record.answer)
+            );
+            assert_eq!(describe_wide(got), "refuse 1 at 0", "{what}");
             lent.assert_untouched(&what);
         }
     }
@@ -106,6 +113,9 @@ struct Shares {
     evaluated: u64,
     /// Pairs with a fixpoint true at some states and false at others.
     split: u64,
+    /// Pairs in which boxes and diamonds by an action other than 0 meet a model
+    /// with actions.
+    by_action: u64,
     refusals: BTreeMap<u32, u64>,
 }
 
@@ -113,7 +123,7 @@ impl Shares {
     fn count(&mut self, record: &EvalRecord) {
         self.total += 1;
         if record.answer != 0 {
-            *self.refusals.entry(record.answer >> 16).or_default() += 1;
+            *self.refusals.entry(record.number()).or_default() += 1;
             return;
         }
         self.evaluated += 1;
@@ -124,6 +134,11 @@ impl Shares {
             fixpoint && *word != 0 && word.count_ones() != states
         });
         self.split += u64::from(split);
+        let modal = |kind| kind == Kind::Diamond as u8 || kind == Kind::Box as u8;
+        let other = entries
+            .iter()
+            .any(|entry| modal(entry.kind) && entry.b != 0);
+        self.by_action += u64::from(other && record.model.starts_with(b"MDL2"));
     }
 
     /// With few pairs evaluated the words would hardly be tried, and with few
@@ -133,12 +148,17 @@ impl Shares {
         let share = |part: u64| 100.0 * part as f64 / self.total as f64;
         println!(
             "gate: {} {what} agree, {:.1} % evaluated, {:.1} % with a fixpoint true at some \
-             states only; refusals {:?}",
+             states only, {:.1} % by action; refusals {:?}",
             self.total,
             share(self.evaluated),
             share(self.split),
+            share(self.by_action),
             self.refusals
         );
+        assert!(self.by_action * 5 > self.total);
+        let all = (10..=14).chain(20..=23).chain(60..=64).chain([71]);
+        let missing: Vec<u32> = all.filter(|n| !self.refusals.contains_key(n)).collect();
+        assert!(missing.is_empty() || self.total < 10_000, "no {missing:?}");
         assert!(self.evaluated * 100 > self.total * evaluated);
         assert!(self.split * 100 > self.total * split);
     }
@@ -158,7 +178,7 @@ fn random_claims_and_models_agree() {
         assert!(
             pair.damaged || record.answer == 0,
             "pair {index} was meant to be well formed: {}",
-            describe(record.answer)
+            describe_wide(record.answer)
         );
         assert_evaluated(&record, &mut lent, &format!("random pair {index}"));
         shares.count(&record);
@@ -251,7 +271,7 @@ fn every_cut_of_a_good_pair_agrees() {
             assert_evaluated(&record, &mut lent, &format!("model of {length} bytes"));
         }
         let record = judged(claim, &[model, &[0][..]].concat());
-        assert_eq!(record.answer, 61 << 16 | model.len() as u32);
+        assert_eq!(refusal(&record), Some((61, model.len())));
         assert_evaluated(&record, &mut lent, "model with a byte more");
     }
 }
@@ -263,15 +283,176 @@ fn every_map_of_a_state_and_every_state_count_agrees() {
         .find(|pair| !pair.damaged)
         .expect("a pair")
         .claim;
-    for byte in 0..=255 {
-        let states = b"MDL1\x02\x00\x00\x00\x00\x00\x00\x00";
-        for at in [4, 5] {
-            let mut model = states.to_vec();
-            model[at] = byte;
-            for length in 5..=model.len() {
-                let record = judged(&claim, &model[..length]);
-                assert_evaluated(&record, &mut lent, &format!("{model:?} cut to {length}"));
+    for opening in [b"MDL1", b"MDL2"] {
+        for byte in 0..=255 {
+            for at in [4, 5] {
+                let mut model = [&opening[..], b"\x02\x00\x00\x00\x00\x00\x00\x00"].concat();
+                model[at] = byte;
+                for length in 5..=model.len() {
+                    let record = judged(&claim, &model[..length]);
+                    assert_evaluated(&record, &mut lent, &format!("{model:?} cut to {length}"));
+                }
             }
+        }
+    }
+}
+
+/// A letter, its negation, and a diamond of the one and a box of the other by each
+/// of these actions.
+fn by_each(actions: impl IntoIterator<Item = u16>) -> Vec<u8> {
+    let mut entries = vec![
+        Entry::new(Kind::Letter, 0, 0),
+        Entry::new(Kind::Negated, 0, 0),
+    ];
+    for action in actions {
+        entries.push(Entry::new(Kind::Diamond, 0, action));
+        entries.push(Entry::new(Kind::Box, 1, action));
+    }
+    hard::claim(&entries)
+}
+
+fn by_each_action() -> Vec<u8> {
+    by_each(0..ACTIONS as u16)
+}
+
+/// Each mark of each action's table by itself: it is seen by that action's diamond
+/// and box, at that state, and by no other.
+#[test]
+fn each_mark_of_each_action() {
+    let mut lent = LentWords::least();
+    let claim = by_each_action();
+    for action in 0..ACTIONS {
+        for (state, next) in (0..64).flat_map(|state| (0..64).map(move |next| (state, next))) {
+            let mut states = vec![DraftState::default(); 64];
+            states[next].letters = 1;
+            states[state].successors[action] = vec![next as u8];
+            let record = judged(&claim, &draft::action_model(&states).bytes);
+            let what = format!("{state} to {next} by {action}");
+            assert_evaluated(&record, &mut lent, &what);
+            for (other, words) in record.words[2..].chunks(2).enumerate() {
+                let seen = u64::from(other == action) << state;
+                assert_eq!(words, [seen, !seen], "{what}, by {other}");
+            }
+        }
+    }
+}
+
+/// From no edge to all of them, for claims of one, two and all actions: the gate has
+/// one way of its own for models of few edges and one for models of many.
+#[test]
+fn every_density_of_edges_agrees() {
+    let mut lent = LentWords::least();
+    let claims = [by_each([5]), by_each([0, 15]), by_each_action()];
+    for (states, eighths) in (1..=64).flat_map(|states| (0..=8).map(move |part| (states, part))) {
+        let model = hard::action_model(
+            states,
+            |state| u32::from(state % 3 == 1),
+            |action, state, next| {
+                let edge = action * 4096 + state * 64 + next;
+                (edge.wrapping_mul(0x9E37_79B9) >> 17) % 8 < eighths
+            },
+        );
+        for (number, claim) in claims.iter().enumerate() {
+            let what = format!("{states} states, {eighths} of 8 edges, claim {number}");
+            assert_evaluated(&judged(claim, &model), &mut lent, &what);
+        }
+    }
+}
+
+/// "In an `MDL1` file actions other than 0 have no successors."
+#[test]
+fn an_old_model_has_action_0_alone() {
+    let mut lent = LentWords::least();
+    let claim = by_each_action();
+    for states in [1, 2, 63, 64] {
+        let model = hard::model(states, |_| 1, |_, _| true);
+        let record = judged(&claim, &model);
+        assert_evaluated(&record, &mut lent, &format!("{states} states"));
+        let all = u64::MAX >> (64 - states);
+        assert_eq!(record.words[2..4], [all, 0]);
+        assert!(record.words[4..].chunks(2).all(|words| words == [0, all]));
+    }
+}
+
+/// Every map of actions on one of two states, with as many lists as it asks for,
+/// a byte less and a byte more.
+#[test]
+fn every_map_of_actions_agrees() {
+    let mut lent = LentWords::least();
+    let claim = by_each_action();
+    for map in 0..=u16::MAX {
+        let lists = [1, 1].repeat(map.count_ones() as usize);
+        let [low, high] = map.to_le_bytes();
+        let model = [
+            b"MDL2\x02\x01\x01\x00\x00\x00\x02",
+            &[low, high][..],
+            &lists,
+        ]
+        .concat();
+        for length in [model.len() - 1, model.len()] {
+            let record = judged(&claim, &model[..length]);
+            assert_evaluated(&record, &mut lent, &format!("map {map:#x}, {length} bytes"));
+        }
+        let record = judged(&claim, &[&model[..], &[0]].concat());
+        assert_evaluated(&record, &mut lent, &format!("map {map:#x}, a byte more"));
+    }
+}
+
+/// The longest model, whole, and cut, with a byte more or with another byte at each
+/// place above 65,535: places that two bytes do not hold.
+#[test]
+fn the_longest_model_broken_at_every_far_place() {
+    let mut lent = LentWords::least();
+    let claim = by_each_action();
+    let model = extremes::longest_model().bytes;
+    assert_eq!(model.len(), MODEL_BYTES);
+    let record = judged(&claim, &model);
+    assert_eq!(record.answer, 0);
+    assert_evaluated(&record, &mut lent, "the longest model");
+    let mut far = BTreeMap::new();
+    let mut assert_alike = |model: &[u8], what: &str| {
+        let record = judged(&claim, model);
+        assert_evaluated(&record, &mut lent, what);
+        if record.answer as u32 > 65_535 {
+            *far.entry(record.number()).or_insert(0) += 1;
+        }
+    };
+    for at in 65_536..=model.len() {
+        assert_alike(&model[..at], &format!("cut to {at}"));
+        let inserted = [&model[..at], &[0], &model[at..]].concat();
+        assert_alike(&inserted, &format!("a zero more at {at}"));
+    }
+    for at in 65_536..model.len() {
+        for byte in [0, 0xFF, model[at] ^ 1, model[at].wrapping_add(1)] {
+            let mut broken = model.clone();
+            broken[at] = byte;
+            assert_alike(&broken, &format!("{byte} at {at}"));
+        }
+    }
+    println!("gate: the longest model broken, refusals at places above 65,535: {far:?}");
+    assert!(
+        [61, 63, 64].iter().all(|number| far[number] > 30),
+        "{far:?}"
+    );
+}
+
+/// "71 ... nothing written", whatever the model is.
+#[test]
+fn an_unfit_action_comes_before_the_model() {
+    let mut lent = LentWords::least();
+    let entries = |action| {
+        [
+            Entry::new(Kind::True, 0, 0),
+            Entry::new(Kind::Box, 0, action),
+        ]
+    };
+    let written_out = draft::claim_written_out(&entries(0), &[0], |_| true).bytes;
+    let above = [16, 17, 255, 256, 65_535].map(|n| draft::claim(&entries(n), &[0]).bytes);
+    for claim in [&[written_out][..], &above].concat() {
+        for model in [&b""[..], b"MDL1", b"MDL2\x01\x02\x00\x00", b"MDL2\x01\x00"] {
+            let record = judged(&claim, model);
+            assert_eq!(refusal(&record), Some((71, 1)));
+            assert_evaluated(&record, &mut lent, &format!("{claim:?}"));
         }
     }
 }
@@ -297,5 +478,6 @@ fn long_files_agree() {
 }
 
 fn refusal(record: &EvalRecord) -> Option<(u16, usize)> {
-    Refusal::unpack(record.answer).map(|refusal| (refusal.number, refusal.place.into()))
+    let refusal = Refusal::unpack_wide(record.answer);
+    refusal.map(|refusal| (refusal.number, refusal.place as usize))
 }

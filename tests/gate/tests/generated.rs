@@ -2,7 +2,7 @@
 //! `GATE_FILES` sets how many, `GATE_LOOPS` how many whose loops leave focus,
 //! `GATE_TWINS` how many in which all proofs use twins, `GATE_SEED` the seed. Of
 //! the first, two out of five are made of tables with twins for proofs that use
-//! them, whatever the seed.
+//! them, whatever the seed. Boxes and diamonds go by actions in all of them.
 
 use gate_tests::setting;
 use reference::corpus::CheckRecord;
@@ -11,22 +11,25 @@ use reference::{describe, generate};
 /// The gate's answers are the reference's, and enough of the files are accepted.
 /// Answers in how many of them two entries of one formula are used.
 fn assert_agree(records: impl Iterator<Item = CheckRecord>, files: u64, what: &str) -> u64 {
-    let (mut accepted, mut twins) = (0u64, 0u64);
+    let (mut accepted, mut twins, mut actions) = (0u64, 0u64, 0u64);
     for (index, record) in records.take(files as usize).enumerate() {
         let got = gate_tests::check(&record.claim, &record.proof);
         let (got, expected) = (describe(got), describe(record.answer));
         assert_eq!(got, expected, "{what} {index}");
         accepted += u64::from(record.answer == 0);
-        twins += u64::from(uses_twins(&record));
+        if let Some(decoded) = reference::judge(&record.claim, &record.proof).decoded {
+            twins += u64::from(!generate::twins_used(&decoded).is_empty());
+            let stepped_by = generate::stepped_by(&decoded);
+            actions += u64::from(stepped_by.iter().any(|&action| action != 0));
+        }
     }
-    println!("gate: {files} of {what} agree, {accepted} accepted, {twins} use twins");
+    println!(
+        "gate: {files} of {what} agree, {accepted} accepted, {twins} use twins, {actions} step by \
+         actions above 0"
+    );
     assert!(accepted * 10 > files, "too few accepted proofs");
+    assert!(actions * 20 > files, "too few steps by actions");
     twins
-}
-
-fn uses_twins(record: &CheckRecord) -> bool {
-    let decoded = reference::judge(&record.claim, &record.proof).decoded;
-    decoded.is_some_and(|decoded| !generate::twins_used(&decoded).is_empty())
 }
 
 #[test]

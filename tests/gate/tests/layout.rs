@@ -1,6 +1,6 @@
 //! The structs that Rust lends have the places and sizes that C gives them; the
 //! header's static asserts say the same numbers to C compilers. And the header's
-//! named numbers are those of document 01.
+//! named numbers are those of documents 01 and 02.
 
 use gate_tests::{lent, Entry, Gate, Node};
 use std::collections::BTreeMap;
@@ -69,6 +69,7 @@ fn the_header_names_the_lengths_the_phases_and_every_refusal() {
         ("FOCUS_WORDS", lent::WORDS),
         ("FOCUS_CLAIM_BYTES", lent::CLAIM_BYTES),
         ("FOCUS_PROOF_BYTES", lent::PROOF_BYTES),
+        ("FOCUS_MODEL_BYTES", lent::MODEL_BYTES),
         ("FOCUS_PHASE_CLOSED", usize::from(Gate::CLOSED)),
         ("FOCUS_PHASE_OPEN", usize::from(Gate::OPEN)),
         ("FOCUS_PHASE_HOLDING", usize::from(Gate::HOLDING)),
@@ -77,6 +78,6 @@ fn the_header_names_the_lengths_the_phases_and_every_refusal() {
     }
     let mut refusals: Vec<usize> = numbers.into_values().collect();
     refusals.sort_unstable();
-    let ranges = [1..=1, 10..=14, 20..=23, 30..=39, 50..=53, 60..=64, 70..=70];
+    let ranges = [1..=1, 10..=14, 20..=23, 30..=39, 50..=53, 60..=64, 70..=71];
     assert_eq!(refusals, ranges.into_iter().flatten().collect::<Vec<_>>());
 }

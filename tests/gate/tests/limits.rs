@@ -1,12 +1,12 @@
-//! Each limit of document 01 met, and exceeded by one, on the built gate: number
-//! and place as written there, through every call that reads the file.
+//! Each limit of documents 01 and 02 met, and exceeded by one, on the built gate:
+//! number and place as written there, through every call that reads the file.
 
 use gate_tests::decode::{decode, entries, Decoding};
-use gate_tests::lent::{Lent, LentWords};
+use gate_tests::lent::{Lent, LentWords, MODEL_BYTES};
 use gate_tests::{check, evaluate, present, Gate};
 use reference::draft::{self, DraftNode, DraftState};
 use reference::generate::extremes;
-use reference::{describe, Entry, Kind, Rule};
+use reference::{answer_wide, describe, describe_wide, Entry, Kind, Rule};
 
 const OPEN: Gate = Gate {
     phase: Gate::OPEN,
@@ -38,10 +38,9 @@ fn assert_checked(claim: &[u8], proof: &[u8], expected: &str) {
 /// The evaluation answers this, and so does the reference.
 fn assert_evaluated(claim: &[u8], model: &[u8], expected: &str) {
     let outcome = reference::evaluate(claim, model);
-    let answer = outcome.as_ref().map_or_else(|r| r.packed(), |_| 0);
-    assert_eq!(describe(answer), expected);
+    assert_eq!(describe_wide(answer_wide(&outcome)), expected);
     let mut lent = LentWords::least();
-    assert_eq!(describe(evaluate(claim, model, &mut lent)), expected);
+    assert_eq!(describe_wide(evaluate(claim, model, &mut lent)), expected);
     match outcome {
         Ok(words) => lent.assert_holds(&entries(claim), &words, expected),
         Err(_) => lent.assert_untouched(expected),
@@ -137,6 +136,54 @@ fn letters_0_to_31() {
     ];
     let claim = draft::claim(&negated, &[0]).bytes;
     assert_claim(&claim, &draft::proof(&[ax2()]).bytes, "refuse 20 at 1");
+}
+
+/// "An action from 1 to 15 in field B (map 3); map 1 means action 0."
+#[test]
+fn actions_0_to_15() {
+    let proof = draft::proof(&[ax2()]).bytes;
+    for kind in [Kind::Diamond, Kind::Box] {
+        let entries = |action| [Entry::new(Kind::True, 0, 0), Entry::new(kind, 0, action)];
+        for action in 0..16 {
+            let claim = draft::claim(&entries(action), &[0]).bytes;
+            assert_claim(&claim, &proof, "accept");
+        }
+        for action in [16, 17, 31, 32, 255, 256, 257, 4096, 65_535] {
+            let claim = draft::claim(&entries(action), &[0]).bytes;
+            assert_claim(&claim, &proof, "refuse 71 at 1");
+        }
+        let written_out = draft::claim_written_out(&entries(0), &[0], |_| true).bytes;
+        assert_claim(&written_out, &proof, "refuse 71 at 1");
+    }
+}
+
+/// Behind a truth three boxes of operand and action, one of them unfit or more.
+#[test]
+fn actions_and_bounds_in_one_walk() {
+    let proof = draft::proof(&[ax2()]).bytes;
+    for (boxes, expected) in [
+        ([(0, 1), (9, 16), (0, 1)], "refuse 20 at 2"),
+        ([(0, 1), (9, 0), (0, 1)], "refuse 20 at 2"),
+        ([(0, 16), (9, 1), (0, 1)], "refuse 71 at 1"),
+        ([(0, 0), (0, 1), (9, 1)], "refuse 71 at 1"),
+        ([(9, 1), (0, 16), (0, 0)], "refuse 20 at 1"),
+        ([(0, 1), (1, 1), (3, 99)], "refuse 20 at 3"),
+        ([(0, 1), (1, 1), (2, 99)], "refuse 71 at 3"),
+        ([(0, 1), (1, 15), (2, 2)], "accept"),
+    ] {
+        let boxed = boxes.map(|(a, action)| Entry::new(Kind::Box, a, action));
+        let entries = [&truths(1)[..], &boxed].concat();
+        let claim = draft::claim_written_out(&entries, &[0], |_| true).bytes;
+        assert_claim(&claim, &proof, expected);
+    }
+    // 23 at entry 2, a mu of its own name, comes after 71 at entry 3.
+    let unguarded = [Entry::new(Kind::Name, 2, 0), Entry::new(Kind::Mu, 1, 0)];
+    let claim = |action| {
+        let boxed = [Entry::new(Kind::Box, 0, action)];
+        draft::claim(&[&truths(1)[..], &unguarded, &boxed].concat(), &[0]).bytes
+    };
+    assert_claim(&claim(1), &proof, "refuse 23 at 2");
+    assert_claim(&claim(16), &proof, "refuse 71 at 3");
 }
 
 #[test]
@@ -249,14 +296,41 @@ fn successors_64() {
     let model = |last: u8| {
         let mut successors: Vec<u8> = (0..64).collect();
         successors[63] = last;
-        let state = DraftState {
-            letters: u32::MAX,
-            successors,
-        };
+        let state = DraftState::new(u32::MAX, successors);
         draft::model(&vec![state; 64]).bytes
     };
     assert_evaluated(&claim, &model(63), "accept");
     // Map, mask and count of state 0, and 63 successors, stand before the last.
     assert_evaluated(&claim, &model(64), "refuse 64 at 74");
     assert_evaluated(&claim, &model(62), "refuse 64 at 74");
+}
+
+/// The longest model, and one that differs in its last list.
+#[test]
+fn successors_64_by_16_actions() {
+    let claim = draft::claim(&truths(1), &[0]).bytes;
+    let model = extremes::longest_model().bytes;
+    assert_eq!(model.len(), MODEL_BYTES);
+    assert_evaluated(&claim, &model, "accept");
+    let longer = [&model[..], &[0]].concat();
+    assert_evaluated(&claim, &longer, "refuse 61 at 67013");
+    assert_evaluated(&claim, &model[..67_012], "refuse 61 at 67012");
+    for last in [64, 62, 0, 255] {
+        let model = with_byte(model.clone(), 67_012, last);
+        assert_evaluated(&claim, &model, "refuse 64 at 67012");
+    }
+    // The map of the last state stands 1,047 bytes before the end, its mask, its
+    // map of actions and the first count behind it.
+    assert_evaluated(
+        &claim,
+        &with_byte(model.clone(), 65_966, 7),
+        "refuse 63 at 65966",
+    );
+    for (at, width) in [(65_967, 4), (65_971, 2), (65_973, 1), (66_948, 1)] {
+        let mut model = model.clone();
+        model[at..at + width].fill(0);
+        assert_evaluated(&claim, &model, "refuse 63 at 65966");
+        let cut = &model[..at + width - 1];
+        assert_evaluated(&claim, cut, &format!("refuse 61 at {}", cut.len()));
+    }
 }

@@ -20,7 +20,7 @@ insert-requires c κs = search needs
 
 returns : tie.Need-returns
 returns c =
-    let args2 = c .before .before .before .before .before .before .before .before .args in
+    let args2 = c .before .before .before .before .before .before .before .before .before .args in
     (ap (set (args2 .words .now) (args2 .e)) (c .before .before .formed .ensures), c .insert .ensures)
 
 pub settle-entry-spec : {M : Type 1} → statement M

@@ -20,8 +20,8 @@ element-copy-out-if1 c = search needs
 
 returns : tie.Need-returns
 returns c =
-    let args2 = c .before .before .before .before .before .before .before .before .before .before .args in
-    turned-quiet _ _ _ _ _ _ (args2 .users .now) (args2 .block .now) _ _ _ _ (c .before .before .before .before .before .before .before .before .before .before .pre .1 .1) (c .before .before .before .before .before .remove .ensures) _ (c .before .before .formed .ensures) (c .if1 .taken)
+    let args2 = c .before .before .before .before .before .before .before .before .before .before .before .args in
+    turned-quiet _ _ _ _ _ _ (args2 .users .now) (args2 .block .now) _ _ _ _ (c .before .before .before .before .before .before .before .before .before .before .before .pre .1 .1) (c .before .before .before .before .before .remove .ensures) _ (c .before .before .formed .ensures) (c .if1 .taken)
 
 mul-words : tie.Need-mul-words
 mul-words c = search needs
@@ -34,7 +34,7 @@ wake-requires c κs = search needs
 
 returns-2 : tie.Need-returns-2
 returns-2 c =
-    let given = c .before .before .before .before .before .before .before .before .before .before .before .before .pre in
+    let given = c .before .before .before .before .before .before .before .before .before .before .before .before .before .pre in
     turned-loud _ _ _ _ _ _ _ _ _ _ _ _ (given .1 .1) (c .before .before .before .before .before .before .before .remove .ensures) _ (c .before .before .before .before .formed .ensures) (c .before .before .if1 .left) (omega (arith, given .0 .words-there, given .0 .claim .few, given .1 .0)) _ (c .wake .ensures)
 
 pub turn-spec : {M : Type 1} → statement M

@@ -9,11 +9,14 @@ use Rattle.claim_entries.proofs.entry_at.Tie as tie
 sub-if1 : tie.Need-sub-if1
 sub-if1 c = search needs
 
-cast-t17 : tie.Need-cast-t17
-cast-t17 c = search needs
+cast-t20 : tie.Need-cast-t20
+cast-t20 c = search needs
 
 returns : tie.Need-returns
 returns c = entry-cut _ _ (c .before .before .pre) (c .if1 .taken)
+
+shared-slice-read-map : tie.Need-shared-slice-read-map
+shared-slice-read-map c = search needs
 
 add-kind : tie.Need-add-kind
 add-kind c = search needs
@@ -24,22 +27,18 @@ shared-slice-read-kind c = search needs
 add-fields : tie.Need-add-fields
 add-fields c = search needs
 
-shared-slice-read-kind-fits : tie.Need-shared-slice-read-kind-fits
-shared-slice-read-kind-fits c = search needs
-
 kind-fits-requires : tie.Need-kind-fits-requires
 kind-fits-requires c κs = search needs
 
-cast-t22 : tie.Need-cast-t22
-cast-t22 c = search needs
+cast-t25 : tie.Need-cast-t25
+cast-t25 c = search needs
 
 returns-2 : tie.Need-returns-2
 returns-2 c =
-    entry-unfit _ _ (c .before .before .before .before .before .before .pre) (c .before .before .before .before .if1 .left) (c .before .kind-fits .ensures)
-    (c .if2 .taken)
+    entry-unfit _ _ (c .before .before .before .before .before .before .pre) (c .before .before .before .before .if1 .left) (c .before .kind-fits .ensures) (c .if2 .taken)
 
-has-a-requires : tie.Need-has-a-requires
-has-a-requires c κs = search needs
+a-stands-requires : tie.Need-a-stands-requires
+a-stands-requires c κs = search needs
 
 field-at-requires : tie.Need-field-at-requires
 field-at-requires c κs = search needs
@@ -50,73 +49,66 @@ enum-known-number c = search needs
 enum-known-a : tie.Need-enum-known-a
 enum-known-a c = search needs
 
-has-b-requires : tie.Need-has-b-requires
-has-b-requires c κs = search needs
+b-stands-requires : tie.Need-b-stands-requires
+b-stands-requires c κs = search needs
 
 field-at-requires-2 : tie.Need-field-at-requires-2
 field-at-requires-2 c κs =
     let h = number-read _ _ (c .before .before .before .before .field-at .ensures) (c .before .before .a .given .1) in
-    let p = c .before .before .before .before .before .before .before .before .before .before .before .before .pre in
-    record { within = h .inside; low = omega (arith, h .near, p) }
+    record { within = h .inside; low = omega (arith, h .near, c .before .before .before .before .before .before .before .before .before .before .before .before .pre) }
 
 enum-known-number-2 : tie.Need-enum-known-number-2
 enum-known-number-2 c = search needs
 
-enum-known-b : tie.Need-enum-known-b
-enum-known-b c = search needs
+enum-known-value : tie.Need-enum-known-value
+enum-known-value c = search needs
+
+held-b-requires : tie.Need-held-b-requires
+held-b-requires c κs = search needs
 
 returns-3 : tie.Need-returns-3
 returns-3 c =
-    let f = c .before .before .before .before .before in
-    let k = f .before in
-    entry-a-cut _ _ (k .before .before .before .before .before .pre) (k .before .before .before .if1 .left) (k .kind-fits .ensures)
-    (f .if2 .left) (c .before .before .before .before .has-a .ensures)
+    entry-a-cut _ _ (c .before .before .before .before .before .before .before .before .before .before .before .pre) (c .before .before .before .before .before .before .before .before .before .if1 .left) (c .before .before .before .before .before .before .kind-fits .ensures) (c .before .before .before .before .before .if2 .left) (c .before .before .before .before .a-stands .ensures)
     (number-refused _ _ (c .before .before .before .field-at .ensures) (c .before .number .given .1))
 
 returns-4 : tie.Need-returns-4
 returns-4 c =
-    let a = c .before .before .before .before .before .before in
-    let f = a .before .before .before .before in
-    let k = f .before in
-    entry-b-cut _ _ (k .before .before .before .before .before .pre) (k .before .before .before .if1 .left) (k .kind-fits .ensures)
-    (f .if2 .left) (a .before .before .before .has-a .ensures)
-    (number-read _ _ (a .before .before .field-at .ensures) (a .a .given .1))
-    (c .before .before .before .before .has-b .ensures)
+    entry-b-cut _ _ (c .before .before .before .before .before .before .before .before .before .before .before .before .before .before .before .before .pre) (c .before .before .before .before .before .before .before .before .before .before .before .before .before .before .if1 .left) (c .before .before .before .before .before .before .before .before .before .before .before .kind-fits .ensures) (c .before .before .before .before .before .before .before .before .before .before .if2 .left) (c .before .before .before .before .before .before .before .before .before .a-stands .ensures)
+    (number-read _ _ (c .before .before .before .before .before .before .before .before .field-at .ensures) (c .before .before .before .before .before .before .a .given .1))
+    (c .before .before .before .before .b-stands .ensures)
     (number-refused _ _ (c .before .before .before .field-at2 .ensures) (c .before .number2 .given .1))
 
 returns-5 : tie.Need-returns-5
 returns-5 c =
-    let a = c .before .before .before .before .before .before in
-    let f = a .before .before .before .before in
-    let k = f .before in
-    entry-whole _ _ (k .before .before .before .before .before .pre) (k .before .before .before .if1 .left) (k .kind-fits .ensures)
-    (f .if2 .left) (a .before .before .before .has-a .ensures)
-    (number-read _ _ (a .before .before .field-at .ensures) (a .a .given .1))
-    (c .before .before .before .before .has-b .ensures)
-    (number-read _ _ (c .before .before .before .field-at2 .ensures) (c .before .b .given .1))
+    entry-whole _ _ (c .before .before .before .before .before .before .before .before .before .before .before .before .before .before .before .before .before .pre) (c .before .before .before .before .before .before .before .before .before .before .before .before .before .before .before .if1 .left) (c .before .before .before .before .before .before .before .before .before .before .before .before .kind-fits .ensures) (c .before .before .before .before .before .before .before .before .before .before .before .if2 .left) (c .before .before .before .before .before .before .before .before .before .before .a-stands .ensures)
+    (number-read _ _ (c .before .before .before .before .before .before .before .before .before .field-at .ensures) (c .before .before .before .before .before .before .before .a .given .1))
+    (c .before .before .before .before .before .b-stands .ensures)
+    (number-read _ _ (c .before .before .before .before .field-at2 .ensures) (c .before .before .value .given .1))
+    (c .held-b .ensures)
 
 pub entry-at-spec : {M : Type 1} → statement M
 entry-at-spec =
     tie.close
     (tie.spec
     sub-if1
-    cast-t17
+    cast-t20
     returns
+    shared-slice-read-map
     add-kind
     shared-slice-read-kind
     add-fields
-    shared-slice-read-kind-fits
     kind-fits-requires
-    cast-t22
+    cast-t25
     returns-2
-    has-a-requires
+    a-stands-requires
     field-at-requires
     enum-known-number
     enum-known-a
-    has-b-requires
+    b-stands-requires
     field-at-requires-2
     enum-known-number-2
-    enum-known-b
+    enum-known-value
+    held-b-requires
     returns-3
     returns-4
     returns-5)

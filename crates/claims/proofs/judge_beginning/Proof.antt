@@ -49,7 +49,7 @@ returns-4 c =
     let at-count = c .before .before .before .before .before .before in
     begun-passed _ (at-count .before .before .opens-claim .ensures) (at-count .before .if1 .left)
     (number-read _ _ (at-count .count-at .ensures) (c .before .before .before .before .count2 .given .1))
-    (entry-read _ _ (c .before .before .entry-at .ensures) (c .enum-told .given .1) .found)
+    (entry-read _ _ (c .before .before .entry-at .ensures) (c .enum-told .given .1) .reached .found)
 
 pub judge-beginning-spec : {M : Type 1} → statement M
 judge-beginning-spec =

@@ -3,13 +3,13 @@ use mathlib.Core.Path.{_≡_, sym, ap, _∙_}
 use mathlib.Core.List.{List}
 use Prim.Native.Nat.{ℕ}
 use borrow.Author.Needs.{needs}
-use Rattle.verdict.specs.Shown.{shown}
-use Rattle.verdict.specs.declared.Verdict.{Verdict}
-use Rattle.verdict.specs.declared.Verdict.the-variants.{Accepted, Refused}
+use Rattle.model.specs.Judged as models
+use Rattle.model.specs.declared.judge.Judged.{Judged}
+use Rattle.model.specs.declared.judge.Judged.the-variants.{Accepted, Refused}
 use Rattle.encoding.specs.Encode.{Bytes}
 use Rattle.encoding.specs.Outcome.{verdictOf}
-use Rattle.model.specs.ReadModel.{readModel}
-use Rattle.model.specs.Decoded.{GoodModel}
+use Rattle.model_files.specs.ReadModel.{readModel}
+use Rattle.model_files.specs.Decoded.{GoodModel}
 use Rattle.encoding.specs.ByteLaws.{lent-bytes}
 use Rattle.evaluation.specs.EvaluateStages.{staged-refused, model-refused, model-evaluated}
 use Rattle.evaluation.proofs.after_model.Statement.{statement}
@@ -26,8 +26,8 @@ module _ (c : tie.After-judge-model) where
   bytes : Bytes file
   bytes = lent-bytes _ (c .before .before .shared-slice-known .given)
 
-  judged : (r : Verdict) → c .judge-model .result ≡ r → verdictOf (readModel file) ≡ shown r
-  judged r e = sym (c .judge-model .ensures) ∙ ap shown e
+  judged : (r : Judged) → c .judge-model .result ≡ r → verdictOf (readModel file) ≡ models.judged r
+  judged r e = sym (c .judge-model .ensures) ∙ ap models.judged e
 
 judge-model-requires : tie.Need-judge-model-requires
 judge-model-requires c κs = search needs

@@ -3,11 +3,11 @@ use borrow.Author.Needs.{needs}
 use Rattle.evaluation.proofs.refuse.Statement.{statement}
 use Rattle.evaluation.proofs.refuse.Tie as tie
 
-pack-requires : tie.Need-pack-requires
-pack-requires c κs = search needs
+pack-wide-requires : tie.Need-pack-wide-requires
+pack-wide-requires c κs = search needs
 
 returns : tie.Need-returns
-returns c = rw (c .pack .ensures) refl
+returns c = (rw (c .pack-wide .ensures .0) refl, c .pack-wide .ensures .1)
 
 pub refuse-spec : {M : Type 1} → statement M
-refuse-spec = tie.close (tie.spec pack-requires returns)
+refuse-spec = tie.close (tie.spec pack-wide-requires returns)

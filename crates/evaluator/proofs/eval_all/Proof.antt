@@ -15,7 +15,7 @@ abbrev μ-loop : tie.MeasureT-loop
 μ-loop kinds a b tops users words₀ done₀ rows masks size e₀ words done e = e
 
 loop-holds : tie.Need-loop-holds Inv-loop μ-loop
-loop-holds c = (omega arith, swept-none _ _ _ _ _ _ _ _ (c .before .before .before .pre .0))
+loop-holds c = (omega arith, swept-none _ _ _ _ _ _ _ _ (c .before .before .before .before .pre .0))
 
 sub-e : tie.Need-sub-e Inv-loop μ-loop
 sub-e c = omega (arith, c .loop-test .taken)
@@ -24,7 +24,7 @@ eval-entry-requires : tie.Need-eval-entry-requires Inv-loop μ-loop
 eval-entry-requires c κs =
     let inv2 = c .before .before .before .loop .inv in
     let loop-test2 = c .before .before .loop-test .taken in
-    (inv2 .1 .standing, (c .before .before .before .before .before .before .before .pre .1, (omega (arith, inv2 .0, loop-test2), swept-known _ _ _ _ _ _ _ _ _ (inv2 .1) _ (omega (arith, loop-test2)))))
+    (inv2 .1 .standing, (c .before .before .before .before .before .before .before .before .pre .1, (omega (arith, inv2 .0, loop-test2), swept-known _ _ _ _ _ _ _ _ _ (inv2 .1) _ (omega (arith, loop-test2)))))
 
 loop-less : tie.Need-loop-less Inv-loop μ-loop
 loop-less c = omega (arith, c .before .before .before .loop-test .taken)

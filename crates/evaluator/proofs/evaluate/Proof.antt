@@ -7,25 +7,25 @@ use borrow.Author.Needs.{needs}
 use Rattle.evaluator.proofs.evaluate.Statement.{statement}
 use Rattle.evaluator.proofs.evaluate.Tie as tie
 
-slice-aggregate-fill-words : tie.Need-slice-aggregate-fill-words
-slice-aggregate-fill-words c = sym (length-take-le _ _ (c .before .before .before .before .before .pre .0 .kinds-there))
+slice-aggregate-fill-all : tie.Need-slice-aggregate-fill-all
+slice-aggregate-fill-all c = sym (length-take-le _ _ (c .before .before .before .before .before .pre .0 .kinds-there))
 
-slice-aggregate-fill-words-2 : tie.Need-slice-aggregate-fill-words-2
-slice-aggregate-fill-words-2 c = sym (length-take-le _ _ (c .before .before .before .before .before .before .pre .0 .as-there))
+slice-aggregate-fill-all-2 : tie.Need-slice-aggregate-fill-all-2
+slice-aggregate-fill-all-2 c = sym (length-take-le _ _ (c .before .before .before .before .before .before .pre .0 .as-there))
 
-slice-aggregate-fill-words-3 : tie.Need-slice-aggregate-fill-words-3
-slice-aggregate-fill-words-3 c = sym (length-take-le _ _ (c .before .before .before .before .before .before .before .pre .0 .bs-there))
+slice-aggregate-fill-all-3 : tie.Need-slice-aggregate-fill-all-3
+slice-aggregate-fill-all-3 c = sym (length-take-le _ _ (c .before .before .before .before .before .before .before .pre .0 .bs-there))
 
-slice-relend-prefix-fill-words : tie.Need-slice-relend-prefix-fill-words
-slice-relend-prefix-fill-words c = search needs
+slice-relend-prefix-fill-all : tie.Need-slice-relend-prefix-fill-all
+slice-relend-prefix-fill-all c = search needs
 
-slice-aggregate-fill-words-4 : tie.Need-slice-aggregate-fill-words-4
-slice-aggregate-fill-words-4 c =
+slice-aggregate-fill-all-4 : tie.Need-slice-aggregate-fill-all-4
+slice-aggregate-fill-all-4 c =
     let entry = c .before .before .before .before .before .before .before .before .before in
     sym (length-take-le _ _ (entry .pre .0 .words-there))
 
-fill-words-requires : tie.Need-fill-words-requires
-fill-words-requires c κs =
+fill-all-requires : tie.Need-fill-all-requires
+fill-all-requires c κs =
     let entry = c .before .before .before .before .before .before .before .before .before in
     let given = entry .pre .0 in (
       first-claim given,
@@ -42,17 +42,17 @@ returns : tie.Need-returns
 returns c =
     let entry = c .before .before .before .before .before .before .before .before .before .before .before .before in
     -- t6: the successor table, which came by value
-    first-written (entry .pre .0) (entry .args .masks .now) (entry .args .t6) _ _ (c .before .before .fill-words .ensures)
+    first-written (entry .pre .0) (entry .args .masks .now) (entry .args .t6) _ _ (c .before .before .fill-all .ensures)
 
 pub evaluate-spec : {M : Type 1} → statement M
 evaluate-spec =
     tie.close
     (tie.spec
-    slice-aggregate-fill-words
-    slice-aggregate-fill-words-2
-    slice-aggregate-fill-words-3
-    slice-relend-prefix-fill-words
-    slice-aggregate-fill-words-4
-    fill-words-requires
+    slice-aggregate-fill-all
+    slice-aggregate-fill-all-2
+    slice-aggregate-fill-all-3
+    slice-relend-prefix-fill-all
+    slice-aggregate-fill-all-4
+    fill-all-requires
     same-length
     returns)

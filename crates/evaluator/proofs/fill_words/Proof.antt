@@ -1,17 +1,11 @@
 -- what is settled is right from the first call to the last, and in the end every entry is
-use mathlib.Core.Path.{refl, _∙_}
+use borrow.Author.Needs.{needs}
 use native.Mathlib.Omega.{arith}
 use Prim.Native.Nat.{ℕ}
 use lib.ListN.{length-replicate}
-use Rattle.forming.specs.Claim.{tableFrom}
-use Rattle.states.specs.PlainModel.{rows-inside, rows-words}
 use Rattle.evaluator.specs.Swept.{standing-first, every-word}
-use borrow.Author.Needs.{needs}
 use Rattle.evaluator.proofs.fill_words.Statement.{statement}
 use Rattle.evaluator.proofs.fill_words.Tie as tie
-
-row-words-requires : tie.Need-row-words-requires
-row-words-requires c κs = c .before .before .before .before .pre .1 .0
 
 find-tops-requires : tie.Need-find-tops-requires
 find-tops-requires c κs = c .before .before .before .before .before .pre .0
@@ -24,12 +18,14 @@ find-users-requires c κs = (c .before .before .before .before .before .before .
 
 eval-all-requires : tie.Need-eval-all-requires
 eval-all-requires c κs =
-    let given = c .before .before .before .before .before .before .before .before .before .before .before .before .before .before .pre in
-    (standing-first _ _ _ _ _ _ (given .0) (given .1 .0) (rows-inside (c .before .before .before .before .before .before .before .before .before .row-words .ensures) 64), record { tops = c .before .before .before .before .before .before .before .before .find-tops .ensures; users = c .before .before .before .before .before .before .find-users .ensures })
+    let given = c .before .before .before .before .before .before .before .before .before .before .before .before .before .pre in (
+      standing-first _ _ _ _ _ _ (given .0) (given .1 .0) (given .1 .2),
+      record { tops = c .before .before .before .before .before .before .before .find-tops .ensures; users = c .before .before .before .before .before .find-users .ensures },
+    )
 
 hand-over-requires : tie.Need-hand-over-requires
 hand-over-requires c κs =
-    let given = c .before .before .before .before .before .before .before .before .before .before .before .before .before .before .before .before .before .pre in
+    let given = c .before .before .before .before .before .before .before .before .before .before .before .before .before .before .before .before .pre in
     omega (arith, given .1 .1, given .0 .few)
 
 same-length : tie.Need-same-length
@@ -37,14 +33,12 @@ same-length c = search needs
 
 returns : tie.Need-returns
 returns c =
-    let args2 = c .before .before .before .before .before .before .before .before .before .before .before .before .before .before .before .before .before .before .before .before .args in
-    every-word _ _ _ _ _ _ _ _ (c .before .before .before .before .before .eval-all .ensures) _ _ (c .before .before .before .before .before .before .before .before .before .before .before .before .before .before .before .before .before .before .before .before .pre .1 .1) (c .before .before .hand-over .ensures) ∙ rows-words (c .before .before .before .before .before .before .before .before .before .before .before .before .before .before .before .row-words .ensures) (args2 .masks .now) (tableFrom (args2 .kinds .now) (args2 .a .now) (args2 .b .now))
+    every-word _ _ _ _ _ _ _ _ (c .before .before .before .before .before .eval-all .ensures) _ _ (c .before .before .before .before .before .before .before .before .before .before .before .before .before .before .before .before .before .before .before .pre .1 .1) (c .before .before .hand-over .ensures)
 
 pub fill-words-spec : {M : Type 1} → statement M
 fill-words-spec =
     tie.close
     (tie.spec
-    row-words-requires
     find-tops-requires
     slice-aggregate-find-users
     find-users-requires

@@ -13,7 +13,7 @@ enum-told-2 : tie.Need-enum-told-2
 enum-told-2 c = search needs
 
 returns : tie.Need-returns
-returns c = record { answer = c .before .before .pack .ensures; state = rw (c .enum-told .given .1) refl }
+returns c = record { answer = c .before .before .pack .ensures .0; within = c .before .before .pack .ensures .1; state = rw (c .enum-told .given .1) refl }
 
 returns-2 : tie.Need-returns-2
 returns-2 c = search needs

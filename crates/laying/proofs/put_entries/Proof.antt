@@ -2,9 +2,10 @@
 use native.Mathlib.Omega.{arith}
 use mathlib.Core.List.{List, _++_}
 use Prim.Native.Nat.{ℕ, _+_, _-_, _≤_}
-use Rattle.formula.specs.Table.{Entry}
+use Rattle.formula.specs.Spelled.{Spelled}
 use Rattle.formula.specs.Plain.{plainEntry}
 use Rattle.claim_files.specs.ClaimFile.{encodeEntry}
+use Rattle.writing.specs.Spelling.{spelledAs}
 use Rattle.laying.specs.Laying.{Left, entriesLeft, entries-begin, entries-step, entries-end, less-left, none-left, room-left}
 use borrow.Author.Needs.{needs}
 use Rattle.laying.proofs.put_entries.Statement.{statement}
@@ -25,8 +26,8 @@ module _ (c : tie.In-loop Inv-loop μ-loop) where
   abbrev i : ℕ
   i = c .before .loop .i
 
-  abbrev this : Entry
-  this = plainEntry (s .args .kinds .now) (s .args .a .now) (s .args .b .now) i
+  abbrev this : Spelled
+  this = spelledAs (plainEntry (s .args .kinds .now) (s .args .a .now) (s .args .b .now) i)
 
   abbrev left : ℕ → ℕ → List ℕ
   left = entriesLeft (s .args .kinds .now) (s .args .a .now) (s .args .b .now)

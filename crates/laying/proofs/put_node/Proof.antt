@@ -8,7 +8,7 @@ use lib.ListN.{set, length-set}
 use Rattle.bits.specs.IfSet.{ifSet}
 use Rattle.formula.specs.Fields.{lowMap}
 use Rattle.formula.specs.Nodes.{Node}
-use Rattle.proofs.specs.ProofFile.{encodeRule, full, encodeNode}
+use Rattle.proof_files.specs.ProofFile.{encodeRule, full, encodeNode}
 use Rattle.laying.specs.Laying.{Put, Left, nodeAt, linkBytes, codesPart, full-is, all-left, less-left, room-left, left-fits, last-left, head-put, put-as, put-long}
 use borrow.Author.Needs.{needs}
 use Rattle.laying.proofs.put_node.Statement.{statement}

@@ -5,7 +5,7 @@ use mathlib.Core.List.{List, _++_}
 use Prim.Native.Nat.{ℕ, _+_, _*_, _-_, _≤_}
 use lib.ListN.{length, getD}
 use Rattle.formula.specs.Nodes.{Node}
-use Rattle.proofs.specs.ProofFile.{encodeNode}
+use Rattle.proof_files.specs.ProofFile.{encodeNode}
 use Rattle.laying.specs.Laying.{Left, nodeAt, nodesLeft, nodes-begin, nodes-step, nodes-end, less-left, none-left, room-left}
 use borrow.Author.Needs.{needs}
 use Rattle.laying.proofs.put_nodes.Statement.{statement}

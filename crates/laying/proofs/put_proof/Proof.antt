@@ -4,7 +4,7 @@ use mathlib.Core.List.{List, _++_}
 use Prim.Native.Nat.{ℕ, _+_}
 use lib.ListN.{length}
 use Rattle.encoding.specs.Encode.{encodeTwo}
-use Rattle.proofs.specs.ProofFile.{proofOpening}
+use Rattle.proof_files.specs.ProofFile.{proofOpening}
 use Rattle.laying.specs.Laying.{Left, nodesLeft, proofParts, proof-parts, all-left, less-left, last-left, file-put}
 use borrow.Author.Needs.{needs}
 use Rattle.laying.proofs.put_proof.Statement.{statement}

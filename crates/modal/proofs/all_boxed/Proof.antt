@@ -11,11 +11,11 @@ use Rattle.modal.proofs.all_boxed.Statement.{statement}
 use Rattle.modal.proofs.all_boxed.Tie as tie
 
 abbrev Inv-loop : tie.InvT-loop
-Inv-loop kinds canon principal codes from to i₀ i =
-    (from ≤ i) × (i ≤ to) × (all (Boxed kinds canon principal) (part codes from to) ≡ all (Boxed kinds canon principal) (part codes i to))
+Inv-loop kinds b canon principal action codes from to i₀ i =
+    (from ≤ i) × (i ≤ to) × (all (Boxed kinds b canon principal action) (part codes from to) ≡ all (Boxed kinds b canon principal action) (part codes i to))
 
 abbrev μ-loop : tie.MeasureT-loop
-μ-loop kinds canon principal codes from to i₀ i = to - i
+μ-loop kinds b canon principal action codes from to i₀ i = to - i
 
 loop-holds : tie.Need-loop-holds Inv-loop μ-loop
 loop-holds c = (search needs, search needs, refl)

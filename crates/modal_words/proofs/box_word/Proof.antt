@@ -26,8 +26,8 @@ sub-s c = search needs
 mul-row : tie.Need-mul-row Inv-loop μ-loop
 mul-row c = search needs
 
-element-copy-out-row : tie.Need-element-copy-out-row Inv-loop μ-loop
-element-copy-out-row c = search needs
+shared-slice-read-row : tie.Need-shared-slice-read-row Inv-loop μ-loop
+shared-slice-read-row c = search needs
 
 push-requires : tie.Need-push-requires Inv-loop μ-loop
 push-requires c κs = upper-small (c .before .before .loop .inv) 1 64 (omega arith) (omega arith)
@@ -38,7 +38,7 @@ loop-less c = search needs
 loop-again : tie.Need-loop-again Inv-loop μ-loop
 loop-again c =
     upper-one (c .before .before .before .loop .inv) _ _ (omega arith)
-    (box-test _ _ (c .before .before .before .before .args .w) (λ u h. c .before .before .before .before .pre .1 (c .before .before .before .loop .s - 1) u (omega arith) h))
+    (box-test _ _ (c .before .before .before .before .before .args .w) (λ u h. c .before .before .before .before .before .pre .2 (c .before .before .before .loop .s - 1) u (omega arith) h))
     (c .push .ensures)
 
 returns : tie.Need-returns Inv-loop μ-loop
@@ -53,7 +53,7 @@ box-word-spec =
     loop-holds
     sub-s
     mul-row
-    element-copy-out-row
+    shared-slice-read-row
     push-requires
     loop-less
     loop-again

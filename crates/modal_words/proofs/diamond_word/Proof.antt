@@ -26,8 +26,8 @@ sub-s c = search needs
 mul-push : tie.Need-mul-push Inv-loop μ-loop
 mul-push c = search needs
 
-element-copy-out-push : tie.Need-element-copy-out-push Inv-loop μ-loop
-element-copy-out-push c = search needs
+shared-slice-read-push : tie.Need-shared-slice-read-push Inv-loop μ-loop
+shared-slice-read-push c = search needs
 
 push-requires : tie.Need-push-requires Inv-loop μ-loop
 push-requires c κs = upper-small (c .before .before .loop .inv) 1 64 (omega arith) (omega arith)
@@ -38,7 +38,7 @@ loop-less c = search needs
 loop-again : tie.Need-loop-again Inv-loop μ-loop
 loop-again c =
     upper-one (c .before .before .before .loop .inv) _ _ (omega arith)
-    (diamond-test _ _ (c .before .before .before .before .args .w) (λ u h. c .before .before .before .before .pre .1 (c .before .before .before .loop .s - 1) u (omega arith) h))
+    (diamond-test _ _ (c .before .before .before .before .before .args .w) (λ u h. c .before .before .before .before .before .pre .2 (c .before .before .before .loop .s - 1) u (omega arith) h))
     (c .push .ensures)
 
 returns : tie.Need-returns Inv-loop μ-loop
@@ -53,7 +53,7 @@ diamond-word-spec =
     loop-holds
     sub-s
     mul-push
-    element-copy-out-push
+    shared-slice-read-push
     push-requires
     loop-less
     loop-again

@@ -12,7 +12,7 @@ pack-requires c κs = search needs
 
 -- the answer is the step's, in its number
 returns : tie.Need-returns
-returns c = record { answer = c .pack .ensures ∙ ap packed (c .before .before .open-step .ensures .answer); state = c .before .before .open-step .ensures .state }
+returns c = record { answer = c .pack .ensures .0 ∙ ap packed (c .before .before .open-step .ensures .answer); state = c .before .before .open-step .ensures .state }
 
 pub open-number-spec : {M : Type 1} → statement M
 open-number-spec = tie.close (tie.spec open-step-requires pack-requires returns)

@@ -91,12 +91,27 @@ returns-6 c =
     (λ t. t .two (omega (arith, least)) (c .before .if6 .taken))
     (c .fit-two .ensures)
 
+mul-result-3 : tie.Need-mul-result-3
+mul-result-3 c = search needs
+
+element-copy-out-result-3 : tie.Need-element-copy-out-result-3
+element-copy-out-result-3 c = search needs
+
+mul-result-4 : tie.Need-mul-result-4
+mul-result-4 c = search needs
+
+element-copy-out-result-4 : tie.Need-element-copy-out-result-4
+element-copy-out-result-4 c = search needs
+
 returns-7 : tie.Need-returns-7
 returns-7 c =
-    let past = c .before .before in
+    let step = c .before .before in
+    let past = step .before .before in
     let first = sym (past .before .before .before .number .ensures) ∙ past .if5 .left ∙ past .before .number2 .ensures in
-    let least = compound past .if3 .left in
-    true-tells (fit-step (same past .if1 .left) (omega (arith, least)) first (omega (arith, c .before .if6 .left)) (c .if7 .taken))
+    let modal = step .before .if6 .left in
+    tells-as (fit-step (same past .if1 .left) (omega (arith, modal)) first (omega (arith, modal)) (step .if7 .taken))
+    (λ t. t .actions (omega (arith, modal)) (step .if7 .taken))
+    (eqb-tells _ _)
 
 fit-fix-requires : tie.Need-fit-fix-requires
 fit-fix-requires c κs = search needs
@@ -133,6 +148,10 @@ fit-spec =
     returns-5
     fit-two-requires
     returns-6
+    mul-result-3
+    element-copy-out-result-3
+    mul-result-4
+    element-copy-out-result-4
     returns-7
     fit-fix-requires
     returns-8)

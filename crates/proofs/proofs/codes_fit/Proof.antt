@@ -6,7 +6,7 @@ use mathlib.Core.Path.{_≡_, refl, ap, _∙_}
 use mathlib.Core.Bool.{not, false≢true}
 use Prim.Native.Nat.{_+_, _*_, _≤_}
 use lib.ListN.{length}
-use Rattle.proofs.specs.ProofParts.{kindTable}
+use Rattle.proof_files.specs.ProofParts.{kindTable}
 use Rattle.proofs.specs.ProofLaws.{CodesFrom, code-known, codes-none, codes-more, codes-all}
 use Rattle.proofs.proofs.codes_fit.Statement.{statement}
 use Rattle.proofs.proofs.codes_fit.Tie as tie

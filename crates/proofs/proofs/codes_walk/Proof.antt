@@ -10,8 +10,8 @@ use Rattle.formula.specs.Table.{Table}
 use Rattle.encoding.specs.Parse.{fault, fits-from}
 use Rattle.encoding.specs.Places.{wordAt}
 use Rattle.encoding.specs.Walk.{Walking, walk-begins, walk-steps, walk-stops, walk-ends}
-use Rattle.proofs.specs.ReadProof.{isCode}
-use Rattle.proofs.specs.ProofParts.{kindTable, oneCode, afterCode, codesOf}
+use Rattle.proof_files.specs.ReadProof.{isCode}
+use Rattle.proof_files.specs.ProofParts.{kindTable, oneCode, afterCode, codesOf}
 use Rattle.proofs.specs.ProofLaws.{code-cut, code-unfit, code-fits}
 use Rattle.proofs.proofs.codes_walk.Statement.{statement}
 use Rattle.proofs.proofs.codes_walk.Tie as tie

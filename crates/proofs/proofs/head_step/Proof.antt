@@ -7,8 +7,8 @@ use lib.ListN.{length, getD}
 use borrow.Author.Tests.{not-true, not-false}
 use Rattle.formula.specs.Fields.{linkWidth}
 use native.Mathlib.Omega.{arith}
-use Rattle.proofs.specs.ReadProof.{rule-fits}
-use Rattle.proofs.specs.ProofParts.{linksAt}
+use Rattle.proof_files.specs.ReadProof.{rule-fits}
+use Rattle.proof_files.specs.ProofParts.{linksAt}
 use Rattle.proofs.specs.ProofHead.{head-cut, head-unfit, head-short, head-whole}
 use borrow.Author.Needs.{needs}
 use Rattle.proofs.proofs.head_step.Statement.{statement}

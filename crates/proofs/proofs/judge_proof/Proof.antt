@@ -13,9 +13,9 @@ use Rattle.encoding.specs.File.{Reading}
 use Rattle.encoding.specs.Outcome.{verdictOf}
 use Rattle.encoding.specs.Places.{wordAt}
 use Rattle.encoding.specs.Opening.{opens}
-use Rattle.proofs.specs.ProofFile.{proofOpening}
-use Rattle.proofs.specs.ReadProof.{readProof}
-use Rattle.proofs.specs.ProofParts.{kindClaim, nodesOf}
+use Rattle.proof_files.specs.ProofFile.{proofOpening}
+use Rattle.proof_files.specs.ReadProof.{readProof}
+use Rattle.proof_files.specs.ProofParts.{kindClaim, nodesOf}
 use Rattle.proofs.specs.ProofSteps.{Finds}
 use Rattle.proofs.specs.ProofWhole.{not-opened, no-count, count-unfit, nodes-stop, nodes-followed, nodes-end}
 use Rattle.proofs.specs.declared.Step.{Step}

@@ -5,7 +5,7 @@ use mathlib.Core.List.{List}
 use Prim.Native.Nat.{ℕ}
 use lib.ListN.{drop}
 use Rattle.formula.specs.Table.{Table}
-use Rattle.proofs.specs.ProofParts.{kindTable}
+use Rattle.proof_files.specs.ProofParts.{kindTable}
 use Rattle.proofs.specs.ProofLaws.{node-stops}
 use Rattle.proofs.specs.ProofSteps.{Head, FindsHead, finds-empty, finds-codes}
 use Rattle.proofs.specs.declared.Step.{Step}

@@ -7,9 +7,9 @@ use Prim.Native.Nat.{ℕ, _+_, _*_, _-_, _≤_}
 use lib.ListN.{length, drop}
 use Rattle.formula.specs.Table.{Table}
 use Rattle.formula.specs.Nodes.{Proof}
-use Rattle.proofs.specs.ReadProof.{node}
+use Rattle.proof_files.specs.ReadProof.{node}
 use Rattle.encoding.specs.Walk.{Walking, walk-begins, walk-steps, walk-stops, walk-ends}
-use Rattle.proofs.specs.ProofParts.{kindTable, nodesOf}
+use Rattle.proof_files.specs.ProofParts.{kindTable, nodesOf}
 use Rattle.proofs.specs.ProofSteps.{Finds}
 use Rattle.proofs.specs.declared.Step.{Step}
 use Rattle.proofs.specs.declared.Step.the-variants.{Next, Stop}

@@ -9,8 +9,8 @@ use Rattle.formula.specs.Table.{Table}
 use Rattle.encoding.specs.Encode.{Counts}
 use Rattle.encoding.specs.Parse.{fault}
 use Rattle.encoding.specs.ListLaws.{range-tells}
-use Rattle.proofs.specs.ReadProof.{sequent}
-use Rattle.proofs.specs.ProofParts.{kindTable, codesOf}
+use Rattle.proof_files.specs.ReadProof.{sequent}
+use Rattle.proof_files.specs.ProofParts.{kindTable, codesOf}
 use Rattle.proofs.specs.ProofSteps.{Finds, finds-as}
 use Rattle.proofs.specs.ProofLaws.{sequent-cut, sequent-unfit, sequent-codes}
 use Rattle.proofs.specs.declared.Step.{Step}

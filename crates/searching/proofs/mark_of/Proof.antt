@@ -11,6 +11,12 @@ mul-mark-in c = search needs
 element-copy-out-mark-in-2 : tie.Need-element-copy-out-mark-in-2
 element-copy-out-mark-in-2 c = search needs
 
+mul-mark-in-2 : tie.Need-mul-mark-in-2
+mul-mark-in-2 c = search needs
+
+element-copy-out-mark-in-3 : tie.Need-element-copy-out-mark-in-3
+element-copy-out-mark-in-3 c = search needs
+
 mul-number : tie.Need-mul-number
 mul-number c = search needs
 
@@ -42,6 +48,8 @@ mark-of-spec =
     element-copy-out-mark-in
     mul-mark-in
     element-copy-out-mark-in-2
+    mul-mark-in-2
+    element-copy-out-mark-in-3
     mul-number
     element-copy-out-number
     number-requires

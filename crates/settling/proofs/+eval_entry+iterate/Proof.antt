@@ -96,20 +96,20 @@ iterate-callees t = (
 
 eval-entry-has-requires : (t : ℕ) → eval-entry-lts.Need-has-requires (eval-entry-callees t) (eval-entry-at t) eval-entry.Post
 eval-entry-has-requires t c κs =
-    let given = c .before .before .before .before .pre .1 in
+    let given = c .before .before .before .before .before .pre .1 in
     omega (arith, given .0 .ready .claim .few, given .1 .1 .0)
 
 eval-entry-returns : (t : ℕ) → eval-entry-lts.Need-returns (eval-entry-callees t) (eval-entry-at t) eval-entry.Post
-eval-entry-returns t c = stays _ _ _ _ _ _ _ _ _ (c .before .before .before .before .before .before .pre .1 .0) (sym (c .before .has .ensures) ∙ c .if1 .taken)
+eval-entry-returns t c = stays _ _ _ _ _ _ _ _ _ (c .before .before .before .before .before .before .before .pre .1 .0) (sym (c .before .has .ensures) ∙ c .if1 .taken)
 
 eval-entry-needs-rounds-requires : (t : ℕ) → eval-entry-lts.Need-needs-rounds-requires (eval-entry-callees t) (eval-entry-at t) eval-entry.Post
 eval-entry-needs-rounds-requires t c κs =
-    let given = c .before .before .before .before .before .before .pre .1 in
+    let given = c .before .before .before .before .before .before .before .pre .1 in
     (given .1 .1 .0, given .0 .ready .claim .as-there, given .0 .ready .claim .few, λ h k. let m = a-entry (given .0 .ready .claim) _ (given .1 .1 .0) (omega (arith, h)) in omega (arith, m, given .0 .ready .claim .few))
 
 eval-entry-iterate-requires : (t : ℕ) → eval-entry-lts.Need-iterate-requires (eval-entry-callees t) (eval-entry-at t) eval-entry.Post
 eval-entry-iterate-requires t c κs =
-    let given = c .before .before .before .before .before .before .before .before .before .before .pre in
+    let given = c .before .before .before .before .before .before .before .before .before .before .before .pre in
     let needs-rounds-told = c .before .before .before .needs-rounds .ensures .0 in
     (omega (arith, given .0), (given .1 .0, (given .1 .1 .0, (given .1 .1 .1 .0, given .1 .1 .1 .1, needs-rounds-told (c .before .before .if2 .taken) .0, needs-rounds-told (c .before .before .if2 .taken) .1))))
 
@@ -117,36 +117,36 @@ eval-entry-returns-2 : (t : ℕ) → eval-entry-lts.Need-returns-2 (eval-entry-c
 eval-entry-returns-2 t c = c .iterate .ensures
 
 eval-entry-shared-slice-read-kind : (t : ℕ) → eval-entry-lts.Need-shared-slice-read-kind (eval-entry-callees t) (eval-entry-at t) eval-entry.Post
-eval-entry-shared-slice-read-kind t c = c .before .before .before .before .before .before .before .before .before .pre .1 .1 .1 .0
+eval-entry-shared-slice-read-kind t c = c .before .before .before .before .before .before .before .before .before .before .pre .1 .1 .1 .0
 
 eval-entry-settle-entry-requires : (t : ℕ) → eval-entry-lts.Need-settle-entry-requires (eval-entry-callees t) (eval-entry-at t) eval-entry.Post
 eval-entry-settle-entry-requires t c κs =
-    let given = c .before .before .before .before .before .before .before .before .before .before .before .before .pre .1 in
+    let given = c .before .before .before .before .before .before .before .before .before .before .before .before .before .pre .1 in
     (given .0 .ready, (given .1 .1 .0, given .0 .done-there))
 
 eval-entry-returns-3 : (t : ℕ) → eval-entry-lts.Need-returns-3 (eval-entry-callees t) (eval-entry-at t) eval-entry.Post
 eval-entry-returns-3 t c =
-    let given = c .before .before .before .before .before .before .before .before .before .before .before .before .before .pre .1 in
+    let given = c .before .before .before .before .before .before .before .before .before .before .before .before .before .before .pre .1 in
     formed-evaluated _ _ _ _ _ _ _ _ (given .0) _ (given .1 .1 .0) (reads-name _ _ _ (given .0 .ready .claim) _ _ (given .1 .1 .0) (given .1 .1 .1) (inl (c .before .before .before .if3 .taken))) _ _ (c .settle-entry .ensures .0) (c .settle-entry .ensures .1)
 
 eval-entry-settle-entry-requires-2 : (t : ℕ) → eval-entry-lts.Need-settle-entry-requires-2 (eval-entry-callees t) (eval-entry-at t) eval-entry.Post
 eval-entry-settle-entry-requires-2 t c κs =
-    let given = c .before .before .before .before .before .before .before .before .before .before .before .before .before .pre .1 in
+    let given = c .before .before .before .before .before .before .before .before .before .before .before .before .before .before .pre .1 in
     (given .0 .ready, (given .1 .1 .0, given .0 .done-there))
 
 eval-entry-returns-4 : (t : ℕ) → eval-entry-lts.Need-returns-4 (eval-entry-callees t) (eval-entry-at t) eval-entry.Post
 eval-entry-returns-4 t c =
-    let given = c .before .before .before .before .before .before .before .before .before .before .before .before .before .before .pre .1 in
+    let given = c .before .before .before .before .before .before .before .before .before .before .before .before .before .before .before .pre .1 in
     formed-evaluated _ _ _ _ _ _ _ _ (given .0) _ (given .1 .1 .0) (reads-name _ _ _ (given .0 .ready .claim) _ _ (given .1 .1 .0) (given .1 .1 .1) (inr (omega (arith, c .before .before .before .if4 .taken)))) _ _ (c .settle-entry2 .ensures .0) (c .settle-entry2 .ensures .1)
 
 eval-entry-mul-wide : (t : ℕ) → eval-entry-lts.Need-mul-wide (eval-entry-callees t) (eval-entry-at t) eval-entry.Post
 eval-entry-mul-wide t c =
-    let given = c .before .before .before .before .before .before .before .before .before .before .before .before .before .pre .1 in
+    let given = c .before .before .before .before .before .before .before .before .before .before .before .before .before .before .pre .1 in
     omega (arith, given .0 .ready .claim .few, given .1 .1 .0)
 
 eval-entry-shared-slice-read-wide : (t : ℕ) → eval-entry-lts.Need-shared-slice-read-wide (eval-entry-callees t) (eval-entry-at t) eval-entry.Post
 eval-entry-shared-slice-read-wide t c =
-    let given = c .before .before .before .before .before .before .before .before .before .before .before .before .before .before .pre .1 in
+    let given = c .before .before .before .before .before .before .before .before .before .before .before .before .before .before .before .pre .1 in
     omega (arith, given .0 .ready .claim .as-there, given .1 .1 .0)
 
 eval-entry-wide-requires : (t : ℕ) → eval-entry-lts.Need-wide-requires (eval-entry-callees t) (eval-entry-at t) eval-entry.Post
@@ -154,8 +154,8 @@ eval-entry-wide-requires t c κs = search needs
 
 eval-entry-eval-entry-requires : (t : ℕ) → eval-entry-lts.Need-eval-entry-requires (eval-entry-callees t) (eval-entry-at t) eval-entry.Post
 eval-entry-eval-entry-requires t c κs =
-    let given = c .before .before .before .before .before .before .before .before .before .before .before .before .before .before .before .pre in
-    let args2 = c .before .before .before .before .before .before .before .before .before .before .before .before .before .before .before .args in
+    let given = c .before .before .before .before .before .before .before .before .before .before .before .before .before .before .before .before .pre in
+    let args2 = c .before .before .before .before .before .before .before .before .before .before .before .before .before .before .before .before .args in
     let n = few-kinds (given .1 .0 .ready .claim) _ (given .1 .1 .1 .0) (c .before .before .before .before .if4 .left) in
     let h : 3 < getD (args2 .kinds .now) (args2 .e) 0 = omega (arith, c .before .before .before .before .before .if3 .left) in
     let m = a-below (given .1 .0 .ready .claim) _ (given .1 .1 .1 .0) h n in
@@ -163,12 +163,12 @@ eval-entry-eval-entry-requires t c κs =
 
 eval-entry-mul-wide-2 : (t : ℕ) → eval-entry-lts.Need-mul-wide-2 (eval-entry-callees t) (eval-entry-at t) eval-entry.Post
 eval-entry-mul-wide-2 t c =
-    let given = c .before .before .before .before .before .before .before .before .before .before .before .before .before .before .before .before .before .before .before .pre .1 in
+    let given = c .before .before .before .before .before .before .before .before .before .before .before .before .before .before .before .before .before .before .before .before .pre .1 in
     omega (arith, given .0 .ready .claim .few, given .1 .1 .0)
 
 eval-entry-shared-slice-read-wide-2 : (t : ℕ) → eval-entry-lts.Need-shared-slice-read-wide-2 (eval-entry-callees t) (eval-entry-at t) eval-entry.Post
 eval-entry-shared-slice-read-wide-2 t c =
-    let given = c .before .before .before .before .before .before .before .before .before .before .before .before .before .before .before .before .before .before .before .before .pre .1 in
+    let given = c .before .before .before .before .before .before .before .before .before .before .before .before .before .before .before .before .before .before .before .before .before .pre .1 in
     omega (arith, given .0 .ready .claim .bs-there, given .1 .1 .0)
 
 eval-entry-wide-requires-2 : (t : ℕ) → eval-entry-lts.Need-wide-requires-2 (eval-entry-callees t) (eval-entry-at t) eval-entry.Post
@@ -176,8 +176,8 @@ eval-entry-wide-requires-2 t c κs = search needs
 
 eval-entry-eval-entry-requires-2 : (t : ℕ) → eval-entry-lts.Need-eval-entry-requires-2 (eval-entry-callees t) (eval-entry-at t) eval-entry.Post
 eval-entry-eval-entry-requires-2 t c κs =
-    let given = c .before .before .before .before .before .before .before .before .before .before .before .before .before .before .before .before .before .before .before .before .before .pre in
-    let args2 = c .before .before .before .before .before .before .before .before .before .before .before .before .before .before .before .before .before .before .before .before .before .args in
+    let given = c .before .before .before .before .before .before .before .before .before .before .before .before .before .before .before .before .before .before .before .before .before .before .pre in
+    let args2 = c .before .before .before .before .before .before .before .before .before .before .before .before .before .before .before .before .before .before .before .before .before .before .args in
     let eval-entry-told = c .before .before .before .before .before .eval-entry .ensures in
     let h : 3 < getD (args2 .kinds .now) (args2 .e) 0 = omega (arith, c .before .before .before .before .before .before .before .before .before .before .before .if3 .left) in
     let n : getD (args2 .kinds .now) (args2 .e) 0 < 6 = omega (arith, c .before .before .before .before .if5 .taken) in
@@ -187,11 +187,11 @@ eval-entry-eval-entry-requires-2 t c κs =
 eval-entry-settle-entry-requires-3 : (t : ℕ) → eval-entry-lts.Need-settle-entry-requires-3 (eval-entry-callees t) (eval-entry-at t) eval-entry.Post
 eval-entry-settle-entry-requires-3 t c κs =
     let eval-entry2-told = c .before .before .eval-entry2 .ensures .standing in
-    (eval-entry2-told .ready, (c .before .before .before .before .before .before .before .before .before .before .before .before .before .before .before .before .before .before .before .before .before .before .before .before .pre .1 .1 .1 .0, eval-entry2-told .done-there))
+    (eval-entry2-told .ready, (c .before .before .before .before .before .before .before .before .before .before .before .before .before .before .before .before .before .before .before .before .before .before .before .before .before .pre .1 .1 .1 .0, eval-entry2-told .done-there))
 
 eval-entry-returns-5 : (t : ℕ) → eval-entry-lts.Need-returns-5 (eval-entry-callees t) (eval-entry-at t) eval-entry.Post
 eval-entry-returns-5 t c =
-    let given = c .before .before .before .before .before .before .before .before .before .before .before .before .before .before .before .before .before .before .before .before .before .before .before .before .before .pre .1 in
+    let given = c .before .before .before .before .before .before .before .before .before .before .before .before .before .before .before .before .before .before .before .before .before .before .before .before .before .before .pre .1 in
     let eval-entry2-told = c .before .before .before .eval-entry2 .ensures in
     let eval-entry-told = c .before .before .before .before .before .before .before .before .before .eval-entry .ensures in
     later _ _ _ _ _ _ _ _ _ _ _ (λ d h. eval-entry2-told .more d (eval-entry-told .more d h)) (formed-evaluated _ _ _ _ _ _ _ _ (eval-entry2-told .standing) _ (given .1 .1 .0) (reads-two _ _ _ (given .0 .ready .claim) _ (given .1 .1 .0) _ _ (c .before .before .before .before .before .before .before .before .before .before .wide .ensures) (c .before .before .before .before .wide2 .ensures) _ (eval-entry2-told .more _ (eval-entry-told .settled)) (eval-entry2-told .settled)) _ _ (c .settle-entry3 .ensures .0) (c .settle-entry3 .ensures .1))
@@ -199,11 +199,11 @@ eval-entry-returns-5 t c =
 eval-entry-settle-entry-requires-4 : (t : ℕ) → eval-entry-lts.Need-settle-entry-requires-4 (eval-entry-callees t) (eval-entry-at t) eval-entry.Post
 eval-entry-settle-entry-requires-4 t c κs =
     let eval-entry-told = c .before .before .before .eval-entry .ensures .standing in
-    (eval-entry-told .ready, (c .before .before .before .before .before .before .before .before .before .before .before .before .before .before .before .before .before .before .before .pre .1 .1 .1 .0, eval-entry-told .done-there))
+    (eval-entry-told .ready, (c .before .before .before .before .before .before .before .before .before .before .before .before .before .before .before .before .before .before .before .before .pre .1 .1 .1 .0, eval-entry-told .done-there))
 
 eval-entry-returns-6 : (t : ℕ) → eval-entry-lts.Need-returns-6 (eval-entry-callees t) (eval-entry-at t) eval-entry.Post
 eval-entry-returns-6 t c =
-    let given = c .before .before .before .before .before .before .before .before .before .before .before .before .before .before .before .before .before .before .before .before .pre .1 in
+    let given = c .before .before .before .before .before .before .before .before .before .before .before .before .before .before .before .before .before .before .before .before .before .pre .1 in
     let eval-entry-told = c .before .before .before .before .eval-entry .ensures in
     later _ _ _ _ _ _ _ _ _ _ _ (eval-entry-told .more) (formed-evaluated _ _ _ _ _ _ _ _ (eval-entry-told .standing) _ (given .1 .1 .0) (reads-one _ _ _ (given .0 .ready .claim) _ (given .1 .1 .0) (omega (arith, c .before .before .before .if5 .left)) _ (c .before .before .before .before .before .wide .ensures) _ (eval-entry-told .settled)) _ _ (c .settle-entry4 .ensures .0) (c .settle-entry4 .ensures .1))
 
@@ -221,7 +221,7 @@ iterate-μ-loop2 kinds a b tops users words₀ done rows masks size x block c wa
 
 iterate-grow-requires : (t : ℕ) → iterate-lts.Need-grow-requires (iterate-callees t) (iterate-at t) iterate.Post iterate-Inv-loop iterate-μ-loop iterate-Inv-loop2 iterate-μ-loop2
 iterate-grow-requires t c κs =
-    let given = c .before .before .before .before .before .before .pre .1 in
+    let given = c .before .before .before .before .before .before .before .pre .1 in
     (given .0 .ready .claim, (given .1 .1 .0, omega (arith, given .1 .1 .2), length-replicate {A = ℕ} 4 0, length-replicate {A = ℕ} 4 0))
 
 iterate-lowest-requires : (t : ℕ) → iterate-lts.Need-lowest-requires (iterate-callees t) (iterate-at t) iterate.Post iterate-Inv-loop iterate-μ-loop iterate-Inv-loop2 iterate-μ-loop2
@@ -229,7 +229,7 @@ iterate-lowest-requires t c κs = c .before .grow .ensures .1 ∙ length-replica
 
 iterate-loop-holds : (t : ℕ) → iterate-lts.Need-loop-holds (iterate-callees t) (iterate-at t) iterate.Post iterate-Inv-loop iterate-μ-loop iterate-Inv-loop2 iterate-μ-loop2
 iterate-loop-holds t c =
-    let given = c .before .before .before .before .before .before .before .before .before .pre .1 in
+    let given = c .before .before .before .before .before .before .before .before .before .before .pre .1 in
     (meeting-first _ _ _ _ _ _ _ (given .1 .1 .0) _ _ (given .0) (given .1 .1 .1) (given .1 .1 .2) (given .1 .1 .3) _ _ (c .before .before .grow .ensures), c .lowest .ensures)
 
 iterate-remove-requires : (t : ℕ) → iterate-lts.Need-remove-requires (iterate-callees t) (iterate-at t) iterate.Post iterate-Inv-loop iterate-μ-loop iterate-Inv-loop2 iterate-μ-loop2
@@ -243,26 +243,26 @@ iterate-element-copy-out-if1 t c = omega (arith, c .before .before .loop-test .t
 
 iterate-grow-requires-2 : (t : ℕ) → iterate-lts.Need-grow-requires-2 (iterate-callees t) (iterate-at t) iterate.Post iterate-Inv-loop iterate-μ-loop iterate-Inv-loop2 iterate-μ-loop2
 iterate-grow-requires-2 t c κs =
-    let given = c .before .before .before .before .before .before .before .before .before .before .before .before .before .before .before .before .before .before .pre .1 in
+    let given = c .before .before .before .before .before .before .before .before .before .before .before .before .before .before .before .before .before .before .before .pre .1 in
     let turn = c .before .before .before .before .before .before .before .before .loop in
-    let args2 = c .before .before .before .before .before .before .before .before .before .before .before .before .before .before .before .before .before .before .args in
+    let args2 = c .before .before .before .before .before .before .before .before .before .before .before .before .before .before .before .before .before .before .before .args in
     let m = met-small _ _ _ _ _ _ _ (given .1 .1 .0) _ _ _ _ _ (turn .inv .0) _ (turn .inv .1 .found (c .before .before .before .before .before .before .before .loop-test .taken)) in
     let l : turn .c < length (args2 .kinds .now) = omega (arith, m, given .1 .1 .0) in
     (given .0 .ready .claim, (l, open-kind _ _ _ (args2 .tops .now) (given .1 .0 .tops) _ l (given .0 .ready .claim) (c .before .before .before .if1 .taken), turn .inv .0 .block-long, c .before .before .before .before .before .remove .ensures .long ∙ turn .inv .0 .met-long))
 
 iterate-needs-rounds-requires : (t : ℕ) → iterate-lts.Need-needs-rounds-requires (iterate-callees t) (iterate-at t) iterate.Post iterate-Inv-loop iterate-μ-loop iterate-Inv-loop2 iterate-μ-loop2
 iterate-needs-rounds-requires t c κs =
-    let given = c .before .before .before .before .before .before .before .before .before .before .before .before .before .before .before .pre .1 in
+    let given = c .before .before .before .before .before .before .before .before .before .before .before .before .before .before .before .before .pre .1 in
     let turn = c .before .before .before .before .before .loop in
     let m = met-small _ _ _ _ _ _ _ (given .1 .1 .0) _ _ _ _ _ (turn .inv .0) _ (turn .inv .1 .found (c .before .before .before .before .loop-test .taken)) in
-    let l : turn .c < length (c .before .before .before .before .before .before .before .before .before .before .before .before .before .before .before .args .kinds .now) = omega (arith, m, given .1 .1 .0) in
+    let l : turn .c < length (c .before .before .before .before .before .before .before .before .before .before .before .before .before .before .before .before .args .kinds .now) = omega (arith, m, given .1 .1 .0) in
     (l, given .0 .ready .claim .as-there, given .0 .ready .claim .few, λ h k. let m = a-entry (given .0 .ready .claim) _ (l) (omega (arith, h)) in omega (arith, m, given .0 .ready .claim .few))
 
 iterate-iterate-requires : (t : ℕ) → iterate-lts.Need-iterate-requires (iterate-callees t) (iterate-at t) iterate.Post iterate-Inv-loop iterate-μ-loop iterate-Inv-loop2 iterate-μ-loop2
 iterate-iterate-requires t c κs =
-    let given = c .before .before .before .before .before .before .before .before .before .before .before .before .before .before .before .before .before .before .before .pre in
+    let given = c .before .before .before .before .before .before .before .before .before .before .before .before .before .before .before .before .before .before .before .before .pre in
     let turn = c .before .before .before .before .before .before .before .before .before .loop in
-    let args2 = c .before .before .before .before .before .before .before .before .before .before .before .before .before .before .before .before .before .before .before .args in
+    let args2 = c .before .before .before .before .before .before .before .before .before .before .before .before .before .before .before .before .before .before .before .before .args in
     let needs-rounds-told = c .before .before .before .needs-rounds .ensures .0 in
     let m = met-small _ _ _ _ _ _ _ (given .1 .1 .1 .0) _ _ _ _ _ (turn .inv .0) _ (turn .inv .1 .found (c .before .before .before .before .before .before .before .before .loop-test .taken)) in
     let l : turn .c < length (args2 .kinds .now) = omega (arith, m, given .1 .1 .1 .0) in
@@ -270,9 +270,9 @@ iterate-iterate-requires t c κs =
 
 iterate-eval-entry-requires : (t : ℕ) → iterate-lts.Need-eval-entry-requires (iterate-callees t) (iterate-at t) iterate.Post iterate-Inv-loop iterate-μ-loop iterate-Inv-loop2 iterate-μ-loop2
 iterate-eval-entry-requires t c κs =
-    let given = c .before .before .before .before .before .before .before .before .before .before .before .before .before .before .before .before .before .before .before .pre in
+    let given = c .before .before .before .before .before .before .before .before .before .before .before .before .before .before .before .before .before .before .before .before .pre in
     let turn = c .before .before .before .before .before .before .before .before .before .loop in
-    let args2 = c .before .before .before .before .before .before .before .before .before .before .before .before .before .before .before .before .before .before .before .args in
+    let args2 = c .before .before .before .before .before .before .before .before .before .before .before .before .before .before .before .before .before .before .before .before .args in
     let m = met-small _ _ _ _ _ _ _ (given .1 .1 .1 .0) _ _ _ _ _ (turn .inv .0) _ (turn .inv .1 .found (c .before .before .before .before .before .before .before .before .loop-test .taken)) in
     let l : turn .c < length (args2 .kinds .now) = omega (arith, m, given .1 .1 .1 .0) in
     (omega (arith, given .0, m), (turn .inv .0 .standing, (given .1 .1 .0, (l, top-known _ _ _ (args2 .tops .now) (given .1 .1 .0 .tops) _ l (given .1 .0 .ready .claim) (c .before .before .before .before .if1 .left) _))))
@@ -286,27 +286,27 @@ iterate-lowest-requires-2 t c κs =
 iterate-loop-less : (t : ℕ) → iterate-lts.Need-loop-less (iterate-callees t) (iterate-at t) iterate.Post iterate-Inv-loop iterate-μ-loop iterate-Inv-loop2 iterate-μ-loop2
 iterate-loop-less t c =
     let inv2 = c .before .before .before .before .before .before .before .loop .inv in
-    let given = c .before .before .before .before .before .before .before .before .before .before .before .before .before .before .before .before .before .pre .1 .1 .1 .0 in
+    let given = c .before .before .before .before .before .before .before .before .before .before .before .before .before .before .before .before .before .before .pre .1 .1 .1 .0 in
     let loop-test2 = c .before .before .before .before .before .before .loop-test .taken in
     let remove-told = c .before .before .before .before .remove .ensures in
     ⊎-elim (λ w. rw (w .7, w .8) (grown-closer _ _ _ _ _ _ _ (given) _ _ _ _ _ (inv2 .0) _ (inv2 .1 .found (loop-test2)) _ (remove-told) _ _ (w .4 .ensures))) (⊎-elim (λ w. rw (w .8, w .9) (settled-closer _ _ _ _ _ _ _ (given) _ _ _ _ _ (inv2 .0) _ (inv2 .1 .found (loop-test2)) _ (remove-told))) (λ w. rw (w .8, w .9) (settled-closer _ _ _ _ _ _ _ (given) _ _ _ _ _ (inv2 .0) _ (inv2 .1 .found (loop-test2)) _ (remove-told)))) (c .before .before .if1 .came)
 
 iterate-loop-again : (t : ℕ) → iterate-lts.Need-loop-again (iterate-callees t) (iterate-at t) iterate.Post iterate-Inv-loop iterate-μ-loop iterate-Inv-loop2 iterate-μ-loop2
 iterate-loop-again t c =
-    let given = c .before .before .before .before .before .before .before .before .before .before .before .before .before .before .before .before .before .pre .1 .1 in
+    let given = c .before .before .before .before .before .before .before .before .before .before .before .before .before .before .before .before .before .before .pre .1 .1 in
     let turn = c .before .before .before .before .before .before .before .loop in
     let loop-test2 = c .before .before .before .before .before .before .loop-test .taken in
-    let args2 = c .before .before .before .before .before .before .before .before .before .before .before .before .before .before .before .before .before .args in
+    let args2 = c .before .before .before .before .before .before .before .before .before .before .before .before .before .before .before .before .before .before .args in
     let remove-told = c .before .before .before .before .remove .ensures in
     let m = met-small _ _ _ _ _ _ _ (given .1 .0) _ _ _ _ _ (turn .inv .0) _ (turn .inv .1 .found (loop-test2)) in
     let l : turn .c < length (args2 .kinds .now) = omega (arith, m, given .1 .0) in
     (⊎-elim (λ w. rw (w .5, w .6, w .7, w .8) (meeting-grown _ _ _ _ _ _ _ (given .1 .0) _ _ _ _ _ (turn .inv .0) _ (turn .inv .1 .found (loop-test2)) _ (remove-told) (top-not-alone _ _ _ (args2 .tops .now) (given .0 .tops) _ l (w .0 .taken)) _ _ (w .4 .ensures))) (⊎-elim (λ w. rw (w .6, w .7, w .8, w .9) (meeting-settled _ _ _ _ _ _ _ (given .1 .0) _ _ _ _ _ (turn .inv .0) _ (turn .inv .1 .found (loop-test2)) _ (remove-told) _ _ (w .5 .ensures))) (λ w. rw (w .6, w .7, w .8, w .9) (meeting-settled _ _ _ _ _ _ _ (given .1 .0) _ _ _ _ _ (turn .inv .0) _ (turn .inv .1 .found (loop-test2)) _ (remove-told) _ _ (w .5 .ensures)))) (c .before .before .if1 .came), c .lowest2 .ensures)
 
 iterate-shared-slice-read-start-word : (t : ℕ) → iterate-lts.Need-shared-slice-read-start-word (iterate-callees t) (iterate-at t) iterate.Post iterate-Inv-loop iterate-μ-loop iterate-Inv-loop2 iterate-μ-loop2
-iterate-shared-slice-read-start-word t c = c .before .before .before .before .before .before .before .before .before .before .before .before .before .before .pre .1 .1 .1 .0
+iterate-shared-slice-read-start-word t c = c .before .before .before .before .before .before .before .before .before .before .before .before .before .before .before .pre .1 .1 .1 .0
 
 iterate-start-word-requires : (t : ℕ) → iterate-lts.Need-start-word-requires (iterate-callees t) (iterate-at t) iterate.Post iterate-Inv-loop iterate-μ-loop iterate-Inv-loop2 iterate-μ-loop2
-iterate-start-word-requires t c κs = c .before .before .before .before .before .before .before .before .before .before .before .before .before .before .pre .1 .0 .ready .states
+iterate-start-word-requires t c κs = c .before .before .before .before .before .before .before .before .before .before .before .before .before .before .before .pre .1 .0 .ready .states
 
 iterate-begin-requires : (t : ℕ) → iterate-lts.Need-begin-requires (iterate-callees t) (iterate-at t) iterate.Post iterate-Inv-loop iterate-μ-loop iterate-Inv-loop2 iterate-μ-loop2
 iterate-begin-requires t c κs =
@@ -319,20 +319,20 @@ iterate-lowest-requires-3 t c κs = c .before .before .before .before .before .b
 iterate-loop2-holds : (t : ℕ) → iterate-lts.Need-loop2-holds (iterate-callees t) (iterate-at t) iterate.Post iterate-Inv-loop iterate-μ-loop iterate-Inv-loop2 iterate-μ-loop2
 iterate-loop2-holds t c =
     let inv2 = c .before .before .before .before .before .before .before .before .loop .inv in
-    (iteration-first _ _ _ _ _ _ _ (c .before .before .before .before .before .before .before .before .before .before .before .before .before .before .before .before .before .before .pre .1 .1 .1 .0) _ _ _ _ _ (inv2 .0) (inv2 .1 .none (omega (arith, c .before .before .before .before .before .before .before .loop-test .left))) _ _ (c .before .before .before .start-word .ensures) (c .before .before .begin .ensures), c .lowest3 .ensures)
+    (iteration-first _ _ _ _ _ _ _ (c .before .before .before .before .before .before .before .before .before .before .before .before .before .before .before .before .before .before .before .pre .1 .1 .1 .0) _ _ _ _ _ (inv2 .0) (inv2 .1 .none (omega (arith, c .before .before .before .before .before .before .before .loop-test .left))) _ _ (c .before .before .before .start-word .ensures) (c .before .before .begin .ensures), c .lowest3 .ensures)
 
 iterate-turn-requires : (t : ℕ) → iterate-lts.Need-turn-requires (iterate-callees t) (iterate-at t) iterate.Post iterate-Inv-loop iterate-μ-loop iterate-Inv-loop2 iterate-μ-loop2
 iterate-turn-requires t c κs =
     let inv2 = c .before .before .before .before .loop2 .inv in
     let inv3 = c .before .before .before .before .before .before .before .before .before .before .before .before .before .loop .inv in
-    (inv2 .0 .ready, (block-there _ _ _ _ _ _ _ (c .before .before .before .before .before .before .before .before .before .before .before .before .before .before .before .before .before .before .before .before .before .before .before .pre .1 .1 .1 .0) _ _ _ _ _ (inv3 .0) (inv3 .1 .none (omega (arith, c .before .before .before .before .before .before .before .before .before .before .before .before .loop-test .left))) _ (inv2 .0 .waits _ (inv2 .1 .found (c .before .before .before .loop2-test .taken))), inv2 .0 .set-long))
+    (inv2 .0 .ready, (block-there _ _ _ _ _ _ _ (c .before .before .before .before .before .before .before .before .before .before .before .before .before .before .before .before .before .before .before .before .before .before .before .before .pre .1 .1 .1 .0) _ _ _ _ _ (inv3 .0) (inv3 .1 .none (omega (arith, c .before .before .before .before .before .before .before .before .before .before .before .before .loop-test .left))) _ (inv2 .0 .waits _ (inv2 .1 .found (c .before .before .before .loop2-test .taken))), inv2 .0 .set-long))
 
 iterate-lowest-requires-4 : (t : ℕ) → iterate-lts.Need-lowest-requires-4 (iterate-callees t) (iterate-at t) iterate.Post iterate-Inv-loop iterate-μ-loop iterate-Inv-loop2 iterate-μ-loop2
 iterate-lowest-requires-4 t c κs = c .before .turn .ensures .set-long
 
 iterate-loop2-less : (t : ℕ) → iterate-lts.Need-loop2-less (iterate-callees t) (iterate-at t) iterate.Post iterate-Inv-loop iterate-μ-loop iterate-Inv-loop2 iterate-μ-loop2
 iterate-loop2-less t c =
-    let given = c .before .before .before .before .before .before .before .before .before .before .before .before .before .before .before .before .before .before .before .before .before .before .before .before .before .before .pre .1 in
+    let given = c .before .before .before .before .before .before .before .before .before .before .before .before .before .before .before .before .before .before .before .before .before .before .before .before .before .before .before .pre .1 in
     let inv2 = c .before .before .before .before .before .before .before .before .before .before .before .before .before .before .before .before .loop .inv in
     let loop-test2 = c .before .before .before .before .before .before .before .before .before .before .before .before .before .before .before .loop-test .left in
     let inv3 = c .before .before .before .before .before .before .before .loop2 .inv in
@@ -341,7 +341,7 @@ iterate-loop2-less t c =
 
 iterate-loop2-again : (t : ℕ) → iterate-lts.Need-loop2-again (iterate-callees t) (iterate-at t) iterate.Post iterate-Inv-loop iterate-μ-loop iterate-Inv-loop2 iterate-μ-loop2
 iterate-loop2-again t c =
-    let given = c .before .before .before .before .before .before .before .before .before .before .before .before .before .before .before .before .before .before .before .before .before .before .before .before .before .before .pre .1 in
+    let given = c .before .before .before .before .before .before .before .before .before .before .before .before .before .before .before .before .before .before .before .before .before .before .before .before .before .before .before .pre .1 in
     let inv2 = c .before .before .before .before .before .before .before .before .before .before .before .before .before .before .before .before .loop .inv in
     let loop-test2 = c .before .before .before .before .before .before .before .before .before .before .before .before .before .before .before .loop-test .left in
     let inv3 = c .before .before .before .before .before .before .before .loop2 .inv in
@@ -354,7 +354,7 @@ iterate-returns : (t : ℕ) → iterate-lts.Need-returns (iterate-callees t) (it
 iterate-returns t c =
     let inv2 = c .before .before .before .before .before .before .before .before .before .before .before .before .before .loop .inv in
     let inv3 = c .before .before .before .before .loop2 .inv in
-    block-evaluated _ _ _ _ _ _ _ (c .before .before .before .before .before .before .before .before .before .before .before .before .before .before .before .before .before .before .before .before .before .before .before .pre .1 .1 .1 .0) _ _ _ _ _ (inv2 .0) (inv2 .1 .none (omega (arith, c .before .before .before .before .before .before .before .before .before .before .before .before .loop-test .left))) _ _ _ (inv3 .0) (inv3 .1 .none (omega (arith, c .before .before .before .loop2-test .left))) (c .join .ensures)
+    block-evaluated _ _ _ _ _ _ _ (c .before .before .before .before .before .before .before .before .before .before .before .before .before .before .before .before .before .before .before .before .before .before .before .before .pre .1 .1 .1 .0) _ _ _ _ _ (inv2 .0) (inv2 .1 .none (omega (arith, c .before .before .before .before .before .before .before .before .before .before .before .before .loop-test .left))) _ _ _ (inv3 .0) (inv3 .1 .none (omega (arith, c .before .before .before .loop2-test .left))) (c .join .ensures)
 
 pub +eval-entry+iterate-spec : {M : Type 1} → statement M
 +eval-entry+iterate-spec = close μ-eval-entry μ-iterate (λ t. eval-entry-lts.spec (eval-entry-callees t)

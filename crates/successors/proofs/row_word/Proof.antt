@@ -1,19 +1,19 @@
--- the states from u on that are marked, in whole groups of eight
+-- the states from u on that are marked, in whole groups of sixteen
 use mathlib.Core.Path.{_≡_}
 use Prim.Native.Nat.{_+_, _*_, _/_, _%_}
 use native.Mathlib.Omega.{arith}
 use borrow.Author.Needs.{needs}
-use lib.Dec.{eqb}
-use Rattle.model.specs.DescribedLaws.{cell}
-use Rattle.states.specs.TopDown.{Upper, upper-none, upper-small, byte-small, upper-eight, upper-whole, word-cut}
+use Rattle.bits.specs.Bits.{bit}
+use Rattle.model_files.specs.DescribedLaws.{cell}
+use Rattle.states.specs.TopDown.{Upper, upper-none, upper-small, sixteen-small, upper-sixteen, upper-whole, word-cut}
 use Rattle.successors.proofs.row_word.Statement.{statement}
 use Rattle.successors.proofs.row_word.Tie as tie
 
 abbrev Inv-loop : tie.InvT-loop
-Inv-loop marks n s r₀ u₀ r u = (u % 8 ≡ 0) × Upper ((n + 7) / 8 * 8) (λ k. eqb (cell marks s k) 1) u r
+Inv-loop marks a n s r₀ u₀ r u = (u % 16 ≡ 0) × Upper ((n + 15) / 16 * 16) (λ k. bit (cell marks s k) a) u r
 
 abbrev μ-loop : tie.MeasureT-loop
-μ-loop marks n s r₀ u₀ r u = u
+μ-loop marks a n s r₀ u₀ r u = u
 
 add-u : tie.Need-add-u Inv-loop μ-loop
 add-u c = search needs
@@ -28,24 +28,21 @@ sub-u : tie.Need-sub-u Inv-loop μ-loop
 sub-u c = omega arith
 
 mul-r : tie.Need-mul-r Inv-loop μ-loop
-mul-r c = omega (arith, upper-small (c .before .loop .inv .1) 8 64 (omega arith) (omega arith))
+mul-r c = omega (arith, upper-small (c .before .loop .inv .1) 16 64 (omega arith) (omega arith))
 
-eight-requires : tie.Need-eight-requires Inv-loop μ-loop
-eight-requires c κs = search needs
-
-cast-r : tie.Need-cast-r Inv-loop μ-loop
-cast-r c = omega (arith, byte-small (c .before .before .loop .inv .1) (c .eight .ensures))
+sixteen-requires : tie.Need-sixteen-requires Inv-loop μ-loop
+sixteen-requires c κs = search needs
 
 add-r : tie.Need-add-r Inv-loop μ-loop
 add-r c =
     let U = c .before .before .loop .inv .1 in
-    omega (arith, upper-small U 8 64 (omega arith) (omega arith), byte-small U (c .eight .ensures))
+    omega (arith, upper-small U 16 64 (omega arith) (omega arith), sixteen-small U (c .sixteen .ensures))
 
 loop-less : tie.Need-loop-less Inv-loop μ-loop
 loop-less c = search needs
 
 loop-again : tie.Need-loop-again Inv-loop μ-loop
-loop-again c = (omega arith, upper-eight (c .before .before .loop .inv .1) (c .eight .ensures) (omega arith))
+loop-again c = (omega arith, upper-sixteen (c .before .before .loop .inv .1) (c .sixteen .ensures) (omega arith))
 
 all-states-requires : tie.Need-all-states-requires Inv-loop μ-loop
 all-states-requires c κs = search needs
@@ -64,8 +61,7 @@ row-word-spec =
     loop-holds
     sub-u
     mul-r
-    eight-requires
-    cast-r
+    sixteen-requires
     add-r
     loop-less
     loop-again

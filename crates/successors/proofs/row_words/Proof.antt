@@ -1,49 +1,58 @@
--- the rows below s are the words of their marks
-use mathlib.Core.Path.{_≡_}
-use Prim.Native.Nat.{ℕ, _-_, _≤_}
+-- the actions below a that are in the map have their rows
+use mathlib.Core.Path.{_≡_, sym, subst}
+use mathlib.Core.Logic.{⊎-elim}
+use Prim.Native.Nat.{ℕ, _+_, _*_, _-_, _≤_}
 use native.Mathlib.Omega.{arith}
 use borrow.Author.Needs.{needs}
-use lib.Dec.{eqb}
-use lib.ListN.{replicate, length-replicate}
-use Rattle.model.specs.DescribedLaws.{cell}
-use Rattle.states.specs.Words.{word}
-use Rattle.states.specs.Fill.{Filled, filled-none, filled-set}
-use Rattle.states.specs.PlainModel.{row-words}
+use Rattle.states.specs.BitLaws.{read-set, read-clear}
+use Rattle.states.specs.Rows.{RowWords, words-none, words-pass, words-more}
 use Rattle.successors.proofs.row_words.Statement.{statement}
 use Rattle.successors.proofs.row_words.Tie as tie
 
 abbrev Inv-loop : tie.InvT-loop
-Inv-loop marks n rows₀ s₀ rows s = (s ≤ n) × Filled (λ k. word n (λ u. eqb (cell marks k u) 1)) (replicate 64 0) s rows
+Inv-loop marks used n rows₀ a₀ rows a = (a ≤ 16) × RowWords marks used n rows₀ a rows
 
 abbrev μ-loop : tie.MeasureT-loop
-μ-loop marks n rows₀ s₀ rows s = n - s
+μ-loop marks used n rows₀ a₀ rows a = 16 - a
 
 loop-holds : tie.Need-loop-holds Inv-loop μ-loop
-loop-holds c = (omega arith, filled-none _ _)
+loop-holds c = (omega arith, words-none _ _ _ _)
 
-row-word-requires : tie.Need-row-word-requires Inv-loop μ-loop
-row-word-requires c κs = search needs
+cast-if1 : tie.Need-cast-if1 Inv-loop μ-loop
+cast-if1 c = search needs
 
-mul-rows : tie.Need-mul-rows Inv-loop μ-loop
-mul-rows c = search needs
+shr-if1 : tie.Need-shr-if1 Inv-loop μ-loop
+shr-if1 c = search needs
 
-array-write-rows : tie.Need-array-write-rows Inv-loop μ-loop
-array-write-rows c = omega arith
+action-rows-requires : tie.Need-action-rows-requires Inv-loop μ-loop
+action-rows-requires c κs =
+    let entry = c .before .before .before .before .before in
+    let turn = c .before .before .before .loop in
+    let room = entry .pre .1 (turn .a) (read-set (entry .args .used) (turn .a) (c .before .if1 .taken)) in
+    (c .before .before .loop-test .taken, entry .pre .0, subst (λ (k : ℕ). 64 * turn .a + 64 ≤ k) (sym (turn .inv .1 .long)) room)
 
-add-s : tie.Need-add-s Inv-loop μ-loop
-add-s c = search needs
+add-a : tie.Need-add-a Inv-loop μ-loop
+add-a c = search needs
 
 loop-less : tie.Need-loop-less Inv-loop μ-loop
 loop-less c = search needs
 
 loop-again : tie.Need-loop-again Inv-loop μ-loop
 loop-again c =
-    (omega arith, filled-set (c .before .before .loop .inv .1) _ (omega (arith, length-replicate {A = ℕ} 64 0)) (c .row-word .ensures))
+    let turn = c .before .before .loop in
+    let entry = c .before .before .before .before in (
+      omega arith,
+      ⊎-elim (λ w. rw (w .5) (words-more (turn .inv .1) (entry .pre .0) (read-set (entry .args .used) (turn .a) (w .0 .taken)) _ (w .2 .ensures)))
+          (λ w. rw (w .1) (words-pass (turn .inv .1) (read-clear (entry .args .used) (turn .a) (w .0 .left)))) (c .if1 .came),
+    )
+
+same-length : tie.Need-same-length Inv-loop μ-loop
+same-length c = c .before .loop .inv .1 .long
 
 returns : tie.Need-returns Inv-loop μ-loop
 returns c =
-    let e : c .before .loop .s ≡ c .before .before .args .n = omega arith in
-    row-words (rw e at (c .before .loop .inv .1))
+    let e : c .before .loop .a ≡ 16 = omega arith in
+    rw e at (c .before .loop .inv .1)
 
 pub row-words-spec : {M : Type 1} → statement M
 row-words-spec =
@@ -52,10 +61,11 @@ row-words-spec =
     Inv-loop
     μ-loop
     loop-holds
-    row-word-requires
-    mul-rows
-    array-write-rows
-    add-s
+    cast-if1
+    shr-if1
+    action-rows-requires
+    add-a
     loop-less
     loop-again
+    same-length
     returns)

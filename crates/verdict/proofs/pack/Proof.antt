@@ -1,3 +1,4 @@
+use mathlib.Core.Path.{refl}
 use borrow.Author.Needs.{needs}
 use Rattle.verdict.proofs.pack.Statement.{statement}
 use Rattle.verdict.proofs.pack.Tie as tie
@@ -21,10 +22,10 @@ add-result : tie.Need-add-result
 add-result c = search needs
 
 returns : tie.Need-returns
-returns c = search needs
+returns c = rw (c .enum-told .given .1) (refl, tt)
 
 returns-2 : tie.Need-returns-2
-returns-2 c = rw (c .before .verdict .given .1)
+returns-2 c = rw (c .before .verdict .given .1) (refl, search needs)
 
 pub pack-spec : {M : Type 1} → statement M
 pack-spec =

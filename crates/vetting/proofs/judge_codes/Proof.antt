@@ -9,8 +9,8 @@ use lib.ListN.{length, getD, take, drop}
 use borrow.Author.Tests.{le-leb, lt-leb, not-true, not-false}
 use Rattle.formula.specs.Table.{Table}
 use Rattle.encoding.specs.Parse.{fits-from}
-use Rattle.proofs.specs.ReadProof.{isCode}
-use Rattle.proofs.specs.ProofParts.{kindTable}
+use Rattle.proof_files.specs.ReadProof.{isCode}
+use Rattle.proof_files.specs.ProofParts.{kindTable}
 use Rattle.writing.specs.Ends.{next, stop}
 use Rattle.writing.specs.FieldEnds.{risingEnd}
 use Rattle.vetting.specs.StepLaws.{finds-stop, finds-next}

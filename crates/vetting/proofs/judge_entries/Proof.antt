@@ -21,17 +21,17 @@ loop-holds c = (omega arith, omega arith, entries-begin _ _ _ _)
 element-copy-out-kind : tie.Need-element-copy-out-kind Inv-loop μ-loop
 element-copy-out-kind c = search needs
 
+mul-second : tie.Need-mul-second Inv-loop μ-loop
+mul-second c = search needs
+
+element-copy-out-second : tie.Need-element-copy-out-second Inv-loop μ-loop
+element-copy-out-second c = search needs
+
 mul-entry-fits : tie.Need-mul-entry-fits Inv-loop μ-loop
 mul-entry-fits c = search needs
 
 element-copy-out-entry-fits : tie.Need-element-copy-out-entry-fits Inv-loop μ-loop
 element-copy-out-entry-fits c = search needs
-
-mul-entry-fits-2 : tie.Need-mul-entry-fits-2 Inv-loop μ-loop
-mul-entry-fits-2 c = search needs
-
-element-copy-out-entry-fits-2 : tie.Need-element-copy-out-entry-fits-2 Inv-loop μ-loop
-element-copy-out-entry-fits-2 c = search needs
 
 entry-fits-requires : tie.Need-entry-fits-requires Inv-loop μ-loop
 entry-fits-requires c κs = search needs
@@ -79,10 +79,10 @@ judge-entries-spec =
     μ-loop
     loop-holds
     element-copy-out-kind
+    mul-second
+    element-copy-out-second
     mul-entry-fits
     element-copy-out-entry-fits
-    mul-entry-fits-2
-    element-copy-out-entry-fits-2
     entry-fits-requires
     stop-requires
     returns

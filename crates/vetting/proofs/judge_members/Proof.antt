@@ -9,7 +9,7 @@ use lib.ListN.{length}
 use borrow.Author.Tests.{not-true, not-false}
 use Rattle.formula.specs.Members.{isFormula}
 use Rattle.encoding.specs.Parse.{fits-from}
-use Rattle.proofs.specs.ProofParts.{kindTable}
+use Rattle.proof_files.specs.ProofParts.{kindTable}
 use Rattle.vetting.specs.StepLaws.{finds-stop, finds-next}
 use Rattle.vetting.specs.WalkLaws.{RisingLeft, rising-begins, rising-stop, rising-on, rising-end}
 use Rattle.vetting.specs.KindTests.{may-follow-fits}

@@ -4,7 +4,7 @@ use native.Mathlib.Omega.{arith}
 use mathlib.Core.Path.{_≡_, refl, sym, ap, _∙_}
 use Prim.Native.Nat.{_-_, _≤_}
 use borrow.Author.Tests.{not-true, not-false}
-use Rattle.proofs.specs.ProofParts.{kindTable}
+use Rattle.proof_files.specs.ProofParts.{kindTable}
 use Rattle.vetting.specs.Steps.{shownStep}
 use Rattle.vetting.specs.StepLaws.{finds-stop, finds-next}
 use Rattle.vetting.specs.NodeWalk.{NodesLeft, nodes-begin, ends, nodes-stop, nodes-on, nodes-end, rule-unfit, links-unfit, node-fits}

@@ -6,7 +6,7 @@ use Prim.Native.Nat.{_≤_}
 use Rattle.verdict.specs.Shown.{shown}
 use Rattle.formula.specs.Table.{Table}
 use Rattle.formula.specs.Records.{NodeRecord}
-use Rattle.proofs.specs.ProofParts.{kindTable}
+use Rattle.proof_files.specs.ProofParts.{kindTable}
 use Rattle.tree.specs.Owners.{tree-judged}
 use Rattle.writing.specs.Ends.{stop}
 use Rattle.writing.specs.ProofEnds.{nodesOver, nodesEnd, proofEnd}

@@ -6,8 +6,8 @@ use Prim.Native.Nat.{ℕ}
 use lib.ListN.{length}
 use Rattle.verdict.specs.Lists.{valuesFrom-length}
 use Rattle.formula.specs.Records.{NodeRecord}
-use Rattle.proofs.specs.ProofFile.{encodeProof}
-use Rattle.proofs.specs.ProofParts.{kindTable, kindClaim}
+use Rattle.proof_files.specs.ProofFile.{encodeProof}
+use Rattle.proof_files.specs.ProofParts.{kindTable, kindClaim}
 use Rattle.writing.specs.Ends.{End, next}
 use Rattle.writing.specs.ProofEnds.{nodesOver}
 use Rattle.writing.specs.Encoded.{proofJudged, ProofPasses, proof-passes}

@@ -7,6 +7,7 @@ use lib.ListN.{length}
 use Rattle.formula.specs.Table.{Table}
 use Rattle.formula.specs.Plain.{tableOf, tableOf-length}
 use Rattle.claim_files.specs.ClaimFile.{encodeClaim}
+use Rattle.writing.specs.Spelling.{spelledClaim}
 use Rattle.writing.specs.Ends.{End, next}
 use Rattle.writing.specs.Encoded.{claimJudged, ClaimPasses, claim-passes}
 use Rattle.writing.specs.Held.{ClaimWritten}
@@ -26,7 +27,7 @@ module _ (s : tie.Start) where
   members = s .args .members .now
 
   abbrev file : List ℕ
-  file = encodeClaim (record { entries = table; members = members })
+  file = encodeClaim (spelledClaim table members)
 
   abbrev found : End
   found = claimJudged (s .args .count) table members

@@ -11,7 +11,7 @@ use Rattle.formula.specs.Table.{Table}
 use Rattle.formula.specs.Records.{NodeRecord}
 use Rattle.formula.specs.Plain.{tableOf, tableOf-length}
 use Rattle.encoding.specs.File.{refused}
-use Rattle.proofs.specs.ProofParts.{kindTable}
+use Rattle.proof_files.specs.ProofParts.{kindTable}
 use Rattle.writing.specs.Ends.{End, next, stop}
 use Rattle.writing.specs.Encoded.{claimJudged, claim-passes}
 use Rattle.writing.specs.Held.{recordsOf, ProofWritten}

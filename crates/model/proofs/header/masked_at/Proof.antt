@@ -4,7 +4,7 @@ use mathlib.Core.Bool.{true}
 use native.Mathlib.Omega.{arith}
 use lib.ListN.{getD}
 use borrow.Author.Tests.{not-true, not-false}
-use Rattle.model.specs.ReadModel.{map-fits}
+use Rattle.model_files.specs.ReadModel.{map-fits}
 use Rattle.model.specs.HeaderSteps.{masked-cut, masked-unfit, masked-plain}
 use borrow.Author.Needs.{needs}
 use Rattle.model.proofs.header.masked_at.Statement.{statement}

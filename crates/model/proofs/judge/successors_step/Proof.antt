@@ -7,8 +7,8 @@ use Prim.Native.Nat.{ℕ, suc, _+_, _-_, _≤_}
 use lib.ListN.{length, getD, drop}
 use Rattle.encoding.specs.Parse.{fault, times}
 use Rattle.encoding.specs.Walk.{Walking, walk-begins, walk-steps, walk-stops, walk-ends}
-use Rattle.model.specs.ReadModel.{successors}
-use Rattle.model.specs.StateSteps.{oneSuccessor, afterSuccessor, successor-cut, successor-low, successor-far, successor-fits}
+use Rattle.model_files.specs.ReadModel.{successors}
+use Rattle.model.specs.ListSteps.{oneSuccessor, afterSuccessor, successor-cut, successor-low, successor-far, successor-fits}
 use Rattle.model.proofs.judge.successors_step.Statement.{statement}
 use Rattle.model.proofs.judge.successors_step.Tie as tie
 

@@ -3,6 +3,8 @@ use mathlib.Core.Path.{_≡_, sym, subst, _∙_}
 use mathlib.Core.List.{List}
 use Prim.Native.Nat.{ℕ}
 use Rattle.encoding.specs.GotLaws.{fault-not-got}
+use Rattle.model_files.specs.ModelFile.{Form}
+use Rattle.model_files.specs.ReadModel.{formBy}
 use Rattle.model.specs.HeaderSteps.{HeaderTells}
 use Rattle.model.specs.declared.header.Header.{Header}
 use Rattle.model.specs.declared.header.Header.the-variants.{Read, Refused}
@@ -27,8 +29,11 @@ module _ (c : tie.After-header-at) where
   abbrev here : ℕ
   here = c .before .before .args .at
 
-  told : (r : Header) → c .header-at .result ≡ r → HeaderTells file here r
-  told r e = subst (HeaderTells file here) e (c .header-at .ensures)
+  abbrev form : Form
+  form = formBy (c .before .before .args .acts)
+
+  told : (r : Header) → c .header-at .result ≡ r → HeaderTells form file here r
+  told r e = subst (HeaderTells form file here) e (c .header-at .ensures)
 
 returns : tie.Need-returns
 returns c = told (c .before .before .before) (Read (c .before .mask .given .0 .0) (c .before .mask .given .0 .1 .0) (c .before .mask .given .0 .1 .1 .0)) (c .before .mask .given .1)

@@ -1,7 +1,7 @@
 -- in a good file the state count is there and in range
 use mathlib.Core.Path.{sym}
 use native.Mathlib.Omega.{arith}
-use Rattle.model.specs.Decoding.{good-long, good-many, good-counts}
+use Rattle.model.specs.FileDecoding.{good-long, good-many, good-counts}
 use Rattle.model.proofs.tables.state_count.Statement.{statement}
 use Rattle.model.proofs.tables.state_count.Tie as tie
 

@@ -1,0 +1,66 @@
+-- the proof by bytes, over a table: the first fault in the order of the bytes (30 to 34), or the decoding
+use mathlib.Core.List.{List, []}
+use mathlib.Core.Bool.{Bool, _&&_, _||_}
+use Prim.Native.Nat.{ℕ, _+_}
+use lib.Dec.{eqb, leb}
+use Rattle.formula.specs.Rule
+use Rattle.formula.specs.Table.{Table}
+use Rattle.formula.specs.Codes.{entryOf}
+use Rattle.formula.specs.Nodes.{Node, Proof}
+use Rattle.formula.specs.Claim.{Claim, Derivation}
+use Rattle.formula.specs.Fields.{hasPrincipal, hasFirst, hasSecond, hasBack, lowMap}
+use Rattle.encoding.specs.Parse.{Parser, seq, guard, via, part, byte, bytes, two, field, count, times, listed, rising}
+use Rattle.encoding.specs.File.{Reading, readFile}
+use Rattle.formula.specs.Members.{isFormula}
+use Rattle.proof_files.specs.ProofFile.{proofOpening, Links}
+
+-- the file ends early, or bytes follow
+abbrev pub early : ℕ
+early = 31
+
+-- map and rule
+abbrev pub rule-fits : ℕ × ℕ → Bool
+rule-fits p = leb (p .1) Rule.BACK && (eqb (p .0) (lowMap (p .1)) || eqb (p .0) (lowMap (p .1) + 16))
+
+-- the rule, and whether codes follow
+abbrev pub ruleOf : ℕ × ℕ → ℕ × Bool
+ruleOf p = (p .1, leb 16 (p .0))
+
+abbrev pub ruleByte : Parser (ℕ × Bool)
+ruleByte s at = via ruleOf (guard rule-fits 33 (bytes early)) s at
+
+abbrev pub fields : ℕ → Parser Links
+fields r s at =
+    seq (field early (hasPrincipal r)) (λ _. seq (field early (hasFirst r)) (λ _. seq (field early (hasSecond r)) (λ _. field early (hasBack r)))) s at
+
+abbrev pub isCode : Table → ℕ → Bool
+unfolding isFormula
+isCode t c = isFormula t (entryOf c)
+
+unfoldable pub sequent : Table → Parser (List ℕ)
+unfolding times isFormula
+sequent t s at = rising (count 24 32 (byte early)) (isCode t) 34 (two early) s at
+
+abbrev pub made : (ℕ × Bool) × (Links × List ℕ) → Node
+made w =
+    let v = w .1 .0 in
+    record { rule = w .0 .0; principal = v .0; first = v .1 .0; second = v .1 .1 .0; back = v .1 .1 .1; codes = w .1 .1 }
+
+unfoldable pub node : Table → Parser Node
+unfolding sequent
+node t s at = via made (seq ruleByte (λ h. seq (fields (h .0)) (λ _. part [] (h .1) (sequent t)))) s at
+
+unfoldable pub nodes : Table → Parser Proof
+unfolding times node
+nodes t s at = listed (count 1024 32 (two early)) (node t) s at
+
+abbrev pub derivationOf : Proof → Derivation
+derivationOf p = record { nodes = p }
+
+unfoldable pub body : Table → Parser Derivation
+unfolding nodes
+body t s at = via derivationOf (nodes t) s at
+
+unfoldable pub readProof : Claim → List ℕ → Reading Derivation
+unfolding readFile body
+readProof c s = readFile proofOpening 30 early (body (c .entries)) s

@@ -1,0 +1,20 @@
+// Proof files: their encoding, what 30 to 34 mean, the first fault in the order of the bytes, and that this is exact: in specs/. Here only the
+// numbers that code above goes by.
+
+// The first four bytes of a proof file.
+pub const PROOF_OPENING: [u8; 4] = *b"PRF1";
+
+// What the bytes of a proof earn.
+pub struct ProofFault;
+
+impl ProofFault {
+    pub const OPENING: u16 = 30;
+
+    pub const LENGTH: u16 = 31;
+
+    pub const COUNT: u16 = 32;
+
+    pub const RULE: u16 = 33;
+
+    pub const CODE: u16 = 34;
+}
