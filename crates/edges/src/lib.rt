@@ -66,7 +66,7 @@ fn edge_rows(marks: &[[u16; 64]; 64], used: u16, n: usize, rows: &mut [u64])
     }
 }
 
-// How many actions a map has.
+// How many actions a map has. It only helps to choose the quicker way, so no more is promised of it than the product there needs.
 fn actions_in(used: u16) -> usize
     ensures { λ r. ⌜ r ≤ 16 ⌝ }
 {
