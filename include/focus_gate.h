@@ -21,9 +21,18 @@ extern "C" {
 #define FOCUS_CODES 24576
 #define FOCUS_WORDS 256
 
-/* Output slices of these lengths are long enough for every claim and every proof. */
+/* The most goals of a claim. */
+#define FOCUS_GOALS 16
+
+/* Output slices of these lengths are long enough for every claim and every proof of
+ * FOCUS_FORM_ONE, so that none earns FOCUS_OUTPUT_SHORT. */
 #define FOCUS_CLAIM_BYTES 1592
 #define FOCUS_PROOF_BYTES 58374
+
+/* The same of FOCUS_FORM_SEVERAL; for so many goals 58,374 + 2 x goals bytes are enough
+ * for the proof. */
+#define FOCUS_GOALS_CLAIM_BYTES 2344
+#define FOCUS_GOALS_PROOF_BYTES 58406
 
 /* No model that is evaluated is longer: what a longer one earns lies within these
  * bytes and the first that follows. */
@@ -36,12 +45,19 @@ enum {
     FOCUS_PHASE_HOLDING = 2
 };
 
+/* The forms of a claim and its proof. The writer is told one; a reader goes by the
+ * openings, which must be of one form. */
+enum {
+    FOCUS_FORM_ONE = 1,    /* CLM1 and PRF1: one list of members, and node 0 is the root */
+    FOCUS_FORM_SEVERAL = 2 /* CLM2 and PRF2: 1 to 16 goals, and a tree with its root for each */
+};
+
 /* Refusals, with the place that comes with each in brackets. "Offset" counts the
  * bytes of that file from 0. */
 enum {
     FOCUS_SHORT_SLICE = 1,    /* a lent slice under its least length (0) */
 
-    FOCUS_CLAIM_OPENING = 10, /* wrong or short opening (0) */
+    FOCUS_CLAIM_OPENING = 10, /* wrong or short opening, or no form (0) */
     FOCUS_CLAIM_LENGTH = 11,  /* ends early (its length), or bytes follow (offset) */
     FOCUS_CLAIM_COUNT = 12,   /* a count out of range (its offset) */
     FOCUS_CLAIM_MAP = 13,     /* map or kind unfit (offset of the map) */
@@ -51,13 +67,13 @@ enum {
     FOCUS_ALTERNATION = 22,   /* a mu with a free nu, or a nu with a free mu (entry) */
     FOCUS_UNGUARDED = 23,     /* its own name without a box or diamond between (entry) */
 
-    FOCUS_PROOF_OPENING = 30, /* wrong or short opening (0) */
+    FOCUS_PROOF_OPENING = 30, /* wrong or short opening, or of another form than the claim (0) */
     FOCUS_PROOF_LENGTH = 31,  /* ends early (its length), or bytes follow (offset) */
     FOCUS_PROOF_COUNT = 32,   /* a count out of range (its offset) */
     FOCUS_PROOF_MAP = 33,     /* map or rule unfit (offset of the map) */
-    FOCUS_PROOF_MEMBER = 34,  /* not rising, out of range, or a name (its offset) */
-    FOCUS_CHILD = 35,         /* a bad child number (parent), or an orphan (itself) */
-    FOCUS_ROOT = 36,          /* the root is not the claim in focus (0) */
+    FOCUS_PROOF_MEMBER = 34,  /* code or root not rising, out of range, or a name (its offset) */
+    FOCUS_CHILD = 35,         /* a bad child number, a root's too (parent), or an orphan (itself) */
+    FOCUS_ROOT = 36,          /* a root is not its goal in focus (the root) */
     FOCUS_RULE = 37,          /* a rule not kept (node) */
     FOCUS_BACK_LINK = 38,     /* bad back link or other sequent (leaf) */
     FOCUS_LOOP = 39,          /* bad loop path: no focus, rule 8, or no rule 4 (leaf) */
@@ -74,7 +90,8 @@ enum {
     FOCUS_MODEL_MEMBER = 64,  /* a successor not rising or out of range (its offset) */
 
     FOCUS_OUTPUT_SHORT = 70,  /* an output slice shorter than the file (0) */
-    FOCUS_ACTION = 71         /* an action above 15, or a 0 written out in B (entry) */
+    FOCUS_ACTION = 71,        /* an action above 15, or a 0 written out in B (entry) */
+    FOCUS_GOAL_COUNT = 72     /* a goal count over 16 or zero (its offset) */
 };
 
 /* The two parts of an answer that is not 0. */
@@ -127,8 +144,9 @@ uint32_t focus_close(focus_gate *gate);
  * Else 2^32 + (50 or 52) x 65,536, and the gate is as it was. */
 uint64_t focus_take(focus_gate *gate);
 
-/* Judges a claim and proof on an open gate: 0, and it holds the tag; else the gate is as it was.
- * With 0 and 35 to 39 each slice begins with its decoding; beyond, and else, nothing is written. */
+/* Judges a claim and proof of either form on an open gate: 0, and it holds the tag; else the gate is
+ * as it was. With 0 and 35 to 39 each slice begins with its decoding, which has neither goals nor
+ * roots; beyond, and else, nothing is written. */
 uint32_t focus_present(focus_gate *gate, uint32_t tag,
                        const uint8_t *claim, size_t claim_len,
                        const uint8_t *proof, size_t proof_len,
@@ -144,26 +162,35 @@ uint64_t focus_evaluate(const uint8_t *claim, size_t claim_len,
                         focus_entry *entries, size_t entries_len,
                         uint64_t *words, size_t words_len);
 
-/* Judges a claim and proof without any gate: 0 for accepted.
+/* Judges a claim and proof of either form without any gate: 0 for accepted, each goal of the claim.
  * It writes nothing. */
 uint32_t focus_check(const uint8_t *claim, size_t claim_len,
                      const uint8_t *proof, size_t proof_len);
 
-/* Writes the claim of the first entry_count entries and of all members to the start of out and
- * answers its length. Else 2^32 + refusal x 65,536 + place, and nothing is written: 1; 12 to 14, 20
- * to 23 and 71 as that claim would earn them; 70. A field that the entry's kind does not have must
- * be 0, else 13; action 0 is never written out. Nothing is read beyond the counts, and nothing
- * written beyond the file. */
-uint64_t focus_write_claim(const focus_entry *entries, size_t entries_len, size_t entry_count,
+/* Writes the claim of that form, of the first entry_count entries and of all members to the start of
+ * out and answers its length. The members of the goals stand one after another, and goal_counts has
+ * how many each goal has: in FOCUS_FORM_ONE one number, members_len. Else 2^32 + refusal x 65,536 +
+ * place, and nothing is written: 1; 10 for any other form; 12 to 14, 20 to 23, 71 and 72 as that
+ * claim would earn them, 12 at the goal count (where FOCUS_FORM_ONE has its member count) if
+ * goal_counts do not add up to members_len; 70. A field that the entry's kind does not have must be 0,
+ * else 13; action 0 is never written out. Nothing is read beyond the counts, and nothing written
+ * beyond the file. */
+uint64_t focus_write_claim(uint8_t form,
+                           const focus_entry *entries, size_t entries_len, size_t entry_count,
+                           const uint16_t *goal_counts, size_t goals,
                            const uint16_t *members, size_t members_len,
                            uint8_t *out, size_t out_len);
 
 /* Writes the proof of the first node_count nodes likewise, each node's codes behind those of the
- * nodes before it. The claim's records are judged first, then 32 to 35 as the proof would earn them;
- * a field that the node's rule does not have must be 0, else 33. */
-uint64_t focus_write_proof(const focus_entry *entries, size_t entries_len, size_t entry_count,
+ * nodes before it; roots has the root of each goal's tree, and none in FOCUS_FORM_ONE. The claim's
+ * records are judged first, then 32 to 35 as the proof would earn them, 34 at 6 if there are other
+ * than so many roots; a field that the node's rule does not have must be 0, else 33. */
+uint64_t focus_write_proof(uint8_t form,
+                           const focus_entry *entries, size_t entries_len, size_t entry_count,
+                           const uint16_t *goal_counts, size_t goals,
                            const uint16_t *members, size_t members_len,
                            const focus_node *nodes, size_t nodes_len, size_t node_count,
+                           const uint16_t *roots, size_t roots_len,
                            const uint16_t *codes, size_t codes_len,
                            uint8_t *out, size_t out_len);
 

@@ -1,8 +1,8 @@
 #!/usr/bin/env bash
 # The examples that call the gate, built as their comments say: the loader gives a
 # permit for a good pair only, and the number and place of what a bad one earns; the
-# evaluation prints each entry's states; the writer makes the good pair's files of its
-# tables; the caller in Rust says what the loader says.
+# evaluation prints each entry's states; the writer makes the files of two good pairs of
+# its tables; the caller in Rust says what the loader says.
 set -euo pipefail
 cd "$(dirname "$0")/.."
 
@@ -90,6 +90,10 @@ pair slew
 granted 'a box and a diamond of one action' 7 "${files[@]}"
 pair slew-and-park
 denied 'a box and a diamond of two actions' 'refuse 37 at 0' "${files[@]}"
+pair two-goals
+granted 'two goals' 7 "${files[@]}"
+denied 'two goals with a proof of one' 'refuse 30 at 0' "${files[0]}" "$samples/nu-of-box/proof.bin"
+denied 'one goal with a proof of two' 'refuse 30 at 0' "$samples/nu-of-box/claim.bin" "${files[1]}"
 
 # The box of `slew` is entry 2, its action byte 18.
 pair slew
@@ -104,8 +108,13 @@ claim=${files[0]}
 proof=${files[1]}
 head -c 21 "$claim" >"$scratch/claim.bin"
 denied 'claim cut by a byte' 'refuse 11 at 21' "$scratch/claim.bin" "$proof"
+{ printf 'CLM3'; tail -c +5 "$claim"; } >"$scratch/claim.bin"
+denied 'claim of no form' 'refuse 10 at 0' "$scratch/claim.bin" "$proof"
+# As a claim of one goal it ends inside the members: their count is taken for that of the goals.
 { printf 'CLM2'; tail -c +5 "$claim"; } >"$scratch/claim.bin"
-denied 'claim of another form' 'refuse 10 at 0' "$scratch/claim.bin" "$proof"
+denied 'claim under another opening' 'refuse 11 at 22' "$scratch/claim.bin" "$proof"
+{ printf 'PRF2'; tail -c +5 "$proof"; } >"$scratch/proof.bin"
+denied 'proof under another opening' 'refuse 30 at 0' "$claim" "$scratch/proof.bin"
 { cat "$claim"; printf '\0'; } >"$scratch/claim.bin"
 denied 'claim with a byte more' 'refuse 11 at 22' "$scratch/claim.bin" "$proof"
 { head -c 6 "$proof"; printf '\200'; tail -c +8 "$proof"; } >"$scratch/proof.bin"
@@ -130,6 +139,7 @@ run 'nu of box on a circle' 0 $'entry 0, kind 10: 0\nentry 1, kind 7: 0\nentry 2
 run 'mu of box on a dead end' 0 $'entry 0, kind 10: 0 1\nentry 1, kind 7: 0 1\nentry 2, kind 8: 0 1' "$samples/mu-of-box/claim.bin" "$samples/evaluate/dead-end.bin"
 run 'a box and a diamond of two actions on a mount' 0 $'entry 0, kind 2: 0 2\nentry 1, kind 3: 1\nentry 2, kind 7, action 1: 1 2\nentry 3, kind 6, action 2:' "$samples/slew-and-park/claim.bin" "$samples/evaluate/mount.bin"
 run 'actions that an old model does not have' 0 $'entry 0, kind 2:\nentry 1, kind 3: 0\nentry 2, kind 7, action 1: 0\nentry 3, kind 6, action 1:' "$samples/slew/claim.bin" "$samples/evaluate/circle.bin"
+run 'a claim of two goals on a circle' 0 $'entry 0, kind 10: 0\nentry 1, kind 7: 0\nentry 2, kind 9: 0\nentry 3, kind 2:\nentry 4, kind 3: 0' "$samples/two-goals/claim.bin" "$samples/evaluate/circle.bin"
 run 'an unfit action in an evaluation' 1 'refuse 71 at 2' "$scratch/unfit.bin" "$samples/evaluate/mount.bin"
 run 'a proof in place of a model' 1 'refuse 60 at 0' "$samples/nu-of-box/claim.bin" "$samples/nu-of-box/proof.bin"
 
@@ -175,6 +185,11 @@ same 'the proof written over a longer file' "${made[1]}" "$samples/nu-of-box/pro
 program=loader
 granted 'the written pair' 7 "${made[@]}"
 program=writer
+lines=$'claim: 38 bytes\nproof: 49 bytes\ncheck: accept'
+run 'two goals from their tables' 0 "$lines" "${made[@]}" goals
+same 'the written claim of two goals' "${made[0]}" "$samples/two-goals/claim.bin"
+same 'the written proof of two goals' "${made[1]}" "$samples/two-goals/proof.bin"
+run 'a word that says nothing to the writer' 2 '' "${made[@]}" goal
 run 'a claim in a folder that is not there' 2 '' "$scratch/none/claim.bin" "${made[1]}"
 run 'a folder in place of a proof' 2 '' "${made[0]}" "$scratch"
 run 'a claim on a full disk' 2 '' /dev/full "${made[1]}"
@@ -184,6 +199,7 @@ run 'no arguments for the writer' 2 ''
 
 program=caller
 run 'a good pair from Rust' 0 'accept' "${files[@]}"
+run 'two goals from Rust' 0 'accept' "$samples/two-goals/claim.bin" "$samples/two-goals/proof.bin"
 run 'a cut proof from Rust' 1 'refuse 30 at 0' "$claim" /dev/null
 run 'a missing proof from Rust' 2 '' "$claim" "$scratch/none.bin"
 

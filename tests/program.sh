@@ -106,11 +106,41 @@ for claim in "$samples"/*/claim.bin; do
         twins) line='accept' ;;
         slew) line='accept' ;;
         slew-and-park) line='refuse 37 at 0' ;;
+        two-goals) line='accept' ;;
         *) line='(no line is written down for this sample)' ;;
     esac
     fresh "$sample"
     verdict "sample $sample" "$line"
 done
+
+# The two goals with one byte changed: their goal count is byte 26 of the claim, their roots are bytes 6 to 9 of the proof. The second
+# goal's first member is byte 34, the axiom that proves it node 2.
+changed() {
+    fresh two-goals
+    { head -c "$2" "$samples/two-goals/$1"; printf "$3"; tail -c +"$(($2 + 2))" "$samples/two-goals/$1"; } >"$work/$1"
+}
+for goals in '\0' '\21' '\377'; do
+    changed claim.bin 26 "$goals"
+    verdict "goal count $goals" 'refuse 72 at 26'
+done
+changed claim.bin 34 '\4'
+verdict 'members of the second goal that do not rise' 'refuse 14 at 36'
+changed claim.bin 34 '\2'
+verdict 'a goal that its root is not' 'refuse 36 at 2'
+changed proof.bin 8 '\0'
+verdict 'two roots that are one' 'refuse 34 at 8'
+changed proof.bin 8 '\5'
+verdict 'a root that is no node' 'refuse 34 at 8'
+changed proof.bin 8 '\3'
+verdict 'a root that is a child' 'refuse 35 at 1'
+changed proof.bin 29 '\6'
+verdict 'a root out of focus' 'refuse 36 at 2'
+fresh two-goals
+cp "$samples/nu-of-box/proof.bin" "$work"
+verdict 'two goals with a proof of one' 'refuse 30 at 0'
+fresh
+cp "$samples/two-goals/proof.bin" "$work"
+verdict 'one goal with a proof of two' 'refuse 30 at 0'
 
 fresh
 : >"$work/claim.bin"

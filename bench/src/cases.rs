@@ -2,7 +2,7 @@
 
 use crate::growth::Family;
 use reference::draft::{self, DraftNode};
-use reference::{corpus, Entry, Kind, Rule};
+use reference::{corpus, Decoded, Entry, Kind, Rule};
 use std::path::Path;
 
 pub struct Case {
@@ -28,8 +28,11 @@ pub fn checks() -> Vec<Case> {
             proof: record.proof.clone(),
         }
     };
+    let largest = named("largest accepted proof", largest);
+    let goals = six_goals(&largest);
     vec![
-        named("largest accepted proof", largest),
+        largest,
+        goals,
         many_loops(4, 120).1,
         named("small proof", small),
         named("early refusal", early),
@@ -39,6 +42,83 @@ pub fn checks() -> Vec<Case> {
 fn vectors() -> Vec<corpus::CheckRecord> {
     let file = Path::new(env!("CARGO_MANIFEST_DIR")).join("../tests/vectors/base/check.bin");
     corpus::read_checks(&std::fs::read(file).expect("the vectors")).expect("whole records")
+}
+
+/// The largest proof with its goal six times, in as many nodes. It leaves focus and
+/// comes back to it 404 times, and then goes round one loop. The first tree has that
+/// loop; the others share the steps out of focus and back, drop all members but the
+/// first, which is nu of box, and go round that one's loop.
+fn six_goals(largest: &Case) -> Case {
+    let decoded = reference::judge(&largest.claim, &largest.proof).decoded;
+    let Decoded { claim, proof } = decoded.expect("the largest is accepted");
+    let mut rest = proof.codes.as_slice();
+    let nodes = proof.nodes.iter().map(|node| {
+        let (codes, others) = rest.split_at(node.count.into());
+        rest = others;
+        DraftNode {
+            rule: node.rule,
+            principal: node.principal,
+            first: node.first,
+            second: node.second,
+            back: node.back,
+            codes: codes.to_vec(),
+        }
+    });
+    let nodes: Vec<DraftNode> = nodes.collect();
+    let d = nodes.iter().position(|node| node.rule == Rule::D);
+    let (steps, round) = nodes.split_at(d.expect("a loop begins"));
+    let sequent = &round[0].codes;
+    let mut trees = vec![[&round[..1], &steps[..2], round].concat()];
+    for _ in 1..6 {
+        let mut tree = steps[..134].to_vec();
+        for count in (2..=sequent.len()).rev() {
+            let dropped = sequent[count - 1];
+            tree.push(DraftNode::new(Rule::W, dropped, sequent[..count].to_vec()));
+        }
+        tree.extend(round_of_box(&claim.entries, sequent[0]));
+        trees.push(tree);
+    }
+    let roots = trees.iter().scan(0, |next, tree| {
+        let root = *next;
+        *next += tree.len() as u16;
+        Some(root)
+    });
+    let roots: Vec<u16> = roots.collect();
+    let mut nodes = trees.concat();
+    number(&mut nodes);
+    assert_eq!(nodes.len(), 1024);
+    let case = Case {
+        name: "the largest proof as six goals",
+        claim: draft::goal_claim(&claim.entries, &vec![claim.members.clone(); 6]).bytes,
+        proof: draft::goal_proof(&roots, &nodes).bytes,
+    };
+    assert_eq!(reference::check(&case.claim, &case.proof), 0);
+    case
+}
+
+/// D, nu, box and back, for the code of a nu of box over its own name.
+fn round_of_box(entries: &[Entry], code: u16) -> [DraftNode; 4] {
+    let boxed = focused(entries[usize::from(code / 2)].a);
+    let node = |rule, code| DraftNode::new(rule, code, vec![code]);
+    [
+        node(Rule::D, code),
+        node(Rule::Nu, code),
+        node(Rule::Box, boxed),
+        node(Rule::Back, code),
+    ]
+}
+
+/// Each node's child is the next one, and each leaf is linked to the last D before it.
+fn number(nodes: &mut [DraftNode]) {
+    let mut last = 0;
+    for (number, node) in nodes.iter_mut().enumerate() {
+        node.first = number as u16 + 1;
+        match node.rule {
+            Rule::D => last = number as u16,
+            Rule::Back => node.back = last,
+            _ => {}
+        }
+    }
 }
 
 /// Families by how many nodes: a tree of eleven levels that gets wider, and one

@@ -14,7 +14,8 @@ mod writings;
 
 use cases::Case;
 use evaluations::Evaluation;
-use gate_tests::lent::{Lengths, Lent, LentRecords, LentWords, RecordSlices, Slices, PROOF_BYTES};
+use gate_tests::lent::GOALS_PROOF_BYTES;
+use gate_tests::lent::{Lengths, Lent, LentRecords, LentWords, RecordSlices, Slices};
 use gate_tests::{Gate, Records};
 use numbering::Numbering;
 use std::hint::black_box;
@@ -155,7 +156,7 @@ fn written(case: &Writing) -> Row {
     let records = Records::from(&case.records);
     let mut lent = LentRecords::default();
     let mut slices = lent.lend(&records, Lengths::of(&records));
-    let mut out = vec![0; PROOF_BYTES];
+    let mut out = vec![0; GOALS_PROOF_BYTES];
     let length = write(case.call, &mut slices) as usize;
     assert_eq!(write_by_reference(case, &mut out), length as u64);
     assert_eq!(slices.out[..length], out[..length], "{}", case.name);
@@ -238,7 +239,7 @@ fn repeat_write(call: &str, name: &str, times: usize) {
     let records = Records::from(&case.records);
     let mut lent = LentRecords::default();
     let mut slices = lent.lend(&records, Lengths::of(&records));
-    let mut out = vec![0; PROOF_BYTES];
+    let mut out = vec![0; GOALS_PROOF_BYTES];
     for _ in 0..times {
         black_box(match call {
             "write" => write(case.call, &mut slices),

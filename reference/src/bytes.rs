@@ -4,35 +4,52 @@
 use crate::refusal::Refusal;
 use std::ops::RangeInclusive;
 
-/// One of the kinds of file. Their refusals run in parallel: 10, 30, 60 for the
-/// opening, then one number each for length, count, map and member.
-pub struct Form {
-    pub opening: [u8; 4],
+/// How a file opens. The refusals of claims, proofs and models run in parallel: 10,
+/// 30, 60 for the opening, then one number each for length, count, map and member.
+pub struct Opening {
+    pub letters: [u8; 4],
     pub number: u16,
 }
 
-pub const CLAIM: Form = Form {
-    opening: *b"CLM1",
+pub const CLAIM: Opening = Opening {
+    letters: *b"CLM1",
     number: 10,
 };
-pub const PROOF: Form = Form {
-    opening: *b"PRF1",
+/// A claim with several goals.
+pub const GOAL_CLAIM: Opening = Opening {
+    letters: *b"CLM2",
+    number: 10,
+};
+pub const PROOF: Opening = Opening {
+    letters: *b"PRF1",
     number: 30,
 };
-pub const MODEL: Form = Form {
-    opening: *b"MDL1",
+/// A proof with a tree for each goal.
+pub const GOAL_PROOF: Opening = Opening {
+    letters: *b"PRF2",
+    number: 30,
+};
+pub const MODEL: Opening = Opening {
+    letters: *b"MDL1",
     number: 60,
 };
 /// A model with lists of successors by action.
-pub const ACTION_MODEL: Form = Form {
-    opening: *b"MDL2",
+pub const ACTION_MODEL: Opening = Opening {
+    letters: *b"MDL2",
     number: 60,
 };
 
-/// What can be wrong with a file's bytes, as distance from the form's number.
+impl Opening {
+    /// "wrong or short opening of claim, proof, model (0)"
+    pub fn refusal(&self) -> Refusal {
+        Refusal::new(self.number, 0)
+    }
+}
+
+/// What else can be wrong with a file's bytes, as distance from its opening's
+/// number.
 #[derive(Clone, Copy)]
 pub enum Fault {
-    Opening = 0,
     Length = 1,
     Count = 2,
     Map = 3,
@@ -47,16 +64,20 @@ pub struct Cursor<'a> {
 
 impl<'a> Cursor<'a> {
     /// Starts after the opening; "wrong or short opening" is refused at 0.
-    pub fn open(bytes: &'a [u8], form: &Form) -> Result<Cursor<'a>, Refusal> {
-        let cursor = Cursor {
-            bytes,
-            at: form.opening.len(),
-            number: form.number,
-        };
-        if bytes.starts_with(&form.opening) {
-            Ok(cursor)
+    pub fn open(bytes: &'a [u8], opening: &Opening) -> Result<Cursor<'a>, Refusal> {
+        if bytes.starts_with(&opening.letters) {
+            Ok(Cursor::after(opening, bytes))
         } else {
-            Err(cursor.refusal(Fault::Opening, 0))
+            Err(opening.refusal())
+        }
+    }
+
+    /// Starts after an opening that is known to be there.
+    pub fn after(opening: &Opening, bytes: &'a [u8]) -> Cursor<'a> {
+        Cursor {
+            bytes,
+            at: opening.letters.len(),
+            number: opening.number,
         }
     }
 

@@ -16,7 +16,7 @@ pub struct Decoded {
 }
 
 /// A verdict with the records that go with it: "Refusals 1 to 34 ... write
-/// nothing to lent slices", nor does 71. "With 35 to 39, with acceptance ...
+/// nothing to lent slices", nor do 71 and 72. "With 35 to 39, with acceptance ...
 /// record slices hold the whole decoding".
 #[derive(Clone, Debug, PartialEq, Eq)]
 pub struct Judgement {
@@ -65,7 +65,7 @@ pub fn evaluate(claim: &[u8], model: &[u8]) -> Result<Vec<u64>, Refusal> {
 /// then proof or model by bytes"
 fn decode(claim: &[u8], proof: &[u8]) -> Result<Decoded, Refusal> {
     let claim = read_claim(claim)?;
-    let proof = Proof::read(proof, &claim.entries)?;
+    let proof = Proof::read(proof, &claim)?;
     Ok(Decoded { claim, proof })
 }
 

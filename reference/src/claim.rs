@@ -1,6 +1,8 @@
-//! The claim file: entries and members by their bytes (refusals 10 to 14).
+//! The claim file: entries and the members of each goal by their bytes (refusals 10
+//! to 14 and 72).
 
 use crate::bytes::{Cursor, Fault, CLAIM};
+use crate::goals::{Form, GOALS};
 use crate::refusal::Refusal;
 
 #[derive(Clone, Copy, Debug, PartialEq, Eq)]
@@ -114,8 +116,12 @@ impl Entry {
 
 #[derive(Clone, Debug, PartialEq, Eq)]
 pub struct Claim {
+    pub form: Form,
     pub entries: Vec<Entry>,
+    /// The members of all goals, one after another.
     pub members: Vec<u16>,
+    /// Where one goal's members end and the next one's begin.
+    splits: Vec<usize>,
     /// The first box or diamond with "a 0 written out in B", which its record does
     /// not tell.
     pub(crate) written_out: Option<usize>,
@@ -124,7 +130,8 @@ pub struct Claim {
 impl Claim {
     /// Reads a claim by its bytes alone; entries are judged by `formula`.
     pub fn read(bytes: &[u8]) -> Result<Claim, Refusal> {
-        let mut cursor = Cursor::open(bytes, &CLAIM)?;
+        let form = Form::of_claim(bytes).ok_or(CLAIM.refusal())?;
+        let mut cursor = Cursor::after(form.claim(), bytes);
         let count = cursor.count(1..=256)?;
         let mut entries = Vec::with_capacity(count);
         let mut written_out = None;
@@ -135,17 +142,50 @@ impl Claim {
             }
             entries.push(entry);
         }
-        let count = cursor.count(1..=24)?;
-        let mut members = Vec::with_capacity(count);
-        cursor.rising(count, &mut members, |member| {
-            may_be_member(&entries, member)
-        })?;
-        cursor.finish()?;
-        Ok(Claim {
+        let mut claim = Claim {
+            form,
             entries,
-            members,
+            members: Vec::new(),
+            splits: Vec::new(),
             written_out,
+        };
+        if form == Form::Several {
+            for _ in 1..goal_count(&mut cursor)? {
+                claim.read_goal(&mut cursor)?;
+                claim.splits.push(claim.members.len());
+            }
+        }
+        claim.read_goal(&mut cursor)?;
+        cursor.finish()?;
+        Ok(claim)
+    }
+
+    fn read_goal(&mut self, cursor: &mut Cursor) -> Result<(), Refusal> {
+        let count = cursor.count(1..=24)?;
+        self.members.reserve(count);
+        cursor.rising(count, &mut self.members, |member| {
+            may_be_member(&self.entries, member)
         })
+    }
+
+    /// The members of each goal.
+    pub fn goals(&self) -> impl Iterator<Item = &[u16]> {
+        let ends = self.splits.iter().copied().chain([self.members.len()]);
+        let mut start = 0;
+        ends.map(move |end| {
+            let goal = &self.members[start..end];
+            start = end;
+            goal
+        })
+    }
+}
+
+/// "72, goal count over 16 or zero, judged where it is read, place its offset"
+fn goal_count(cursor: &mut Cursor) -> Result<usize, Refusal> {
+    let place = cursor.offset();
+    match usize::from(cursor.two()?) {
+        count @ 1..=GOALS => Ok(count),
+        _ => Err(Refusal::new(72, place)),
     }
 }
 

@@ -3,7 +3,7 @@
 
 use reference::corpus::{self, CheckRecord, Damaged, EvalRecord};
 use reference::generate::{self, Tally};
-use reference::{check, describe, evaluate, Refusal, Written};
+use reference::{check, describe, evaluate, Form, Refusal, Written};
 use std::fmt::Write;
 
 pub const USAGE: &str = "usage:
@@ -77,7 +77,11 @@ pub fn generate_checks(seed: &str, count: &str, file: &str) -> Outcome {
         .take(number(count)? as usize)
         .collect();
     write(file, &corpus::write_checks(&records))?;
-    Ok(tally(records.iter().map(CheckRecord::number)))
+    let mut report = tally(records.iter().map(CheckRecord::number));
+    let several = |record: &&CheckRecord| record.form() == Some(Form::Several);
+    let goals = records.iter().filter(several).count();
+    let _ = writeln!(report.text, "of several goals {goals:4}");
+    Ok(report)
 }
 
 pub fn generate_evals(seed: &str, count: &str, file: &str) -> Outcome {

@@ -1,6 +1,7 @@
 //! Corpus files: records of inputs with the answer each must get. All numbers
 //! little-endian.
 
+use crate::goals::Form;
 use crate::refusal::Refusal;
 use crate::write::{EntryRecord, NodeRecord, Records, Written};
 use std::fmt;
@@ -27,6 +28,13 @@ impl CheckRecord {
     /// The refusal's number; 0 is acceptance.
     pub fn number(&self) -> u32 {
         self.answer >> 16
+    }
+
+    /// The form that claim and proof are opened in, where it is one.
+    pub fn form(&self) -> Option<Form> {
+        let form = Form::of_claim(&self.claim)?;
+        let opening = &form.proof().letters;
+        self.proof.starts_with(opening).then_some(form)
     }
 }
 
@@ -89,26 +97,30 @@ pub fn read_narrow_evals(bytes: &[u8]) -> Result<Vec<EvalRecord>, Damaged> {
     })
 }
 
-/// Form, goal counts and roots say nothing. "Entries, nodes and codes are to be
-/// lent at full length (256, 1,024, 24,576) or longer, filled up with anything".
+/// "Entries, nodes and codes are to be lent at full length (256, 1,024, 24,576) or
+/// longer, filled up with anything; members, goal counts and roots at just their
+/// length". A form has one byte in the calls.
 pub fn read_writes(bytes: &[u8]) -> Result<Vec<WriteRecord>, Damaged> {
     read_all(bytes, |reader| {
-        reader.four()?;
+        let form = u8::try_from(reader.four()?).ok()?;
         let entry_count = reader.size()?;
         let entries = reader.list(Reader::entry)?;
-        reader.list(Reader::two)?;
+        let goal_counts = reader.list(Reader::two)?;
         let members = reader.list(Reader::two)?;
         let node_count = reader.size()?;
         let nodes = reader.list(Reader::node)?;
-        reader.list(Reader::two)?;
+        let roots = reader.list(Reader::two)?;
         let codes = reader.list(Reader::two)?;
         Some(WriteRecord {
             records: Records {
+                form,
                 entries: filled(entries, 256, ANY_ENTRY),
                 entry_count,
+                goal_counts,
                 members,
                 nodes: filled(nodes, 1024, ANY_NODE),
                 node_count,
+                roots,
                 codes: filled(codes, 24_576, 0xfffe),
             },
             claim: reader.written()?,
@@ -297,28 +309,31 @@ mod tests {
         assert_eq!(record.number(), 63);
     }
 
-    /// A record without entries, members, nodes, codes, goal counts and roots.
-    fn of_nothing(claim: &[u8]) -> Vec<u8> {
+    /// A record of that form without entries, members, nodes, codes, goal counts and
+    /// roots.
+    fn of_nothing(form: u32, claim: &[u8]) -> Vec<u8> {
         let refusal: u64 = 1 << 32 | 32 << 16 | 4;
         let proof = [&refusal.to_le_bytes()[..], &[0; 4]].concat();
-        [&[0; 36], claim, &proof].concat()
+        [&form.to_le_bytes()[..], &[0; 32], claim, &proof].concat()
     }
 
     #[test]
     fn records_to_be_written_are_filled_up() {
         let claim = [2, 0, 0, 0, 0, 0, 0, 0, 2, 0, 0, 0, 8, 9];
-        let read = read_writes(&of_nothing(&claim)).expect("a whole record");
+        let read = read_writes(&of_nothing(2, &claim)).expect("a whole record");
         let [record] = &read[..] else {
             panic!("one record");
         };
         assert_eq!(record.claim, Ok(vec![8, 9]));
         assert_eq!(record.proof, Err(Refusal::new(32, 4)));
         let Records {
+            form,
             entries,
             nodes,
             codes,
             ..
         } = &record.records;
+        assert_eq!(*form, 2);
         assert_eq!(
             (entries.len(), nodes.len(), codes.len()),
             (256, 1024, 24_576)
@@ -330,7 +345,17 @@ mod tests {
         let claim = [3, 0, 0, 0, 0, 0, 0, 0, 2, 0, 0, 0, 8, 9];
         let offset = 36 + claim.len();
         let damaged = Damaged { record: 0, offset };
-        assert_eq!(read_writes(&of_nothing(&claim)), Err(damaged));
+        assert_eq!(read_writes(&of_nothing(1, &claim)), Err(damaged));
+    }
+
+    #[test]
+    fn a_form_of_more_than_a_byte_is_damage() {
+        let claim = [2, 0, 0, 0, 0, 0, 0, 0, 2, 0, 0, 0, 8, 9];
+        let damaged = Damaged {
+            record: 0,
+            offset: 4,
+        };
+        assert_eq!(read_writes(&of_nothing(256, &claim)), Err(damaged));
     }
 
     #[test]

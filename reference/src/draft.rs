@@ -1,8 +1,9 @@
 //! Lays down claim, proof and model files without judging them, and remembers
 //! where the fields lie, so that the generator can damage them on purpose.
 
-use crate::bytes::{Form, ACTION_MODEL, CLAIM, MODEL, PROOF};
+use crate::bytes::{Opening, ACTION_MODEL, MODEL};
 use crate::claim::{Entry, ACTIONS};
+use crate::goals::Form;
 use crate::proof::Rule;
 
 #[derive(Clone, Copy, Debug, PartialEq, Eq)]
@@ -10,9 +11,13 @@ pub enum Mark {
     Map,
     /// A state's map of actions.
     Actions,
+    /// A claim's goal count.
+    Goals,
     Count,
     Field,
     Member,
+    /// A root number.
+    Root,
 }
 
 /// A file's bytes, with the offset and width of every field.
@@ -23,9 +28,9 @@ pub struct File {
 }
 
 impl File {
-    fn new(form: &Form) -> File {
+    fn new(opening: &Opening) -> File {
         File {
-            bytes: form.opening.to_vec(),
+            bytes: opening.letters.to_vec(),
             marks: Vec::new(),
         }
     }
@@ -48,9 +53,9 @@ impl File {
         self.put(mark, &(field as u16).to_le_bytes());
     }
 
-    fn put_members(&mut self, members: &[u16]) {
-        for &member in members {
-            self.put_two(Mark::Member, member.into());
+    fn put_list(&mut self, mark: Mark, list: &[u16]) {
+        for &number in list {
+            self.put_two(mark, number.into());
         }
     }
 
@@ -65,6 +70,7 @@ impl File {
     }
 }
 
+/// The claim opened by `CLM1`.
 pub fn claim(entries: &[Entry], members: &[u16]) -> File {
     claim_written_out(entries, members, |_| false)
 }
@@ -75,7 +81,33 @@ pub fn claim_written_out(
     members: &[u16],
     written_out: impl Fn(usize) -> bool,
 ) -> File {
-    let mut file = File::new(&CLAIM);
+    let mut file = File::new(Form::One.claim());
+    put_entries(&mut file, entries, written_out);
+    put_goal(&mut file, members);
+    file
+}
+
+/// The claim opened by `CLM2`.
+pub fn goal_claim(entries: &[Entry], goals: &[Vec<u16>]) -> File {
+    goal_claim_written_out(entries, goals, |_| false)
+}
+
+/// The same with zeros written out.
+pub fn goal_claim_written_out(
+    entries: &[Entry],
+    goals: &[Vec<u16>],
+    written_out: impl Fn(usize) -> bool,
+) -> File {
+    let mut file = File::new(Form::Several.claim());
+    put_entries(&mut file, entries, written_out);
+    file.put_two(Mark::Goals, goals.len());
+    for members in goals {
+        put_goal(&mut file, members);
+    }
+    file
+}
+
+fn put_entries(file: &mut File, entries: &[Entry], written_out: impl Fn(usize) -> bool) {
     file.put_two(Mark::Count, entries.len());
     for (number, entry) in entries.iter().enumerate() {
         let map = match entry.kind.is_modal() && written_out(number) {
@@ -90,9 +122,11 @@ pub fn claim_written_out(
             file.put_two(Mark::Field, field.into());
         }
     }
+}
+
+fn put_goal(file: &mut File, members: &[u16]) {
     file.put_two(Mark::Count, members.len());
-    file.put_members(members);
-    file
+    file.put_list(Mark::Member, members);
 }
 
 /// A node before it is laid down; fields its rule lacks are ignored.
@@ -119,9 +153,24 @@ impl DraftNode {
     }
 }
 
+/// The proof opened by `PRF1`.
 pub fn proof(nodes: &[DraftNode]) -> File {
-    let mut file = File::new(&PROOF);
+    let mut file = File::new(Form::One.proof());
     file.put_two(Mark::Count, nodes.len());
+    put_nodes(&mut file, nodes);
+    file
+}
+
+/// The proof opened by `PRF2`.
+pub fn goal_proof(roots: &[u16], nodes: &[DraftNode]) -> File {
+    let mut file = File::new(Form::Several.proof());
+    file.put_two(Mark::Count, nodes.len());
+    file.put_list(Mark::Root, roots);
+    put_nodes(&mut file, nodes);
+    file
+}
+
+fn put_nodes(file: &mut File, nodes: &[DraftNode]) {
     for node in nodes {
         let low = node.rule.low_bits();
         let map = low | u8::from(!node.codes.is_empty()) << 4;
@@ -134,10 +183,9 @@ pub fn proof(nodes: &[DraftNode]) -> File {
         }
         if !node.codes.is_empty() {
             file.put(Mark::Count, &[node.codes.len() as u8]);
-            file.put_members(&node.codes);
+            file.put_list(Mark::Member, &node.codes);
         }
     }
-    file
 }
 
 /// A state before it is laid down; an empty list or mask has no field.
@@ -189,10 +237,10 @@ pub fn action_model(states: &[DraftState]) -> File {
 /// What follows a state's letters is put down by the function, if anything.
 fn model_of(
     states: &[DraftState],
-    form: &Form,
+    opening: &Opening,
     put_successors: impl Fn(&mut File, &DraftState),
 ) -> File {
-    let mut file = File::new(form);
+    let mut file = File::new(opening);
     file.put(Mark::Count, &[states.len() as u8]);
     for state in states {
         let map = file.bytes.len();

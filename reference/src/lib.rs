@@ -4,7 +4,8 @@
 //! definitions.
 //!
 //! The layers, from the bytes up:
-//! * `bytes`, `claim`, `proof`, `model` read files (refusals 10–14, 30–34, 60–64);
+//! * `goals` has the forms of claims and proofs, with one goal and with several;
+//! * `bytes`, `claim`, `proof`, `model` read files (refusals 10–14, 72, 30–34, 60–64);
 //! * `formula` judges entries (20–23, 71), `tree` child numbers (35);
 //! * `alike` tells which entries are the same formula, `sequent` reads codes by it;
 //! * `rules` and `loops` judge a decoded proof (36–39);
@@ -20,6 +21,7 @@ mod claim;
 mod evaluate;
 mod formula;
 mod gate;
+mod goals;
 mod loops;
 mod model;
 mod proof;
@@ -37,6 +39,7 @@ pub use alike::least_alike;
 pub use check::{check, evaluate, judge, Decoded, Judgement};
 pub use claim::{Claim, Entry, Kind, ACTIONS};
 pub use gate::Gate;
+pub use goals::{Form, GOALS};
 pub use model::Model;
 pub use proof::{Node, Proof, Rule};
 pub use refusal::{answer_wide, describe, describe_wide, Refusal};

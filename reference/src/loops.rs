@@ -3,19 +3,16 @@
 use crate::proof::{Proof, Rule};
 use crate::refusal::Refusal;
 use crate::sequent::{in_focus, Sequents};
+use crate::tree::Parents;
 
 pub struct Loops<'a> {
     proof: &'a Proof,
     sequents: &'a Sequents,
-    parents: &'a [Option<usize>],
+    parents: &'a Parents,
 }
 
 impl<'a> Loops<'a> {
-    pub fn new(
-        proof: &'a Proof,
-        sequents: &'a Sequents,
-        parents: &'a [Option<usize>],
-    ) -> Loops<'a> {
+    pub fn new(proof: &'a Proof, sequents: &'a Sequents, parents: &'a Parents) -> Loops<'a> {
         Loops {
             proof,
             sequents,
@@ -33,7 +30,7 @@ impl<'a> Loops<'a> {
     }
 
     fn is_proper_ancestor(&self, link: usize, leaf: usize) -> bool {
-        std::iter::successors(self.parents[leaf], |&node| self.parents[node])
+        std::iter::successors(self.parents.of(leaf), |&node| self.parents.of(node))
             .take_while(|&node| node >= link)
             .any(|node| node == link)
     }
@@ -71,7 +68,7 @@ impl<'a> Loops<'a> {
             if at == companion {
                 return boxed;
             }
-            match self.parents[at] {
+            match self.parents.of(at) {
                 Some(parent) => at = parent,
                 None => return false,
             }

@@ -24,9 +24,9 @@ impl Model {
 
     /// The same, with the successors by these actions alone: bit n for action n.
     pub fn read_for(bytes: &[u8], wanted: u16) -> Result<Model, Refusal> {
-        let by_action = bytes.starts_with(&ACTION_MODEL.opening);
-        let form = if by_action { &ACTION_MODEL } else { &MODEL };
-        let mut cursor = Cursor::open(bytes, form)?;
+        let by_action = bytes.starts_with(&ACTION_MODEL.letters);
+        let opening = if by_action { &ACTION_MODEL } else { &MODEL };
+        let mut cursor = Cursor::open(bytes, opening)?;
         let states = cursor.small_count(1..=64)?;
         let mut model = Model {
             states,

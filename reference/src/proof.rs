@@ -1,7 +1,9 @@
-//! The proof file: nodes and their sequents by their bytes (refusals 30 to 34).
+//! The proof file: roots, nodes and their sequents by their bytes (refusals 30 to
+//! 34).
 
-use crate::bytes::{Cursor, Fault, PROOF};
-use crate::claim::{may_be_member, Entry, Kind};
+use crate::bytes::{Cursor, Fault};
+use crate::claim::{may_be_member, Claim, Entry, Kind};
+use crate::goals::Form;
 use crate::refusal::Refusal;
 
 #[derive(Clone, Copy, Debug, PartialEq, Eq)]
@@ -95,23 +97,25 @@ impl Node {
 /// without gaps"
 #[derive(Clone, Debug, PartialEq, Eq)]
 pub struct Proof {
+    /// The root numbers that the file has: none in the form with one goal.
+    pub named_roots: Vec<u16>,
     pub nodes: Vec<Node>,
     pub codes: Vec<u16>,
-    /// Where each node's codes begin.
-    starts: Vec<usize>,
 }
 
 impl Proof {
-    pub fn read(bytes: &[u8], entries: &[Entry]) -> Result<Proof, Refusal> {
-        let mut cursor = Cursor::open(bytes, &PROOF)?;
+    /// "A pair of unlike forms gets 30", like any opening but the one that goes with
+    /// the claim's.
+    pub fn read(bytes: &[u8], claim: &Claim) -> Result<Proof, Refusal> {
+        let mut cursor = Cursor::open(bytes, claim.form.proof())?;
         let count = cursor.count(1..=1024)?;
         let mut proof = Proof {
+            named_roots: read_roots(&mut cursor, claim, count)?,
             nodes: Vec::with_capacity(count),
             codes: Vec::with_capacity((bytes.len() / 2).min(24 * count)),
-            starts: Vec::with_capacity(count),
         };
         for _ in 0..count {
-            proof.read_node(&mut cursor, entries)?;
+            proof.read_node(&mut cursor, &claim.entries)?;
         }
         cursor.finish()?;
         Ok(proof)
@@ -131,7 +135,6 @@ impl Proof {
             back: cursor.two_if(map & 8 != 0)?,
             count: 0,
         };
-        self.starts.push(self.codes.len());
         if map & 0x10 != 0 {
             let count = cursor.small_count(1..=24)?;
             node.count = count as u8;
@@ -143,9 +146,32 @@ impl Proof {
         Ok(())
     }
 
-    /// The codes of a node, strictly rising.
-    pub(crate) fn sequent(&self, node: usize) -> &[u16] {
-        let start = self.starts[node];
-        &self.codes[start..start + usize::from(self.nodes[node].count)]
+    /// The root of each goal's tree.
+    pub fn roots(&self) -> &[u16] {
+        match self.named_roots.is_empty() {
+            true => &[0],
+            false => &self.named_roots,
+        }
     }
+
+    /// The codes of each node, strictly rising.
+    pub(crate) fn sequents(&self) -> impl Iterator<Item = &[u16]> {
+        let mut rest = &self.codes[..];
+        self.nodes.iter().map(move |node| {
+            let (codes, others) = rest.split_at(node.count.into());
+            rest = others;
+            codes
+        })
+    }
+}
+
+/// "as many strictly rising root numbers" as there are goals; "a root list that
+/// isn't rising or in range gets 34"
+fn read_roots(cursor: &mut Cursor, claim: &Claim, nodes: usize) -> Result<Vec<u16>, Refusal> {
+    let mut roots = Vec::new();
+    if claim.form == Form::Several {
+        let goals = claim.goals().count();
+        cursor.rising(goals, &mut roots, |root| usize::from(root) < nodes)?;
+    }
+    Ok(roots)
 }

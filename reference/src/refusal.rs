@@ -5,7 +5,7 @@ use std::fmt;
 /// A refusal number and its place.
 ///
 /// Places of claims and proofs fit two bytes: the longest that a reader walks to
-/// its end has 58,374 bytes, and entries and nodes are fewer. A model has up to
+/// its end has 58,406 bytes, and entries and nodes are fewer. A model has up to
 /// 67,013 bytes, so an evaluation's do not.
 #[derive(Clone, Copy, Debug, PartialEq, Eq)]
 pub struct Refusal {

@@ -1,4 +1,4 @@
-//! The root and the rules, judged on a decoded proof (refusals 36 and 37, with
+//! The roots and the rules, judged on a decoded proof (refusals 36 and 37, with
 //! the loops' 38 and 39 in their order). Everything here goes by members, which
 //! are compared by formula; the codes of the file are not looked at again.
 
@@ -14,16 +14,19 @@ use crate::sequent::{
 use crate::tree;
 
 /// "35 by rising parent ..., then by rising orphan; 36; 37 or 38 by rising
-/// node; 39 by rising leaf." The entries have passed 20 to 23.
+/// node; 39 by rising leaf." T-05: "Refusal 36 gives the root's number as its
+/// place." The entries have passed 20 to 23.
 pub fn judge(claim: &Claim, proof: &Proof) -> Result<(), Refusal> {
-    let parents = tree::parents(&proof.nodes)?;
+    let parents = tree::parents(&proof.nodes, proof.roots())?;
     let least = least_alike(&claim.entries);
     let sequents = Sequents::read(proof, &least);
-    if !root_is_claim(claim, &least, &sequents) {
-        return Err(Refusal::new(36, 0));
+    let mut rules = Rules::new(&claim.entries, &least, &sequents);
+    for (goal, &root) in claim.goals().zip(proof.roots()) {
+        if !rules.root_is_goal(root, goal) {
+            return Err(Refusal::new(36, root.into()));
+        }
     }
     let loops = Loops::new(proof, &sequents, &parents);
-    let mut rules = Rules::new(&claim.entries, &least, &sequents);
     for (number, node) in proof.nodes.iter().enumerate() {
         if node.rule == Rule::Back {
             if !loops.has_companion(number) {
@@ -36,20 +39,12 @@ pub fn judge(claim: &Claim, proof: &Proof) -> Result<(), Refusal> {
     loops.judge_paths()
 }
 
-/// "The root's members are the claim's, all in focus."
-fn root_is_claim(claim: &Claim, least: &[u16], sequents: &Sequents) -> bool {
-    let mut claimed = Vec::with_capacity(24);
-    let codes = claim.members.iter().map(|&entry| focused(entry));
-    members(least, codes, &mut claimed);
-    sequents.of(0) == claimed
-}
-
 struct Rules<'a> {
     entries: &'a [Entry],
     /// For each entry the least that is the same formula.
     least: &'a [u16],
     sequents: &'a Sequents,
-    /// The sequent a child must have, kept to spare an allocation per node.
+    /// The sequent a root or child must have, kept to spare an allocation for each.
     wanted: Vec<u16>,
 }
 
@@ -65,6 +60,13 @@ impl<'a> Rules<'a> {
 
     fn entry(&self, member: u16) -> Entry {
         self.entries[entry_of(member)]
+    }
+
+    /// "The root's members are the claim's, all in focus", or the members of its goal.
+    fn root_is_goal(&mut self, root: u16, goal: &[u16]) -> bool {
+        let codes = goal.iter().map(|&entry| focused(entry));
+        members(self.least, codes, &mut self.wanted);
+        self.sequents.of(root.into()) == self.wanted
     }
 
     fn kept(&mut self, number: usize, node: &Node) -> bool {

@@ -69,8 +69,8 @@ impl Sequents {
         };
         let mut set = Vec::with_capacity(24);
         sequents.bounds.push(0);
-        for node in 0..proof.nodes.len() {
-            members(least, proof.sequent(node).iter().copied(), &mut set);
+        for codes in proof.sequents() {
+            members(least, codes.iter().copied(), &mut set);
             sequents.members.extend_from_slice(&set);
             sequents.bounds.push(sequents.members.len());
         }

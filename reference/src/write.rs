@@ -1,10 +1,11 @@
 //! The writer: judges the records of a claim or a proof, with the number and
 //! place that a reader would give for their file, and lays its bytes down in a
-//! lent slice (refusals 1, 12 to 14, 20 to 23, 71, 32 to 35 and 70).
+//! lent slice (refusals 1, 10, 12 to 14, 72, 20 to 23, 71, 32 to 35 and 70).
 
-use crate::bytes::{Fault, Form, CLAIM, PROOF};
+use crate::bytes::{Fault, Opening};
 use crate::claim::{may_be_member, Entry, Kind};
 use crate::formula;
+use crate::goals::{Form, GOALS};
 use crate::proof::{Node, Rule};
 use crate::refusal::Refusal;
 use crate::tree;
@@ -14,11 +15,17 @@ const ENTRIES: usize = 256;
 const NODES: usize = 1024;
 const CODES: usize = MEMBERS * NODES;
 
-/// The most members of a claim, and codes of a node.
+/// The most members of a goal, and codes of a node.
 const MEMBERS: usize = 24;
 
+/// No file is longer: "an accepted proof never needs over 58,374 bytes", and one of
+/// several goals two more for each.
+const FILE: usize = 58_374 + 2 * GOALS;
+
 const SHORT_SLICE: u16 = 1;
+const NO_FORM: u16 = 10;
 const SHORT_OUTPUT: u16 = 70;
+const GOAL_COUNT: u16 = 72;
 
 /// An entry as a caller's table holds it; each field is any number.
 #[derive(Clone, Copy, Debug, PartialEq, Eq)]
@@ -39,28 +46,34 @@ pub struct NodeRecord {
     pub count: u8,
 }
 
-/// "entry and node counts are numbers given beside the slices, and the count of
-/// a claim's members is the length of their slice"
+/// "entry and node counts are numbers given beside the slices". T-05: "The writer is
+/// from now on told the form", and it "is given a slice of the goals' member counts,
+/// the members one after another in a slice". Each of them is any number.
 #[derive(Clone, Copy, Debug)]
 pub struct ClaimRecords<'a> {
+    pub form: u8,
     pub entries: &'a [EntryRecord],
     pub entry_count: usize,
+    pub goal_counts: &'a [u16],
     pub members: &'a [u16],
 }
 
-/// The codes of a node follow those of the nodes before it.
+/// The codes of a node follow those of the nodes before it. In the form with one
+/// goal there are no roots.
 #[derive(Clone, Copy, Debug)]
 pub struct ProofRecords<'a> {
     pub nodes: &'a [NodeRecord],
     pub node_count: usize,
+    pub roots: &'a [u16],
     pub codes: &'a [u16],
 }
 
 /// The length of the claim's file. "No refusal of the writer writes a byte."
 pub fn write_claim(claim: ClaimRecords, out: &mut [u8]) -> Result<usize, Refusal> {
     long_enough(claim.entries.len() >= ENTRIES)?;
-    let (entries, length) = judge_claim(claim)?;
-    lay_claim(&entries, claim.members, room(out, length)?);
+    let form = form_of(claim)?;
+    let (entries, length) = judge_claim(form, claim)?;
+    lay_claim(form, claim, &entries, room(out, length)?);
     Ok(length)
 }
 
@@ -73,9 +86,11 @@ pub fn write_proof(
 ) -> Result<usize, Refusal> {
     let short = claim.entries.len() < ENTRIES;
     long_enough(!short && proof.nodes.len() >= NODES && proof.codes.len() >= CODES)?;
-    let (entries, _) = judge_claim(claim)?;
-    let (nodes, length) = judge_proof(proof, &entries)?;
-    lay_proof(&nodes, proof.codes, room(out, length)?);
+    let form = form_of(claim)?;
+    let (entries, _) = judge_claim(form, claim)?;
+    let goals = claim.goal_counts.len();
+    let (nodes, length) = judge_proof(form, goals, proof, &entries)?;
+    lay_proof(form, proof, &nodes, room(out, length)?);
     Ok(length)
 }
 
@@ -100,9 +115,14 @@ fn room(out: &mut [u8], length: usize) -> Result<&mut [u8], Refusal> {
     out.get_mut(..length).ok_or(Refusal::new(SHORT_OUTPUT, 0))
 }
 
+/// A number that is no form is refused as an opening that is none.
+fn form_of(claim: ClaimRecords) -> Result<Form, Refusal> {
+    Form::from_number(claim.form).ok_or(Refusal::new(NO_FORM, 0))
+}
+
 /// The entries, and the length of their file.
-fn judge_claim(claim: ClaimRecords) -> Result<(Vec<Entry>, usize), Refusal> {
-    let mut walk = Walk::after_opening(&CLAIM);
+fn judge_claim(form: Form, claim: ClaimRecords) -> Result<(Vec<Entry>, usize), Refusal> {
+    let mut walk = Walk::after(form.claim());
     walk.count(claim.entry_count, ENTRIES, 2)?;
     let mut entries = Vec::with_capacity(claim.entry_count);
     for record in &claim.entries[..claim.entry_count] {
@@ -110,16 +130,54 @@ fn judge_claim(claim: ClaimRecords) -> Result<(Vec<Entry>, usize), Refusal> {
         walk.head(entry.map());
         entries.push(entry);
     }
-    walk.count(claim.members.len(), MEMBERS, 2)?;
-    walk.rising(claim.members, |member| may_be_member(&entries, member))?;
+    judge_goal_counts(form, claim, &mut walk)?;
+    let mut rest = claim.members;
+    for &count in claim.goal_counts {
+        let (members, others) = rest.split_at(count.into());
+        walk.count(members.len(), MEMBERS, 2)?;
+        walk.rising(members, |member| may_be_member(&entries, member))?;
+        rest = others;
+    }
     formula::judge(&entries)?;
     Ok((entries, walk.at))
 }
 
+/// The goal count, and the members "in a slice as long as these add up to (else 12
+/// at the goal count, after 72)". In the form with one goal no goal count is read,
+/// and the one member count is the length of the members' slice: what says anything
+/// else is 12 where that count stands.
+fn judge_goal_counts(form: Form, claim: ClaimRecords, walk: &mut Walk) -> Result<(), Refusal> {
+    let (counts, members) = (claim.goal_counts, claim.members.len());
+    let add_up = match form {
+        Form::One => matches!(counts, &[count] if usize::from(count) == members),
+        Form::Several if (1..=GOALS).contains(&counts.len()) => {
+            counts
+                .iter()
+                .map(|&count| usize::from(count))
+                .sum::<usize>()
+                == members
+        }
+        Form::Several => return Err(Refusal::new(GOAL_COUNT, walk.at)),
+    };
+    if !add_up {
+        return Err(walk.refusal(Fault::Count));
+    }
+    if form == Form::Several {
+        walk.at += 2;
+    }
+    Ok(())
+}
+
 /// The nodes, and the length of their file.
-fn judge_proof(proof: ProofRecords, entries: &[Entry]) -> Result<(Vec<Node>, usize), Refusal> {
-    let mut walk = Walk::after_opening(&PROOF);
+fn judge_proof(
+    form: Form,
+    goals: usize,
+    proof: ProofRecords,
+    entries: &[Entry],
+) -> Result<(Vec<Node>, usize), Refusal> {
+    let mut walk = Walk::after(form.proof());
     walk.count(proof.node_count, NODES, 2)?;
+    judge_roots(form, goals, proof, &mut walk)?;
     let mut nodes = Vec::with_capacity(proof.node_count);
     let mut rest = proof.codes;
     for record in &proof.nodes[..proof.node_count] {
@@ -133,8 +191,30 @@ fn judge_proof(proof: ProofRecords, entries: &[Entry]) -> Result<(Vec<Node>, usi
         }
         nodes.push(node);
     }
-    tree::parents(&nodes)?;
+    let roots = match form {
+        Form::One => &[0],
+        Form::Several => proof.roots,
+    };
+    tree::parents(&nodes, roots)?;
     Ok((nodes, walk.at))
+}
+
+/// "the roots in a slice as long as the goal count (else 34 where the roots begin)";
+/// in the form with one goal there are none.
+fn judge_roots(
+    form: Form,
+    goals: usize,
+    proof: ProofRecords,
+    walk: &mut Walk,
+) -> Result<(), Refusal> {
+    let wanted = match form {
+        Form::One => 0,
+        Form::Several => goals,
+    };
+    if proof.roots.len() != wanted {
+        return Err(walk.refusal(Fault::Member));
+    }
+    walk.rising(proof.roots, |root| usize::from(root) < proof.node_count)
 }
 
 impl EntryRecord {
@@ -198,10 +278,10 @@ struct Walk {
 }
 
 impl Walk {
-    fn after_opening(form: &Form) -> Walk {
+    fn after(opening: &Opening) -> Walk {
         Walk {
-            number: form.number,
-            at: form.opening.len(),
+            number: opening.number,
+            at: opening.letters.len(),
         }
     }
 
@@ -237,24 +317,33 @@ impl Walk {
     }
 }
 
-fn lay_claim(entries: &[Entry], members: &[u16], file: &mut [u8]) {
+fn lay_claim(form: Form, claim: ClaimRecords, entries: &[Entry], file: &mut [u8]) {
     let mut pen = Pen { file, at: 0 };
-    pen.put(CLAIM.opening);
+    pen.put(form.claim().letters);
     pen.two(entries.len() as u16);
     for entry in entries {
         let map = entry.map();
         pen.put([map, entry.kind as u8]);
         pen.fields(map, [entry.a, entry.b]);
     }
-    pen.two(members.len() as u16);
-    pen.list(members);
+    if form == Form::Several {
+        pen.two(claim.goal_counts.len() as u16);
+    }
+    let mut rest = claim.members;
+    for &count in claim.goal_counts {
+        let (members, others) = rest.split_at(count.into());
+        pen.two(count);
+        pen.list(members);
+        rest = others;
+    }
 }
 
-fn lay_proof(nodes: &[Node], codes: &[u16], file: &mut [u8]) {
+fn lay_proof(form: Form, proof: ProofRecords, nodes: &[Node], file: &mut [u8]) {
     let mut pen = Pen { file, at: 0 };
-    let mut rest = codes;
-    pen.put(PROOF.opening);
+    let mut rest = proof.codes;
+    pen.put(form.proof().letters);
     pen.two(nodes.len() as u16);
+    pen.list(proof.roots);
     for node in nodes {
         let map = node.rule.low_bits();
         let bit = u8::from(node.count > 0) << 4;
@@ -305,11 +394,14 @@ impl Pen<'_> {
 /// lies beyond the counts says nothing.
 #[derive(Clone, Debug, PartialEq, Eq)]
 pub struct Records {
+    pub form: u8,
     pub entries: Vec<EntryRecord>,
     pub entry_count: usize,
+    pub goal_counts: Vec<u16>,
     pub members: Vec<u16>,
     pub nodes: Vec<NodeRecord>,
     pub node_count: usize,
+    pub roots: Vec<u16>,
     pub codes: Vec<u16>,
 }
 
@@ -319,8 +411,10 @@ pub type Written = Result<Vec<u8>, Refusal>;
 impl Records {
     pub fn claim(&self) -> ClaimRecords<'_> {
         ClaimRecords {
+            form: self.form,
             entries: &self.entries,
             entry_count: self.entry_count,
+            goal_counts: &self.goal_counts,
             members: &self.members,
         }
     }
@@ -329,6 +423,7 @@ impl Records {
         ProofRecords {
             nodes: &self.nodes,
             node_count: self.node_count,
+            roots: &self.roots,
             codes: &self.codes,
         }
     }
@@ -342,9 +437,8 @@ impl Records {
     }
 }
 
-/// "an accepted proof never needs over 58,374 bytes", and a claim far fewer.
 fn in_room(write: impl Fn(&mut [u8]) -> Result<usize, Refusal>) -> Written {
-    let mut out = vec![0; 58_374];
+    let mut out = vec![0; FILE];
     let length = write(&mut out)?;
     out.truncate(length);
     Ok(out)

@@ -96,7 +96,15 @@ fn noise_is_refused() {
     let mut rng = Rng::new(42);
     for length in 0..400 {
         let noise: Vec<u8> = (0..length).map(|_| rng.word() as u8).collect();
-        for opening in [&b"CLM1"[..], b"PRF1", b"MDL1", b"MDL2", b""] {
+        for opening in [
+            &b"CLM1"[..],
+            b"CLM2",
+            b"PRF1",
+            b"PRF2",
+            b"MDL1",
+            b"MDL2",
+            b"",
+        ] {
             let file = [opening, &noise].concat();
             assert!(reference::check(&file, &file) != 0);
             assert!(evaluate(&file, &file).is_err());

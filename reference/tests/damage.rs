@@ -25,6 +25,7 @@ fn evaluated(claim: &[u8], model: &[u8]) -> String {
     describe_wide(answer_wide(&evaluate(claim, model)))
 }
 
+/// In both forms.
 #[test]
 fn every_cut_of_good_files() {
     let mut models = generate::models(31);
@@ -81,35 +82,40 @@ fn rule_fits(map: u8, rule: u8) -> bool {
 
 #[test]
 fn every_map_with_every_kind() {
-    for map in 0..=255 {
-        for kind in 0..=255 {
-            let claim = [b"CLM1", &[1, 0, map, kind][..]].concat();
-            let fields = usize::from(map & 1) + usize::from(map >> 1 & 1);
-            let answer = checked(&[&claim[..], &[0].repeat(2 * fields)].concat(), b"");
-            match kind_fits(map, kind) {
-                true => assert_eq!(answer, refusal(11, 8 + 2 * fields)),
-                false => assert_eq!(answer, "refuse 13 at 6"),
-            }
+    for (opening, pair) in [b"CLM1", b"CLM2"]
+        .into_iter()
+        .flat_map(|opening| (0..=u16::MAX).map(move |pair| (opening, pair)))
+    {
+        let [map, kind] = pair.to_le_bytes();
+        let claim = [opening, &[1, 0, map, kind][..]].concat();
+        let fields = usize::from(map & 1) + usize::from(map >> 1 & 1);
+        let answer = checked(&[&claim[..], &[0].repeat(2 * fields)].concat(), b"");
+        match kind_fits(map, kind) {
+            true => assert_eq!(answer, refusal(11, 8 + 2 * fields)),
+            false => assert_eq!(answer, "refuse 13 at 6"),
         }
     }
 }
 
 #[test]
 fn every_map_with_every_rule() {
-    for map in 0..=255 {
-        for rule in 0..=255 {
-            let proof = [b"PRF1", &[1, 0, map, rule][..]].concat();
-            let answer = checked(TRUTH, &proof);
+    for pair in 0..=u16::MAX {
+        let [map, rule] = pair.to_le_bytes();
+        let one = [b"PRF1", &[1, 0, map, rule][..]].concat();
+        let several = [b"PRF2", &[1, 0, 0, 0, map, rule][..]].concat();
+        for (claim, proof, at) in [(TRUTH, one, 6), (TRUE_GOAL, several, 8)] {
+            let answer = checked(claim, &proof);
             match rule_fits(map, rule) {
                 true if map == 0 => assert_eq!(answer, "refuse 36 at 0"),
-                true => assert_eq!(answer, "refuse 31 at 8"),
-                false => assert_eq!(answer, "refuse 33 at 6"),
+                true => assert_eq!(answer, refusal(31, at + 2)),
+                false => assert_eq!(answer, refusal(33, at)),
             }
         }
     }
 }
 
 const TRUTH: &[u8] = b"CLM1\x01\x00\x00\x01\x01\x00\x00\x00";
+const TRUE_GOAL: &[u8] = b"CLM2\x01\x00\x00\x01\x01\x00\x01\x00\x00\x00";
 
 #[test]
 fn every_map_of_a_state() {
@@ -252,6 +258,7 @@ fn the_longest_model() {
             Mark::Count => refusal(61, model.len()),
             // As it was.
             Mark::Field | Mark::Actions => "accept".to_string(),
+            Mark::Goals | Mark::Root => panic!("no mark of a model"),
         };
         assert_eq!(evaluated(TRUTH, &broken), expected, "{mark:?} at {at}");
     }

@@ -4,7 +4,7 @@
 use reference::corpus::CheckRecord;
 use reference::generate::{self, Tally};
 use reference::{check, corpus, describe, draft, evaluate, judge};
-use reference::{Claim, Entry, Kind, Model, Proof, Rule};
+use reference::{Claim, Entry, Form, Kind, Model, Proof, Rule};
 
 #[test]
 fn the_same_seed_gives_the_same_inputs() {
@@ -27,7 +27,10 @@ fn every_outcome_of_a_check_occurs() {
     let records = generate::checks(1).take(20_000);
     let tally = Tally::of(records.map(|record| record.number()));
     println!("{tally}");
-    assert_occur(&tally, (10..=14).chain(20..=23).chain(30..=39).chain([71]));
+    assert_occur(
+        &tally,
+        (10..=14).chain(20..=23).chain(30..=39).chain([71, 72]),
+    );
     assert!(
         tally.count(0) * 100 >= tally.total() * 15,
         "few accepted in\n{tally}"
@@ -39,7 +42,10 @@ fn every_outcome_of_an_evaluation_occurs() {
     let records = generate::evals(1).take(20_000);
     let tally = Tally::of(records.map(|record| record.number()));
     println!("{tally}");
-    assert_occur(&tally, (10..=14).chain(20..=23).chain(60..=64).chain([71]));
+    assert_occur(
+        &tally,
+        (10..=14).chain(20..=23).chain(60..=64).chain([71, 72]),
+    );
     assert!(
         tally.count(0) * 100 >= tally.total() * 15,
         "few finished in\n{tally}"
@@ -88,25 +94,29 @@ fn accepted_proofs_have_many_and_nested_loops_and_some_leave_focus() {
     assert!(rules.iter().all(|&count| count > 100), "{rules:?}");
 }
 
-/// An accepted claim has no model with a state that refutes it: at each state
-/// some member is true.
+/// At each state some member of each goal is true. "no state of any finite model may
+/// refute even one of them"
+fn assert_holds(claim: &[u8], model: &[u8]) {
+    let words = evaluate(claim, model).expect("well formed");
+    for goal in Claim::read(claim).expect("accepted").goals() {
+        let covered = goal.iter().fold(0, |all, &m| all | words[usize::from(m)]);
+        let states = u32::from(model[4]);
+        assert_eq!(
+            covered.count_ones(),
+            states,
+            "refuted: {goal:?} of {claim:?} in {model:?}"
+        );
+    }
+}
+
+/// An accepted claim has no model with a state that refutes it.
 #[test]
 fn accepted_claims_hold_in_random_models() {
     let mut models = generate::models(6);
     for (claim, proof) in generate::accepted(7).take(3000) {
         assert_eq!(describe(check(&claim, &proof)), "accept");
-        let members = Claim::read(&claim).expect("accepted").members;
         for model in models.by_ref().take(4) {
-            let words = evaluate(&claim, &model).expect("well formed");
-            let covered = members
-                .iter()
-                .fold(0, |all, &m| all | words[usize::from(m)]);
-            let states = u32::from(model[4]);
-            assert_eq!(
-                covered.count_ones(),
-                states,
-                "refuted: {claim:?} in {model:?}"
-            );
+            assert_holds(&claim, &model);
         }
     }
 }
@@ -117,13 +127,8 @@ fn whatever_is_accepted_holds_in_random_models() {
     let mut models = generate::models(8);
     let accepted = generate::checks(9).filter(|record| record.answer == 0);
     for record in accepted.take(3000) {
-        let members = Claim::read(&record.claim).expect("accepted").members;
         for model in models.by_ref().take(3) {
-            let words = evaluate(&record.claim, &model).expect("well formed");
-            let covered = members
-                .iter()
-                .fold(0, |all, &m| all | words[usize::from(m)]);
-            assert_eq!(covered.count_ones(), u32::from(model[4]));
+            assert_holds(&record.claim, &model);
         }
     }
 }
@@ -217,17 +222,18 @@ fn accepted_proofs_step_by_every_action() {
 
 /// The claim with action 0 for all boxes and diamonds.
 fn without_actions(claim: &[u8]) -> Vec<u8> {
-    let Claim {
-        mut entries,
-        members,
-        ..
-    } = Claim::read(claim).expect("well formed");
+    let claim = Claim::read(claim).expect("well formed");
+    let mut entries = claim.entries.clone();
     for entry in &mut entries {
         if is_modal(&&*entry) {
             entry.b = 0;
         }
     }
-    draft::claim(&entries, &members).bytes
+    let goals: Vec<Vec<u16>> = claim.goals().map(<[u16]>::to_vec).collect();
+    match claim.form {
+        Form::One => draft::claim(&entries, &claim.members).bytes,
+        Form::Several => draft::goal_claim(&entries, &goals).bytes,
+    }
 }
 
 #[test]
@@ -341,4 +347,81 @@ fn unfit_actions_beside_other_faults() {
     );
     assert!(above > 200 && written_out > 200);
     assert!(before > 50 && same > 50 && after > 50 && names > 10);
+}
+
+/// What a run of claims and proofs has of the form with several goals.
+#[derive(Debug, Default)]
+struct Goals {
+    files: usize,
+    /// With two goals or more.
+    several: usize,
+    interleaved: usize,
+    accepted: usize,
+    /// Refusals of the form itself: 72, and 36 at a root other than node 0.
+    goal_counts: usize,
+    later_roots: usize,
+    /// Pairs of unlike forms.
+    unlike: usize,
+}
+
+fn goals_of(records: impl Iterator<Item = CheckRecord>) -> Goals {
+    let mut found = Goals::default();
+    for record in records {
+        let [claim, proof] = [&record.claim, &record.proof].map(|file| file.get(3).copied());
+        let openings = [
+            record.claim.starts_with(b"CLM"),
+            record.proof.starts_with(b"PRF"),
+        ];
+        let mixed = matches!(
+            (claim, proof),
+            (Some(b'1'), Some(b'2')) | (Some(b'2'), Some(b'1'))
+        );
+        found.unlike += usize::from(openings == [true, true] && mixed && record.number() == 30);
+        if record.form() != Some(Form::Several) {
+            continue;
+        }
+        found.files += 1;
+        found.goal_counts += usize::from(record.number() == 72);
+        found.later_roots += usize::from(record.number() == 36 && record.answer & 0xffff != 0);
+        if let Some(decoded) = judge(&record.claim, &record.proof).decoded {
+            found.several += usize::from(decoded.claim.goals().count() > 1);
+            found.interleaved += usize::from(generate::interleaved(&decoded));
+            found.accepted += usize::from(record.answer == 0);
+        }
+    }
+    found
+}
+
+#[test]
+fn files_of_both_forms() {
+    let found = goals_of(generate::checks(18).take(20_000));
+    println!("of 20000 {found:?}");
+    assert!(found.files > 8_000 && found.several > 4_000 && found.interleaved > 2_500);
+    assert!(found.accepted > 3_000 && found.goal_counts > 30);
+    assert!(found.later_roots > 50 && found.unlike > 100);
+}
+
+#[test]
+fn files_of_several_goals() {
+    let records = || generate::goals(19).take(10_000);
+    let found = goals_of(records());
+    println!("of 10000 {found:?}");
+    assert!(found.files > 9_500 && found.several > 6_000 && found.interleaved > 4_000);
+    assert!(found.accepted > 2_500 && found.later_roots > 100);
+    let tally = Tally::of(records().map(|record| record.number()));
+    println!("{tally}");
+    assert_occur(&tally, [11, 12, 14, 31, 33, 34, 35, 36, 37, 38, 39, 72]);
+}
+
+/// In both forms, up to all sixteen goals.
+#[test]
+fn accepted_claims_have_every_number_of_goals() {
+    let mut counts = [0; 17];
+    for (claim, _) in generate::accepted(20).take(10_000) {
+        let claim = Claim::read(&claim).expect("accepted");
+        counts[claim.goals().count()] += usize::from(claim.form == Form::Several);
+    }
+    println!("of 10000 by goals: {counts:?}");
+    assert!(counts[1..].iter().all(|&count| count > 0), "{counts:?}");
+    assert!(counts[1] > 500 && counts[2..].iter().sum::<usize>() > 2_500);
 }

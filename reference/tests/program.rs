@@ -52,6 +52,8 @@ fn vectors_pass() {
         ("write", "t01/write.bin", 640),
         ("eval-narrow", "base/eval.bin", 519),
         ("eval", "t04/eval.bin", 399),
+        ("check", "t05/check.bin", 1506),
+        ("write", "t05/write.bin", 598),
     ] {
         let passed = run(&[form, &format!("{folder}/{file}")]);
         assert_eq!(passed, (format!("{count} passed, 0 failed\n"), Some(0)));

@@ -16,6 +16,7 @@ fn every_check_agrees() {
         ("t02/check.bin", 1527),
         ("t03/check.bin", 1534),
         ("t04/check.bin", 1435),
+        ("t05/check.bin", 1506),
     ];
     for (file, count) in files {
         let checks = corpus::read_checks(&vectors(file)).expect("whole records");
@@ -52,11 +53,18 @@ fn every_evaluation_agrees() {
     assert_evaluated(file, &evals, 399);
     let far = |record: &&EvalRecord| record.answer as u32 > 65_535;
     assert_eq!(evals.iter().filter(far).count(), 10);
+    let file = "t05/eval.bin";
+    let evals = corpus::read_evals(&vectors(file)).expect("whole records");
+    assert_evaluated(file, &evals, 356);
 }
 
 #[test]
 fn every_record_to_be_written_agrees() {
-    for (file, count) in [("t01/write.bin", 640), ("t04/write.bin", 337)] {
+    for (file, count) in [
+        ("t01/write.bin", 640),
+        ("t04/write.bin", 337),
+        ("t05/write.bin", 598),
+    ] {
         let writes = corpus::read_writes(&vectors(file)).expect("whole records");
         assert_eq!(writes.len(), count, "{file}");
         for (index, record) in writes.iter().enumerate() {

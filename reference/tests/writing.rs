@@ -28,21 +28,30 @@ fn node(rule: Rule, [principal, first, second, back]: [u16; 4], count: u8) -> No
     }
 }
 
-/// The records in slices of the least lengths.
+/// The records of one goal in slices of the least lengths.
 fn lent(entries: &[EntryRecord], members: &[u16], nodes: &[NodeRecord], codes: &[u16]) -> Records {
-    let mut records = Records {
+    filled_up(Records {
+        form: 1,
         entries: entries.to_vec(),
         entry_count: entries.len(),
+        goal_counts: vec![members.len() as u16],
         members: members.to_vec(),
         nodes: nodes.to_vec(),
         node_count: nodes.len(),
+        roots: Vec::new(),
         codes: codes.to_vec(),
-    };
+    })
+}
+
+fn filled_up(mut records: Records) -> Records {
     let unlike = entry(Kind::Name, 0xffff, 0xffff);
-    records.entries.resize(256.max(entries.len()), unlike);
+    let length = records.entries.len().max(256);
+    records.entries.resize(length, unlike);
     let unlike = node(Rule::And, [0xffff; 4], 0xff);
-    records.nodes.resize(1024.max(nodes.len()), unlike);
-    records.codes.resize(24_576.max(codes.len()), 0xffff);
+    let length = records.nodes.len().max(1024);
+    records.nodes.resize(length, unlike);
+    let length = records.codes.len().max(24_576);
+    records.codes.resize(length, 0xffff);
     records
 }
 
@@ -85,15 +94,25 @@ fn an_answer_is_a_length_or_a_refusal() {
 
 /// Both calls with changed records, the claim's refusal being the proof's too.
 fn assert_refused(change: impl Fn(&mut Records), number: u16, place: u32) {
-    let mut records = nu_of_box();
+    assert_changed(nu_of_box(), change, number, place);
+}
+
+fn assert_changed(good: Records, change: impl Fn(&mut Records), number: u16, place: u32) {
+    let mut records = good.clone();
     change(&mut records);
     let expected = refusal(number, place);
-    if number < 30 || number == 71 {
+    if !(30..=70).contains(&number) {
         assert_eq!(records.write_claim(), expected);
     } else {
-        assert_eq!(records.write_claim(), Ok(CLAIM.to_vec()));
+        assert_eq!(records.write_claim(), good.write_claim());
     }
     assert_eq!(records.write_proof(), expected);
+}
+
+/// One goal of these members.
+fn with_members(records: &mut Records, members: &[u16]) {
+    records.members = members.to_vec();
+    records.goal_counts = vec![members.len() as u16];
 }
 
 #[test]
@@ -105,7 +124,7 @@ fn counts_of_any_size() {
         assert_refused(|records| records.node_count = count, 32, 4);
     }
     for count in [0, 25, 65_537] {
-        assert_refused(|records| records.members.resize(count, 2), 12, 18);
+        assert_refused(|records| with_members(records, &vec![2; count]), 12, 18);
     }
     for count in [25, 255] {
         assert_refused(|records| records.nodes[1].count = count, 32, 19);
@@ -118,7 +137,7 @@ fn unfit_maps_and_members() {
     assert_refused(|records| records.entries[2].b = 1, 13, 14);
     assert_refused(|records| records.members[0] = 0, 14, 20);
     assert_refused(|records| records.members[0] = 3, 14, 20);
-    assert_refused(|records| records.members.push(2), 14, 22);
+    assert_refused(|records| with_members(records, &[2, 2]), 14, 22);
     assert_refused(|records| records.nodes[0].rule = 12, 33, 6);
     assert_refused(|records| records.nodes[0].principal = 5, 33, 6);
     assert_refused(|records| records.nodes[1].second = 3, 33, 13);
@@ -260,8 +279,7 @@ fn bytes_beyond_the_end_are_untouched() {
 
 /// 256 entries, the first of which has no operands below it, and 24 members; then
 /// 1,024 nodes of 24 codes.
-#[test]
-fn the_longest_files() {
+fn largest() -> Records {
     let mut entries = vec![entry(Kind::Letter, 31, 0)];
     entries.resize(200, entry(Kind::Or, 0, 0));
     entries.resize(256, entry(Kind::Box, 0, 15));
@@ -271,11 +289,202 @@ fn the_longest_files() {
         .collect();
     nodes.push(node(Rule::Back, [0, 0, 0, 1023], 24));
     let codes: Vec<u16> = (488..512).collect();
-    let records = lent(&entries, &members, &nodes, &codes.repeat(1024));
+    lent(&entries, &members, &nodes, &codes.repeat(1024))
+}
+
+#[test]
+fn the_longest_files() {
+    let records = largest();
     let (claim, proof) = (records.write_claim(), records.write_proof());
     let (claim, proof) = (claim.expect("a claim"), proof.expect("a proof"));
     assert_eq!((claim.len(), proof.len()), (1590, 56_324));
     assert_gives_back(&records, &claim, &proof);
+}
+
+/// The same with those members in each of 16 goals, and the last nodes in trees of
+/// their own.
+#[test]
+fn the_longest_files_of_several_goals() {
+    let mut records = largest();
+    records.form = 2;
+    records.goal_counts = vec![24; 16];
+    records.members = records.members.repeat(16);
+    records.roots = std::iter::once(0).chain(1009..1024).collect();
+    records.nodes[1008..1024].fill(node(Rule::Back, [0, 0, 0, 1023], 24));
+    let (claim, proof) = (records.write_claim(), records.write_proof());
+    let (claim, proof) = (claim.expect("a claim"), proof.expect("a proof"));
+    assert_eq!((claim.len(), proof.len()), (2342, 56_326));
+    assert_gives_back(&records, &claim, &proof);
+}
+
+/// The first sample and beside it, of the same table, a letter and its negation: two
+/// goals, whose trees interleave.
+fn two_goals() -> Records {
+    let Records {
+        mut entries,
+        members,
+        mut nodes,
+        mut codes,
+        ..
+    } = nu_of_box();
+    entries[3] = entry(Kind::Letter, 0, 0);
+    entries[4] = entry(Kind::Negated, 0, 0);
+    nodes[1].first = 3;
+    nodes[2].first = 4;
+    nodes.insert(2, node(Rule::Ax1, [0; 4], 2));
+    codes.splice(2..2, [7, 9]);
+    Records {
+        form: 2,
+        entries,
+        entry_count: 5,
+        goal_counts: vec![1, 2],
+        members: [&members[..], &[3, 4]].concat(),
+        nodes,
+        node_count: 5,
+        roots: vec![0, 2],
+        codes,
+    }
+}
+
+const GOAL_CLAIM: &[u8] =
+    b"CLM2\x05\0\x01\x0a\x02\0\x01\x07\0\0\x01\x09\x01\0\x01\x02\0\0\x01\x03\0\0\
+                            \x02\0\x01\0\x02\0\x02\0\x03\0\x04\0";
+const GOAL_PROOF: &[u8] = b"PRF2\x05\0\0\0\x02\0\x12\x0a\x01\0\x01\x05\0\x13\x06\x05\0\x03\0\x01\x05\0\
+                            \x10\0\x02\x07\0\x09\0\x13\x04\x03\0\x04\0\x01\x03\0\x18\x0b\0\0\x01\x05\0";
+
+#[test]
+fn two_goals_are_laid_down() {
+    assert_eq!(two_goals().write_claim(), Ok(GOAL_CLAIM.to_vec()));
+    assert_eq!(two_goals().write_proof(), Ok(GOAL_PROOF.to_vec()));
+    assert_eq!(check(GOAL_CLAIM, GOAL_PROOF), 0);
+    assert_gives_back(&two_goals(), GOAL_CLAIM, GOAL_PROOF);
+}
+
+/// The two goals with changed records. Their goal count stands at 26, their members
+/// from 28 on, their roots at 6.
+fn assert_refused_of_two(change: impl Fn(&mut Records), number: u16, place: u32) {
+    assert_changed(two_goals(), change, number, place);
+}
+
+/// "A number that is no form: 10 at 0, after 1, in both calls."
+#[test]
+fn no_form() {
+    for form in (0..=255).filter(|form| ![1, 2].contains(form)) {
+        assert_refused(|records| records.form = form, 10, 0);
+        let bad = |records: &mut Records| {
+            records.form = form;
+            records.entry_count = 0;
+        };
+        assert_refused_of_two(bad, 10, 0);
+        let records = Records {
+            form,
+            ..two_goals()
+        };
+        let short = &records.codes[..24_575];
+        let proof = ProofRecords {
+            codes: short,
+            ..records.proof()
+        };
+        let mut out = [7; 100];
+        assert_eq!(write_proof(records.claim(), proof, &mut out), refusal(1, 0));
+        assert_eq!(out, [7; 100]);
+    }
+}
+
+/// 72, "then the sum (12 at the goal count), then list by list".
+#[test]
+fn goal_counts() {
+    let counts = |counts: &[u16]| {
+        let counts = counts.to_vec();
+        move |records: &mut Records| records.goal_counts = counts.clone()
+    };
+    assert_refused_of_two(counts(&[]), 72, 26);
+    assert_refused_of_two(counts(&[0; 17]), 72, 26);
+    assert_refused_of_two(counts(&[1; 17]), 72, 26);
+    assert_refused_of_two(counts(&[0; 65_538]), 72, 26);
+    assert_refused_of_two(counts(&[1, 1]), 12, 26);
+    assert_refused_of_two(counts(&[1, 3]), 12, 26);
+    assert_refused_of_two(counts(&[2]), 12, 26);
+    assert_refused_of_two(counts(&[1, 2, 1]), 12, 26);
+    // "32,768 + 32,768 is not 0"
+    assert_refused_of_two(counts(&[32_769, 32_770]), 12, 26);
+    assert_refused_of_two(counts(&[1, 2, 32_768, 32_768]), 12, 26);
+    // They add up, and one is 0.
+    assert_refused_of_two(counts(&[0, 3]), 12, 28);
+    assert_refused_of_two(counts(&[3, 0]), 12, 36);
+    assert_refused_of_two(counts(&[1, 2, 0]), 12, 38);
+    let many = |records: &mut Records| {
+        records.goal_counts = vec![1, 25];
+        records.members.resize(26, 4);
+    };
+    assert_refused_of_two(many, 12, 32);
+    assert_refused_of_two(|records| records.members[1] = 4, 14, 36);
+    assert_refused_of_two(|records| records.members[2] = 5, 14, 36);
+    assert_refused_of_two(|records| records.members[0] = 0, 14, 30);
+    // A list rises for itself.
+    let falling = |records: &mut Records| records.members = vec![4, 2, 3];
+    let mut records = two_goals();
+    falling(&mut records);
+    assert!(records.write_claim().is_ok());
+    // Entries come before, 20 to 23 and 71 after.
+    let before = |records: &mut Records| {
+        records.goal_counts.clear();
+        records.entries[3].b = 1;
+    };
+    assert_refused_of_two(before, 13, 18);
+    let after = |records: &mut Records| {
+        records.goal_counts = vec![1, 1];
+        records.entries[3].a = 32;
+    };
+    assert_refused_of_two(after, 12, 26);
+}
+
+/// "node count (32 at 4), length of the roots (34 at 6), each root, then the nodes"
+#[test]
+fn roots() {
+    let roots = |roots: &[u16]| {
+        let roots = roots.to_vec();
+        move |records: &mut Records| records.roots = roots.clone()
+    };
+    for wrong in [&[][..], &[0], &[0, 2, 4], &[7; 65_538]] {
+        assert_refused_of_two(roots(wrong), 34, 6);
+        let no_nodes = |records: &mut Records| {
+            roots(wrong)(records);
+            records.node_count = 0;
+        };
+        assert_refused_of_two(no_nodes, 32, 4);
+        let unfit = |records: &mut Records| {
+            roots(wrong)(records);
+            records.nodes[0].rule = 12;
+        };
+        assert_refused_of_two(unfit, 34, 6);
+    }
+    assert_refused_of_two(roots(&[0, 0]), 34, 8);
+    assert_refused_of_two(roots(&[2, 0]), 34, 8);
+    assert_refused_of_two(roots(&[0, 5]), 34, 8);
+    assert_refused_of_two(roots(&[0, 65_535]), 34, 8);
+    assert_refused_of_two(roots(&[5, 6]), 34, 6);
+    assert_refused_of_two(roots(&[1, 2]), 35, 0);
+    assert_refused_of_two(roots(&[0, 3]), 35, 1);
+    assert_refused_of_two(|records| records.nodes[1].first = 2, 35, 1);
+    assert_refused_of_two(|records| records.nodes[0].rule = 12, 33, 10);
+}
+
+/// "Forms with one goal: the goal count slice is one number, the length of the
+/// members' slice, and there are no roots."
+#[test]
+fn one_goal_has_one_count_and_no_roots() {
+    for counts in [&[][..], &[0], &[2], &[1, 0], &[0, 1], &[1, 1], &[1; 17]] {
+        assert_refused(|records| records.goal_counts = counts.to_vec(), 12, 18);
+    }
+    for roots in [&[0][..], &[0, 1], &[1], &[9; 20]] {
+        assert_refused(|records| records.roots = roots.to_vec(), 34, 6);
+        let no_nodes = |records: &mut Records| {
+            records.roots = roots.to_vec();
+            records.node_count = 0;
+        };
+        assert_refused(no_nodes, 32, 4);
+    }
 }
 
 /// "Reading a written file must give the records back".
@@ -289,22 +498,28 @@ fn records_of(Decoded { claim, proof }: &Decoded) -> Records {
     let entries = claim.entries.iter().copied();
     let nodes = proof.nodes.iter().copied();
     Records {
+        form: claim.form as u8,
         entries: entries.map(EntryRecord::from).collect(),
         entry_count: claim.entries.len(),
+        goal_counts: claim.goals().map(|goal| goal.len() as u16).collect(),
         members: claim.members.clone(),
         nodes: nodes.map(NodeRecord::from).collect(),
         node_count: proof.nodes.len(),
+        roots: proof.named_roots.clone(),
         codes: proof.codes.clone(),
     }
 }
 
 /// Whether what was read are the lent records up to the counts.
 fn begin_with(lent: &Records, read: &Records) -> bool {
-    lent.entry_count == read.entry_count
+    lent.form == read.form
+        && lent.entry_count == read.entry_count
         && lent.entries.starts_with(&read.entries)
+        && lent.goal_counts == read.goal_counts
         && lent.members == read.members
         && lent.node_count == read.node_count
         && lent.nodes.starts_with(&read.nodes)
+        && lent.roots == read.roots
         && lent.codes.starts_with(&read.codes)
 }
 
@@ -326,10 +541,11 @@ fn every_outcome_of_writing_occurs() {
         .unzip();
     let (claims, proofs) = (Tally::of(claims.into_iter()), Tally::of(proofs.into_iter()));
     println!("{claims}\n{proofs}");
-    for number in (12..=14).chain(20..=23).chain([71]) {
+    let of_claims = [10, 12, 13, 14, 20, 21, 22, 23, 71, 72];
+    for number in of_claims {
         assert!(claims.count(number) > 0, "no refusal {number} in\n{claims}");
     }
-    for number in (12..=14).chain(20..=23).chain(32..=35).chain([71]) {
+    for number in of_claims.into_iter().chain(32..=35) {
         assert!(proofs.count(number) > 0, "no refusal {number} in\n{proofs}");
     }
     assert!(proofs.count(0) * 4 > proofs.total(), "few in\n{proofs}");
@@ -337,7 +553,7 @@ fn every_outcome_of_writing_occurs() {
 
 #[test]
 fn written_files_give_the_records_back() {
-    let mut files = 0;
+    let (mut files, mut several) = (0, 0);
     for record in generate::writes(2).take(5000) {
         let WriteRecord { records, .. } = &record;
         let Ok(claim) = &record.claim else {
@@ -345,12 +561,18 @@ fn written_files_give_the_records_back() {
         };
         let read = Claim::read(claim).expect("what is written is well formed");
         assert_eq!(read.members, records.members);
+        let counts: Vec<u16> = read.goals().map(|goal| goal.len() as u16).collect();
+        assert_eq!(counts, records.goal_counts);
         if let Ok(proof) = &record.proof {
             assert_gives_back(records, claim, proof);
             files += 1;
+            several += usize::from(records.roots.len() > 1);
         }
     }
-    assert!(files > 1000, "only {files} proofs are written");
+    assert!(
+        files > 1000 && several > 300,
+        "only {files} proofs are written, {several} of several goals"
+    );
 }
 
 /// "writing the records of an accepted file must give its bytes back", and so for
@@ -364,7 +586,7 @@ fn records_of_files_give_the_bytes_back() {
             continue;
         }
         let read = records_of(&judged.decoded.expect("well formed"));
-        let records = lent(&read.entries, &read.members, &read.nodes, &read.codes);
+        let records = filled_up(read);
         assert_eq!(records.write_claim(), Ok(record.claim));
         assert_eq!(records.write_proof(), Ok(record.proof));
         files += 1;
@@ -374,18 +596,37 @@ fn records_of_files_give_the_bytes_back() {
 
 /// The file that records stand for, fit or not: each field that is not 0 has its
 /// bit, and so has each that the kind or rule has. None where a count has no two
-/// bytes, or promises more records than there are.
+/// bytes, or promises more records than there are; where the goals' counts do not add
+/// up, or there are other roots than goals; and where the form is none.
 fn files(records: &Records) -> Option<(Vec<u8>, Vec<u8>)> {
-    let mut claim = b"CLM1".to_vec();
+    let (goals, roots) = (records.goal_counts.len(), records.roots.len());
+    let counts = records.goal_counts.iter().map(|&count| usize::from(count));
+    let fit = match records.form {
+        1 => goals == 1 && roots == 0,
+        2 => goals == roots,
+        _ => false,
+    };
+    if !fit || counts.sum::<usize>() != records.members.len() {
+        return None;
+    }
+    let mut claim = [b"CLM", &[b'0' + records.form][..]].concat();
     put_count(&mut claim, records.entry_count)?;
     for record in records.entries.get(..records.entry_count)? {
         let map = Kind::from_byte(record.kind).map_or(0, Kind::map);
         put_fields(&mut claim, map, record.kind, &[record.a, record.b]);
     }
-    put_count(&mut claim, records.members.len())?;
-    put_list(&mut claim, &records.members);
-    let mut proof = b"PRF1".to_vec();
+    if records.form == 2 {
+        put_count(&mut claim, goals)?;
+    }
+    let mut members = records.members.iter().copied();
+    for &count in &records.goal_counts {
+        put_list(&mut claim, &[count]);
+        let members: Vec<u16> = members.by_ref().take(count.into()).collect();
+        put_list(&mut claim, &members);
+    }
+    let mut proof = [b"PRF", &[b'0' + records.form][..]].concat();
     put_count(&mut proof, records.node_count)?;
+    put_list(&mut proof, &records.roots);
     let mut codes = records.codes.iter().copied();
     for record in records.nodes.get(..records.node_count)? {
         let map = Rule::from_byte(record.rule).map_or(0, Rule::low_bits);
@@ -424,7 +665,7 @@ fn put_fields(file: &mut Vec<u8>, map: u8, second: u8, fields: &[u16]) {
 /// "with the number and place the reader would give for the file"
 #[test]
 fn the_reader_says_the_same_of_the_file() {
-    let (mut read, mut refused) = (0, 0);
+    let (mut read, mut refused, mut several) = (0, 0, 0);
     for record in generate::writes(5).take(10_000) {
         let Some((claim, proof)) = files(&record.records) else {
             continue;
@@ -435,6 +676,7 @@ fn the_reader_says_the_same_of_the_file() {
             _ => Err(Refusal::unpack(answer).expect("a refusal")),
         };
         assert_eq!(record.proof, expected);
+        several += usize::from(record.records.form == 2);
         // A claim alone, before a proof that is none.
         let expected = match Refusal::unpack(check(&claim, b"")) {
             Some(Refusal { number: 30, .. }) => Ok(claim),
@@ -445,7 +687,7 @@ fn the_reader_says_the_same_of_the_file() {
         refused += usize::from(record.proof.is_err());
     }
     assert!(
-        read > 8000 && refused > 3000,
-        "{refused} of {read} files refused"
+        read > 7000 && refused > 3000 && several > 3000,
+        "{refused} of {read} files refused, {several} of several goals"
     );
 }

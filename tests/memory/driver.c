@@ -13,7 +13,8 @@
  * is not filled first: a tool that knows which bytes were set then also sees
  * whether the gate looks at what stood there, and whether it leaves a part of a
  * decoding unwritten. So it is with the records for the writer beyond their counts:
- * whoever looks at them looks at what nobody has set. */
+ * whoever looks at them looks at what nobody has set. Goal counts, members and roots
+ * stand in blocks of just their lengths. */
 #include <stddef.h>
 #include <stdint.h>
 #include <stdio.h>
@@ -298,12 +299,19 @@ static struct tally run_evals(const char *path, size_t width)
     return evaluated;
 }
 
-/* What is given to the writer. The blocks are of the least lengths, the members'
- * block of just theirs; beyond the counts nothing is set. */
+/* Two-byte numbers in a block of just their length. */
+struct list {
+    uint16_t *numbers;
+    size_t length;
+};
+
+/* What is given to the writer. The blocks of entries, nodes and codes are of the least
+ * lengths; beyond the counts nothing is set. */
 struct records {
-    size_t entry_count, members_len, node_count;
+    uint8_t form;
+    size_t entry_count, node_count;
     focus_entry *entries;
-    uint16_t *members;
+    struct list goal_counts, members, roots;
     focus_node *nodes;
     uint16_t *codes;
 };
@@ -320,10 +328,19 @@ static size_t least(size_t one, size_t other)
     return one < other ? one : other;
 }
 
-/* A list that says nothing to the writer of this version. */
-static void skip_list(struct corpus *corpus)
+static struct list new_list(size_t length)
 {
-    take_bytes(corpus, 2 * (size_t)take_number(corpus, 4));
+    struct list list = {block(length, sizeof *list.numbers), length};
+    return list;
+}
+
+static struct list take_list(struct corpus *corpus)
+{
+    struct list list = new_list((size_t)take_number(corpus, 4));
+    for (size_t i = 0; i < list.length; i++) {
+        list.numbers[i] = (uint16_t)take_number(corpus, 2);
+    }
+    return list;
 }
 
 static focus_entry take_entry(struct corpus *corpus)
@@ -361,15 +378,6 @@ static void take_entries(struct corpus *corpus, struct records *records)
     }
 }
 
-static void take_members(struct corpus *corpus, struct records *records)
-{
-    records->members_len = (size_t)take_number(corpus, 4);
-    records->members = block(records->members_len, sizeof *records->members);
-    for (size_t i = 0; i < records->members_len; i++) {
-        records->members[i] = (uint16_t)take_number(corpus, 2);
-    }
-}
-
 /* The nodes likewise; how many codes they have is answered. */
 static size_t take_nodes(struct corpus *corpus, struct records *records)
 {
@@ -402,12 +410,16 @@ static void take_codes(struct corpus *corpus, struct records *records, size_t co
 static struct records take_records(struct corpus *corpus)
 {
     struct records records;
-    take_number(corpus, 4);
+    uint64_t form = take_number(corpus, 4);
+    if (form > UINT8_MAX) {
+        give_up("a form of more than a byte", corpus->path);
+    }
+    records.form = (uint8_t)form;
     take_entries(corpus, &records);
-    skip_list(corpus);
-    take_members(corpus, &records);
+    records.goal_counts = take_list(corpus);
+    records.members = take_list(corpus);
     size_t codes = take_nodes(corpus, &records);
-    skip_list(corpus);
+    records.roots = take_list(corpus);
     take_codes(corpus, &records, codes);
     return records;
 }
@@ -415,8 +427,10 @@ static struct records take_records(struct corpus *corpus)
 static void drop_records(struct records records)
 {
     free(records.entries);
-    free(records.members);
+    free(records.goal_counts.numbers);
+    free(records.members.numbers);
     free(records.nodes);
+    free(records.roots.numbers);
     free(records.codes);
 }
 
@@ -435,13 +449,18 @@ enum call { WRITING_CLAIM, WRITING_PROOF };
 static uint64_t lend_and_write(enum call call, const struct records *records,
                                const size_t *lengths, uint8_t *out, size_t out_len)
 {
+    const struct list *goals = &records->goal_counts;
+    const struct list *members = &records->members;
+    const struct list *roots = &records->roots;
     if (call == WRITING_CLAIM) {
-        return focus_write_claim(records->entries, lengths[0], records->entry_count,
-                                 records->members, records->members_len, out, out_len);
+        return focus_write_claim(records->form, records->entries, lengths[0], records->entry_count,
+                                 goals->numbers, goals->length, members->numbers, members->length,
+                                 out, out_len);
     }
-    return focus_write_proof(records->entries, lengths[0], records->entry_count, records->members,
-                             records->members_len, records->nodes, lengths[1], records->node_count,
-                             records->codes, lengths[2], out, out_len);
+    return focus_write_proof(records->form, records->entries, lengths[0], records->entry_count,
+                             goals->numbers, goals->length, members->numbers, members->length,
+                             records->nodes, lengths[1], records->node_count, roots->numbers,
+                             roots->length, records->codes, lengths[2], out, out_len);
 }
 
 static uint64_t written_refusal(uint32_t number)
@@ -499,23 +518,29 @@ static const size_t short_records[][3] = {
 };
 enum { SHORT_RECORDS = sizeof short_records / sizeof short_records[0] };
 
-/* The writer over records of which none is set. */
+/* The writer over records of which none is set, in each form and in none. */
 static struct tally write_short(void)
 {
     struct tally refused = {0, 0, 0};
-    for (size_t i = 0; i < SHORT_RECORDS; i++) {
-        const size_t *lengths = short_records[i];
-        struct records records = {1, 1, 1, NULL, NULL, NULL, NULL};
+    for (size_t i = 0; i < 4 * SHORT_RECORDS; i++) {
+        const size_t *lengths = short_records[i / 4];
+        struct records records = {0};
+        records.form = (uint8_t)(i % 4);
+        records.entry_count = 1;
+        records.node_count = 1;
         records.entries = block(lengths[0], sizeof *records.entries);
-        records.members = block(records.members_len, sizeof *records.members);
+        records.goal_counts = new_list(2);
+        records.members = new_list(2);
         records.nodes = block(lengths[1], sizeof *records.nodes);
+        records.roots = new_list(2);
         records.codes = block(lengths[2], sizeof *records.codes);
-        uint8_t *out = block(FOCUS_PROOF_BYTES, 1);
+        size_t out_len = FOCUS_GOALS_PROOF_BYTES;
+        uint8_t *out = block(out_len, 1);
         uint64_t expected = written_refusal(FOCUS_SHORT_SLICE);
-        uint64_t got = lend_and_write(WRITING_PROOF, &records, lengths, out, FOCUS_PROOF_BYTES);
+        uint64_t got = lend_and_write(WRITING_PROOF, &records, lengths, out, out_len);
         count(&refused, "write proof, short", expected, got, 1);
         if (lengths[0] < FOCUS_ENTRIES) {
-            got = lend_and_write(WRITING_CLAIM, &records, lengths, out, FOCUS_PROOF_BYTES);
+            got = lend_and_write(WRITING_CLAIM, &records, lengths, out, out_len);
             count(&refused, "write claim, short", expected, got, 1);
         }
         free(out);

@@ -1,7 +1,7 @@
 -- the judge refuses with a number at a place just when the tables earn that number there
 use mathlib.Core.Path.{_≡_, refl, sym, _∙_, ap}
 use mathlib.Core.Logic.{_≢_, _⊎_, inl, inr, _↔_}
-use mathlib.Core.Bool.{Bool, true, false}
+use mathlib.Core.Bool.{Bool}
 use Prim.Native.Nat.{ℕ, _<_}
 use native.Mathlib.Decide.{ℕ-discrete}
 use native.Mathlib.Omega.{arith}
@@ -10,22 +10,24 @@ use borrow.Author.Tests.{eq-eqb, ne-eqb}
 use Rattle.formula.specs.Rule
 use Rattle.formula.specs.Nodes.{Proof}
 use Rattle.formula.specs.Claim.{Claim, Derivation}
-use Rattle.calculus.specs.Tree.{Tree}
+use Rattle.calculus.specs.Tree.{Forest, Trees}
 use Rattle.calculus.specs.Sequents.{rule}
 use Rattle.calculus.specs.Rules.{Keeps, back, by-tree}
 use Rattle.calculus.specs.CorrectNodes.{CorrectNodes}
-use Rattle.verdict.specs.Verdict.{Verdict, accepted, refused, pick, scan}
+use Rattle.verdict.specs.Verdict.{Verdict, accepted, refused, scan}
 use Rattle.calculus.specs.View.{plain}
-use Rattle.calculus.specs.Judge.{children-fit, adopted, root, keeps, loop, rule-number, judge}
-use Rattle.calculus.specs.Faults.{ChildrenFit, Adopted, Claimed, GoodLeaf, Before, Earns, bad-child, orphan, other-root, rule-broken, bad-link, bad-loop}
+use Rattle.calculus.specs.Judge.{children-fit, adopted, claimed, keeps, loop, rule-number, judge}
+use Rattle.calculus.specs.Faults.{ChildrenFit, Adopted, GoodLeaf, Before, Earns, bad-child, orphan, other-root, rule-broken, bad-link, bad-loop}
+use Rattle.calculus.specs.Goals.{ClaimedAt, Claimed}
 use Rattle.calculus.specs.Given.{Given}
 use Rattle.verdict.specs.Tells.{Tells, fails, fails-holds}
 use Rattle.calculus.specs.Loops.{good-walk}
 use Rattle.verdict.specs.VerdictLaws.{First, Passes, accepted-not-refused, scan-holds, scan-refuses, scan-first}
-use Rattle.calculus.specs.TreeLaws.{children-fit-tells, adopted-tells, to-tree, tree-children, tree-adopted, child-real}
+use Rattle.calculus.specs.TreeLaws.{children-fit-tells, adopted-tells, to-trees, tree-children, tree-adopted, child-real}
 use Rattle.calculus.specs.ClimbLaws.{ancestor-path}
 use Rattle.calculus.specs.RuleLaws.{keeps-tells}
-use Rattle.calculus.specs.JudgeExact.{orphans-stage, claim-stage, rules-stage, loops-stage, judge-is, root-tells, keeps-back, leaf-tells, accepted-correct, correct-accepted}
+use Rattle.calculus.specs.GoalLaws.{claimed-tells, claimed-nodes, claimed-roots}
+use Rattle.calculus.specs.JudgeExact.{orphans-stage, claim-stage, rules-stage, loops-stage, judge-is, keeps-back, leaf-tells, accepted-correct, correct-accepted}
 
 -- the first number below n that lacks P
 record Lacks (P : ℕ → Type 0) (n q : ℕ) : Type 0 where
@@ -63,24 +65,23 @@ number-other : (p : Proof) (v : ℕ) → rule p v ≢ Rule.BACK → rule-number 
 unfolding rule-number
 number-other p v n = rw (ne-eqb (rule p v) Rule.BACK n) refl
 
-pick-refuses : (b : Bool) (x : Verdict) {m r k q : ℕ} → pick b x (refused m r) ≡ refused k q → ((b ≡ false) × (m ≡ k) × (r ≡ q)) ⊎ ((b ≡ true) × (x ≡ refused k q))
-pick-refuses true x h = inr (refl, h)
-pick-refuses false x {m} {r} {k} {q} h =
-    let a : m ≡ k = cc in
-    let b : r ≡ q = cc in
-    inl (refl, a, b)
-
 module _ (c : Claim) (d : Derivation) (G : Given c d) where
   abbrev p : Proof
   p = d .nodes
 
-  children-told : (v : ℕ) → v < length p → Tells (children-fit (plain p) v) (ChildrenFit p v)
-  children-told v i = children-fit-tells p v i
+  children-told : (v : ℕ) → v < length p → Tells (children-fit (d .roots) (plain p) v) (ChildrenFit (d .roots) p v)
+  children-told v i = children-fit-tells (d .roots) p v i
 
-  adopted-told : (v : ℕ) → v < length p → Tells (adopted (plain p) v) (Adopted p v)
-  adopted-told v i = adopted-tells p v i
+  adopted-told : (v : ℕ) → v < length p → Tells (adopted (d .roots) (plain p) v) (Adopted (d .roots) p v)
+  adopted-told v i = adopted-tells (d .roots) p v i
 
-  module _ (T : Tree p) where
+  claimed-told : (v : ℕ) → v < length p → Tells (claimed (c .entries) (plain p) (c .goals) (d .roots) v) (ClaimedAt c d v)
+  claimed-told v i = claimed-tells c d G v i
+
+  module _ (S : Trees (d .roots) p) where
+    abbrev T : Forest p
+    T = S .forest
+
     keeps-told : (v : ℕ) → v < length p → Tells (keeps c (plain p) v) (Keeps c d v)
     keeps-told v i = keeps-tells c d T G v i
 
@@ -94,7 +95,7 @@ module _ (c : Claim) (d : Derivation) (G : Given c d) where
           bad : Lacks (GoodLeaf p) (length p) q → Dec (rule p q ≡ Rule.BACK) → Earns c d 39 q
           bad l (yes b) =
               let π = ancestor-path p T (keeps-back b (K q (l .inside)) .companion) in
-              bad-loop T C K (l .inside) (l .before) b π (λ g. l .lacks (λ _ ρ. good-walk T π g ρ))
+              bad-loop S C K (l .inside) (l .before) b π (λ g. l .lacks (λ _ ρ. good-walk T π g ρ))
           bad l (no n) = absurd (l .lacks (λ b. absurd (n b)))
 
           go : ((39 ≡ k) × Lacks (GoodLeaf p) (length p) q) ⊎ (Before (length p) (GoodLeaf p) × (accepted ≡ refused k q)) → Earns c d k q
@@ -105,41 +106,44 @@ module _ (c : Claim) (d : Derivation) (G : Given c d) where
     rules-earn C {k} {q} h = go (scanned (rule-number (plain p)) (length p) keeps-told (loops-stage c d) h)
       where
         bad : Lacks (Keeps c d) (length p) q → Dec (rule p q ≡ Rule.BACK) → Earns c d (rule-number (plain p) q) q
-        bad l (yes b) = rw (number-back p q b) (bad-link T C (l .inside) (l .before) b (λ k. l .lacks (by-tree (back b k))))
-        bad l (no n) = rw (number-other p q n) (rule-broken T C (l .inside) (l .before) n (l .lacks))
+        bad l (yes b) = rw (number-back p q b) (bad-link S C (l .inside) (l .before) b (λ k. l .lacks (by-tree (back b k))))
+        bad l (no n) = rw (number-other p q n) (rule-broken S C (l .inside) (l .before) n (l .lacks))
 
         go : ((rule-number (plain p) q ≡ k) × Lacks (Keeps c d) (length p) q) ⊎ (Before (length p) (Keeps c d) × (loops-stage c d ≡ refused k q)) → Earns c d k q
         go (inl (e, l)) = rw (← e) (bad l (ℕ-discrete (rule p q) Rule.BACK))
         go (inr (f, r)) = loops-earn f C r
 
     claim-earn : {k q : ℕ} → claim-stage c d ≡ refused k q → Earns c d k q
-    claim-earn {k} {q} h = go (pick-refuses (root c (plain p)) (rules-stage c d) h)
+    claim-earn {k} {q} h = go (scanned (λ _. 36) (length p) claimed-told (rules-stage c d) h)
       where
-        go : ((root c (plain p) ≡ false) × (36 ≡ k) × (0 ≡ q)) ⊎ ((root c (plain p) ≡ true) × (rules-stage c d ≡ refused k q)) → Earns c d k q
-        go (inl (f, e, z)) = rw (← e, ← z) (other-root T (fails (root-tells c d G) f))
-        go (inr (r, h)) = rules-earn (root-tells c d G .says r) h
+        go : ((36 ≡ k) × Lacks (ClaimedAt c d) (length p) q) ⊎ (Before (length p) (ClaimedAt c d) × (rules-stage c d ≡ refused k q)) → Earns c d k q
+        go (inl (e, l)) = rw (← e) (other-root S (l .inside) (l .before) (l .lacks))
+        go (inr (f, r)) = rules-earn (claimed-roots c d G f) r
 
   -- no number lies
   pub refused-earned : {k q : ℕ} → judge c d ≡ refused k q → Earns c d k q
   refused-earned {k} {q} h = go (scanned (λ _. 35) (length p) children-told (orphans-stage c d) (rw (judge-is c d) at h))
     where
-      next : Before (length p) (ChildrenFit p) → ((35 ≡ k) × Lacks (Adopted p) (length p) q) ⊎ (Before (length p) (Adopted p) × (claim-stage c d ≡ refused k q)) → Earns c d k q
+      next : Before (length p) (ChildrenFit (d .roots) p)
+          → ((35 ≡ k) × Lacks (Adopted (d .roots) p) (length p) q) ⊎ (Before (length p) (Adopted (d .roots) p) × (claim-stage c d ≡ refused k q)) → Earns c d k q
       next f (inl (e, l)) = rw (← e) (orphan f (l .inside) (l .before) (λ z. l .lacks (inl z)) (λ v e. l .lacks (inr (v, child-real p e, e))))
-      next f (inr (g, r)) = claim-earn (to-tree p f g) r
+      next f (inr (g, r)) = claim-earn (to-trees (d .roots) p f g) r
 
-      go : ((35 ≡ k) × Lacks (ChildrenFit p) (length p) q) ⊎ (Before (length p) (ChildrenFit p) × (orphans-stage c d ≡ refused k q)) → Earns c d k q
+      go : ((35 ≡ k) × Lacks (ChildrenFit (d .roots) p) (length p) q) ⊎ (Before (length p) (ChildrenFit (d .roots) p) × (orphans-stage c d ≡ refused k q))
+          → Earns c d k q
       go (inl (e, l)) = rw (← e) (bad-child (l .inside) (l .before) (l .lacks))
       go (inr (f, r)) = next f (scanned (λ _. 35) (length p) adopted-told (claim-stage c d) r)
 
   -- and each is given where it is earned
-  children-pass : Before (length p) (ChildrenFit p) → judge c d ≡ orphans-stage c d
+  children-pass : Before (length p) (ChildrenFit (d .roots) p) → judge c d ≡ orphans-stage c d
   children-pass f = judge-is c d ∙ all-scanned (λ _. 35) (length p) children-told (orphans-stage c d) f
 
-  tree-passes : Tree p → judge c d ≡ claim-stage c d
-  tree-passes T = children-pass (tree-children p T) ∙ all-scanned (λ _. 35) (length p) adopted-told (claim-stage c d) (tree-adopted p T)
+  tree-passes : Trees (d .roots) p → judge c d ≡ claim-stage c d
+  tree-passes S =
+      children-pass (tree-children (d .roots) p S) ∙ all-scanned (λ _. 35) (length p) adopted-told (claim-stage c d) (tree-adopted (d .roots) p S)
 
-  claim-passes : Tree p → Claimed c d → judge c d ≡ rules-stage c d
-  claim-passes T C = tree-passes T ∙ rw (root-tells c d G .holds C) refl
+  claim-passes : Trees (d .roots) p → Claimed c d → judge c d ≡ rules-stage c d
+  claim-passes S C = tree-passes S ∙ all-scanned (λ _. 36) (length p) claimed-told (rules-stage c d) (λ w _. claimed-nodes c d G C w)
 
   pub earned-refused : {k q : ℕ} → Earns c d k q → judge c d ≡ refused k q
   earned-refused (bad-child i b n) =
@@ -147,22 +151,23 @@ module _ (c : Claim) (d : Derivation) (G : Given c d) where
   earned-refused (orphan {q = q} f i b z n) =
       children-pass f ∙ first-scanned (λ _. 35) (length p) adopted-told (claim-stage c d) (record { inside = i; before = b; lacks = none })
     where
-      none : Adopted p q → ⊥
+      none : Adopted (d .roots) p q → ⊥
       none (inl e) = z e
       none (inr (v, _, e)) = n v e
-  earned-refused (other-root T n) = tree-passes T ∙ rw (fails-holds (root-tells c d G) n) refl
-  earned-refused (rule-broken {q = q} T C i b n k) =
-      claim-passes T C
-      ∙ first-scanned (rule-number (plain p)) (length p) (keeps-told T) (loops-stage c d) (record { inside = i; before = b; lacks = k })
+  earned-refused (other-root S i b n) =
+      tree-passes S ∙ first-scanned (λ _. 36) (length p) claimed-told (rules-stage c d) (record { inside = i; before = b; lacks = n })
+  earned-refused (rule-broken {q = q} S C i b n k) =
+      claim-passes S C
+      ∙ first-scanned (rule-number (plain p)) (length p) (keeps-told S) (loops-stage c d) (record { inside = i; before = b; lacks = k })
       ∙ ap (λ (m : ℕ). refused m q) (number-other p q n)
-  earned-refused (bad-link {q = q} T C i b e k) =
-      claim-passes T C
-      ∙ first-scanned (rule-number (plain p)) (length p) (keeps-told T) (loops-stage c d) (record { inside = i; before = b; lacks = λ z. k (keeps-back e z) })
+  earned-refused (bad-link {q = q} S C i b e k) =
+      claim-passes S C
+      ∙ first-scanned (rule-number (plain p)) (length p) (keeps-told S) (loops-stage c d) (record { inside = i; before = b; lacks = λ z. k (keeps-back e z) })
       ∙ ap (λ (m : ℕ). refused m q) (number-back p q e)
-  earned-refused (bad-loop T C K i b e π n) =
-      claim-passes T C
-      ∙ all-scanned (rule-number (plain p)) (length p) (keeps-told T) (loops-stage c d) K
-      ∙ first-scanned (λ _. 39) (length p) (leaf-told T K) accepted (record { inside = i; before = b; lacks = λ g. n (g e π) })
+  earned-refused (bad-loop S C K i b e π n) =
+      claim-passes S C
+      ∙ all-scanned (rule-number (plain p)) (length p) (keeps-told S) (loops-stage c d) K
+      ∙ first-scanned (λ _. 39) (length p) (leaf-told S K) accepted (record { inside = i; before = b; lacks = λ g. n (g e π) })
 
   pub exact-refusal : {k q : ℕ} → (judge c d ≡ refused k q) ↔ Earns c d k q
   exact-refusal = (refused-earned, earned-refused)

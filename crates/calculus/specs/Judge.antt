@@ -15,12 +15,13 @@ use Rattle.formula.specs.Claim.{Claim, Derivation}
 use Rattle.written.specs.Canon.{canon, key}
 use Rattle.calculus.specs.Rules.{stepped}
 use Rattle.calculus.specs.View.{View, quick}
-use Rattle.verdict.specs.Verdict.{Verdict, accepted, refused, pick, scan}
+use Rattle.verdict.specs.Verdict.{Verdict, accepted, scan}
 
-module _ (q : View) where
-  -- a good child number of v, used by no earlier parent
+module _ (roots : List ℕ) (q : View) where
+  -- a good child number of v, no root and used by no earlier parent
   unfoldable pub fits : ℕ → ℕ → Bool
-  fits v w = ltb v w && (ltb w (q .size) && eqb (q .owner w v) 0)
+  unfolding member
+  fits v w = ltb v w && (ltb w (q .size) && (eqb (q .owner w v) 0 && not (member roots w)))
 
   unfoldable pub children-fit : ℕ → Bool
   unfolding fits
@@ -30,8 +31,10 @@ module _ (q : View) where
 
   -- no orphan
   unfoldable pub adopted : ℕ → Bool
-  adopted w = eqb w 0 || ltb 0 (q .owner w (q .size))
+  unfolding member
+  adopted w = member roots w || ltb 0 (q .owner w (q .size))
 
+module _ (q : View) where
   unfoldable pub parent : ℕ → ℕ
   parent w = q .owner w (q .size) - 1
 
@@ -40,13 +43,13 @@ more true w l = w ∷ []
 more false w l = w ∷ l
 
 module _ (q : View) where
-  -- the walk from w up the parents, ended at the first number not above c
+  -- the walk from w up the parents, ended at the first number not above c, or at a node without a parent
   unfoldable pub climb : ℕ → ℕ → ℕ → List ℕ
   unfolding parent
   climb zero c w = w ∷ []
   climb (suc f) c w =
       let rest = climb f c (parent q w) in
-      more (leb w c) w rest
+      more (leb w c || eqb (q .owner w (q .size)) 0) w rest
 
   unfoldable pub ancestor : ℕ → ℕ → Bool
   unfolding climb member
@@ -213,22 +216,30 @@ module _ (q : View) where
   unfoldable pub rule-number : ℕ → ℕ
   rule-number v = choose (eqb (rule q v) Rule.BACK) 38 37
 
--- the claim's members, all in focus
-unfoldable pub root : Claim → View → Bool
-unfolding each keys canon
-root c q = q .same (keys (c .entries) q 0) (each (λ e. key (c .entries) (code e 1)) (c .members))
+module _ (t : Table) (q : View) where
+  -- node v lists these members, all in focus
+  unfoldable pub states : ℕ → List ℕ → Bool
+  unfolding each keys canon
+  states v ms = q .same (keys t q v) (each (λ e. key t (code e 1)) ms)
+
+  -- if node v is the root of a goal, it lists the goal's members
+  unfoldable pub claimed : List (List ℕ) → List ℕ → ℕ → Bool
+  unfolding states
+  claimed [] roots v = true
+  claimed (ms ∷ goals) [] v = true
+  claimed (ms ∷ goals) (r ∷ roots) v = (not (eqb r v) || states v ms) && claimed goals roots v
 
 -- what a view earns
-unfoldable pub judgeView : Claim → View → Verdict
-unfolding scan children-fit adopted root keeps loop rule-number
-judgeView c q =
+unfoldable pub judgeView : Claim → List ℕ → View → Verdict
+unfolding scan children-fit adopted claimed keeps loop rule-number
+judgeView c roots q =
     let n = q .size in
     let loops = scan (loop q) (λ _. 39) n 0 accepted in
     let rules = scan (keeps c q) (rule-number q) n 0 loops in
-    let claimed = pick (root c q) rules (refused 36 0) in
-    let orphans = scan (adopted q) (λ _. 35) n 0 claimed in
-    scan (children-fit q) (λ _. 35) n 0 orphans
+    let goals = scan (claimed (c .entries) q (c .goals) roots) (λ _. 36) n 0 rules in
+    let orphans = scan (adopted roots q) (λ _. 35) n 0 goals in
+    scan (children-fit roots q) (λ _. 35) n 0 orphans
 
 unfoldable pub judge : Claim → Derivation → Verdict
 unfolding judgeView quick
-judge c d = judgeView c (quick (d .nodes))
+judge c d = judgeView c (d .roots) (quick (d .nodes))

@@ -6,6 +6,7 @@ pub mod Rules
 pub mod Loops
 pub mod CorrectNodes
 -- refusals 35 to 39: what each means, and the first one computed
+pub mod Goals
 pub mod Given
 pub mod Faults
 pub mod Alike
@@ -24,9 +25,11 @@ pub mod PrincipalLaws
 pub mod BoxLaws
 pub mod RuleLaws
 pub mod LoopLaws
+pub mod GoalLaws
 pub mod JudgeExact
 pub mod FaultLaws
 pub mod RuleSamples
+pub mod GoalSamples
 -- soundness
 pub mod Falsity
 pub mod Refutes

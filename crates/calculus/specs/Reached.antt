@@ -82,7 +82,7 @@ module _ (c : Claim) {m : Model} (M : Falsity (c .entries) m) (d : Derivation) w
     l = ρ .to
 
     up : Path p (companion l) v
-    up = subst (Path p (companion l)) (ok .tree .one-parent (ρ .above .edge) (σ .edge) .0) (ρ .above .above)
+    up = subst (Path p (companion l)) (ok .tree .forest .one-parent (ρ .above .edge) (σ .edge) .0) (ρ .above .above)
 
     abbrev edge : Path p v (σ .child)
     edge = down stop (σ .edge)
@@ -130,7 +130,7 @@ module _ (c : Claim) {m : Model} (M : Falsity (c .entries) m) (d : Derivation) w
 
     child-leaf : {v j : ℕ} → ((w : ℕ) → v < w → w < length p → Statement w) → Stepped M p v j → Again M p v j ⊎ Reached c M d v j
     child-leaf below σ =
-        from-child ok σ (below (σ .child) (ok .tree .above (σ .edge)) (ok .tree .inside (σ .edge)) (σ .rank) (σ .state) (σ .refuted))
+        from-child ok σ (below (σ .child) (ok .tree .forest .above (σ .edge)) (ok .tree .forest .inside (σ .edge)) (σ .rank) (σ .state) (σ .refuted))
 
     module _ (v : ℕ) (real : v < length p) (below : (w : ℕ) → v < w → w < length p → Statement w) where
       -- induction on the rank at one node

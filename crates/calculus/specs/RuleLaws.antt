@@ -14,7 +14,7 @@ use Rattle.formula.specs.Shape.{Shape, shape, Operand}
 use Rattle.formula.specs.ShapeLaws.{or-shape, and-shape, mu-shape, nu-shape}
 use Rattle.formula.specs.Nodes.{Proof, node}
 use Rattle.formula.specs.Claim.{Claim, Derivation}
-use Rattle.calculus.specs.Tree.{Tree, first, second}
+use Rattle.calculus.specs.Tree.{Forest, first, second}
 use Rattle.calculus.specs.Paths.{ancestor-below}
 use Rattle.calculus.specs.Sequents.{member, rule, sequent, firstSequent, secondSequent, formula, focus, side, Belongs}
 use Rattle.calculus.specs.Rules.{A, B, Principal, Clash, Truth, Step, BackLeaf, Leaf, Keeps, ax1, ax2, or, and, box, mu, nu, weaken, into-focus, out-of-focus, discharge, back, by-children, by-tree}
@@ -45,7 +45,7 @@ by-rule P a b c d e f g h i j k l (suc (suc (suc (suc (suc (suc (suc (suc (suc z
 by-rule P a b c d e f g h i j k l (suc (suc (suc (suc (suc (suc (suc (suc (suc (suc zero)))))))))) = k
 by-rule P a b c d e f g h i j k l (suc (suc (suc (suc (suc (suc (suc (suc (suc (suc (suc r))))))))))) = l r
 
-module _ (c : Claim) (d : Derivation) (T : Tree (d .nodes)) (G : Given c d) (v : ℕ) (real : v < length (d .nodes)) where
+module _ (c : Claim) (d : Derivation) (T : Forest (d .nodes)) (G : Given c d) (v : ℕ) (real : v < length (d .nodes)) where
   abbrev t : Table
   t = c .entries
 

@@ -8,7 +8,7 @@ use Rattle.verdict.specs.Verdict.{accepted, refused}
 use Rattle.formula.specs.Kind
 use Rattle.formula.specs.Rule
 use Rattle.formula.specs.Table.{Entry}
-use Rattle.formula.specs.Claim.{Claim, Derivation}
+use Rattle.formula.specs.Claim.{clm1, Claim, Derivation}
 use Rattle.calculus.specs.Judge.{judge}
 
 abbrev one : ℕ → ℕ → Entry
@@ -20,18 +20,19 @@ by n k a = record { kind = k; a = a; b = n }
 
 -- true, and true again; true, and false
 abbrev twoTrue : Claim
-twoTrue = record { entries = one Kind.TRUE 0 ∷ one Kind.TRUE 0 ∷ []; members = 0 ∷ 1 ∷ [] }
+twoTrue = record { form = clm1; entries = one Kind.TRUE 0 ∷ one Kind.TRUE 0 ∷ []; goals = (0 ∷ 1 ∷ []) ∷ [] }
 
 abbrev trueAndFalse : Claim
-trueAndFalse = record { entries = one Kind.TRUE 0 ∷ one Kind.FALSE 0 ∷ []; members = 0 ∷ 1 ∷ [] }
+trueAndFalse = record { form = clm1; entries = one Kind.TRUE 0 ∷ one Kind.FALSE 0 ∷ []; goals = (0 ∷ 1 ∷ []) ∷ [] }
 
 -- true, and 3: nu x. box x, whose name is 1
 abbrev trueAndNu : Claim
-trueAndNu = record { entries = one Kind.TRUE 0 ∷ one Kind.NAME 3 ∷ one Kind.BOX 1 ∷ one Kind.NU 2 ∷ []; members = 0 ∷ 3 ∷ [] }
+trueAndNu = record { form = clm1; entries = one Kind.TRUE 0 ∷ one Kind.NAME 3 ∷ one Kind.BOX 1 ∷ one Kind.NU 2 ∷ []; goals = (0 ∷ 3 ∷ []) ∷ [] }
 
 -- W of a principal, then Ax2
 abbrev dropped : ℕ → List ℕ → Derivation
 dropped x l = record {
+  roots = 0 ∷ [];
   nodes =
       record { rule = Rule.W; principal = x; first = 1; second = 0; back = 0; codes = l }
       ∷ record { rule = Rule.AX2; principal = 0; first = 0; second = 0; back = 0; codes = 1 ∷ [] } ∷ [];
@@ -58,15 +59,16 @@ number-dropped = (refl, refl)
 
 -- 2: a box of action m on a letter, and 3: a diamond of action n on its negation
 abbrev boxAndDiamond : ℕ → ℕ → Claim
-boxAndDiamond m n = record { entries = one Kind.LETTER 0 ∷ one Kind.NEGATED 0 ∷ by m Kind.BOX 0 ∷ by n Kind.DIAMOND 1 ∷ []; members = 2 ∷ 3 ∷ [] }
+boxAndDiamond m n = record { form = clm1; entries = one Kind.LETTER 0 ∷ one Kind.NEGATED 0 ∷ by m Kind.BOX 0 ∷ by n Kind.DIAMOND 1 ∷ []; goals = (2 ∷ 3 ∷ []) ∷ [] }
 
 -- 1: a box of action m on true, and 2: one of action n
 abbrev twoBoxes : ℕ → ℕ → Claim
-twoBoxes m n = record { entries = one Kind.TRUE 0 ∷ by m Kind.BOX 0 ∷ by n Kind.BOX 0 ∷ []; members = 1 ∷ 2 ∷ [] }
+twoBoxes m n = record { form = clm1; entries = one Kind.TRUE 0 ∷ by m Kind.BOX 0 ∷ by n Kind.BOX 0 ∷ []; goals = (1 ∷ 2 ∷ []) ∷ [] }
 
 -- the box step of a principal, then an axiom
 abbrev boxStep : ℕ → List ℕ → ℕ → List ℕ → Derivation
 boxStep x l r k = record {
+  roots = 0 ∷ [];
   nodes =
       record { rule = Rule.BOX; principal = x; first = 1; second = 0; back = 0; codes = l }
       ∷ record { rule = r; principal = 0; first = 0; second = 0; back = 0; codes = k } ∷ [];

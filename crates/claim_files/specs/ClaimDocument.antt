@@ -1,15 +1,18 @@
--- refusals 10 to 14 in document 01's words: how far a claim file is well formed, and what is wrong there
+-- refusals 10 to 14 and 72 in the documents' words: how far a claim file is well formed, and what is wrong there
+use mathlib.Core.Path.{_≡_}
 use mathlib.Core.List.{List, [], _∷_, _++_}
 use Prim.Native.Nat.{ℕ, _+_, _<_}
 use lib.ListN.{length}
 use Rattle.verdict.specs.Lists.{Each, Rising}
 use Rattle.formula.specs.Spelled.{Spelled, aStands, bStands, recordsOf}
+use Rattle.formula.specs.Claim.{Form, clm2}
 use Rattle.formula.specs.Codes.{Formula}
 use Rattle.bits.specs.IfSet.{ifSet}
 use Rattle.encoding.specs.Encode.{TwoBytes, PairOfBytes, encodePair, encodeTwo, encodeAll, Counts}
 use Rattle.encoding.specs.Stages.{Stages, Unfit}
 use Rattle.encoding.specs.File.{Earned}
-use Rattle.claim_files.specs.ClaimFile.{claimOpening, encodeEntry, encodeEntries, encodeBody, FitKind, FitEntry, FitEntries, FitClaim}
+use Rattle.encoding.specs.FileLaws.{Opens}
+use Rattle.claim_files.specs.ClaimFile.{claimOpening, encodeEntry, encodeEntries, encodeMembers, encodeGoalCount, encodeBody, FitKind, FitEntry, FitEntries, FitMembers, GoalCount, FitIn}
 
 -- what comes next, after what has been read
 pub data ClaimStage : Type 0 where
@@ -18,47 +21,20 @@ pub data ClaimStage : Type 0 where
   at-entry : ℕ → List Spelled → ClaimStage
   -- the fields of an entry of this map and kind
   at-fields : ℕ → List Spelled → ℕ × ℕ → ClaimStage
-  at-member-count : List Spelled → ClaimStage
-  -- the next of n members
-  at-member : List Spelled → ℕ → List ℕ → ClaimStage
-
--- the bytes read, from the opening on
-abbrev pub done : ClaimStage → List ℕ
-done at-entry-count = []
-done (at-entry n es) = encodeTwo n ++ encodeAll encodeEntry es
-done (at-fields n es p) = encodeTwo n ++ (encodeAll encodeEntry es ++ encodePair p)
-done (at-member-count es) = encodeEntries es
-done (at-member es n ms) = encodeEntries es ++ (encodeTwo n ++ encodeAll encodeTwo ms)
-
--- some of n entries, well formed
-pub record SomeEntries (n : ℕ) (es : List Spelled) : Type 0 where
-  pub count : Counts 256 n
-  pub fewer : length es < n
-  pub each : Each FitEntry es
-
--- some of n members, well formed
-pub record SomeMembers (es : List Spelled) (n : ℕ) (ms : List ℕ) : Type 0 where
-  pub entries : FitEntries es
-  pub count : Counts 24 n
-  pub fewer : length ms < n
-  pub rising : Rising ms
-  pub each : Each (Formula (recordsOf es)) ms
-
--- and they are well formed
-abbrev pub Reached : ClaimStage → Type 0
-Reached at-entry-count = Unit
-Reached (at-entry n es) = SomeEntries n es
-Reached (at-fields n es p) = SomeEntries n es × FitKind p
-Reached (at-member-count es) = FitEntries es
-Reached (at-member es n ms) = SomeMembers es n ms
+  at-goal-count : List Spelled → ClaimStage
+  -- the member count of the next of k goals
+  at-member-count : List Spelled → ℕ → List (List ℕ) → ClaimStage
+  -- the next of its n members
+  at-member : List Spelled → ℕ → List (List ℕ) → ℕ → List ℕ → ClaimStage
 
 -- how many bytes come next
 abbrev pub width : ClaimStage → ℕ
 width at-entry-count = 2
 width (at-entry n es) = 2
 width (at-fields n es p) = ifSet (aStands (p .0)) 2 + ifSet (bStands (p .0)) 2
-width (at-member-count es) = 2
-width (at-member es n ms) = 2
+width (at-goal-count es) = 2
+width (at-member-count es k gs) = 2
+width (at-member es k gs n ms) = 2
 
 -- bytes that may not come next, and the number that they earn
 abbrev pub Wrong : ClaimStage → List ℕ → ℕ → Type 0
@@ -67,14 +43,63 @@ Wrong at-entry-count = Unfit encodeTwo TwoBytes (Counts 256) 12
 -- map or kind unfit
 Wrong (at-entry n es) = Unfit encodePair PairOfBytes FitKind 13
 Wrong (at-fields n es p) = λ _ _. ⊥
+-- goal count over 16 or zero
+Wrong (at-goal-count es) = Unfit encodeTwo TwoBytes (Counts 16) 72
 -- a count out of range
-Wrong (at-member-count es) = Unfit encodeTwo TwoBytes (Counts 24) 12
+Wrong (at-member-count es k gs) = Unfit encodeTwo TwoBytes (Counts 24) 12
 -- a member not rising, out of range, or a name
-Wrong (at-member es n ms) = Unfit encodeTwo TwoBytes (λ m. Rising (ms ++ (m ∷ [])) × Formula (recordsOf es) m) 14
+Wrong (at-member es k gs n ms) = Unfit encodeTwo TwoBytes (λ m. Rising (ms ++ (m ∷ [])) × Formula (recordsOf es) m) 14
 
-abbrev pub claimStages : Stages
-claimStages = record { Stage = ClaimStage; done = done; Reached = Reached; width = width; Wrong = Wrong }
+-- some of n entries, well formed
+pub record SomeEntries (n : ℕ) (es : List Spelled) : Type 0 where
+  pub count : Counts 256 n
+  pub fewer : length es < n
+  pub each : Each FitEntry es
+
+module _ (f : Form) where
+  -- the bytes read, from the opening on
+  abbrev pub done : ClaimStage → List ℕ
+  done at-entry-count = []
+  done (at-entry n es) = encodeTwo n ++ encodeAll encodeEntry es
+  done (at-fields n es p) = encodeTwo n ++ (encodeAll encodeEntry es ++ encodePair p)
+  done (at-goal-count es) = encodeEntries es
+  done (at-member-count es k gs) = encodeEntries es ++ (encodeGoalCount f k ++ encodeAll encodeMembers gs)
+  done (at-member es k gs n ms) = encodeEntries es ++ (encodeGoalCount f k ++ (encodeAll encodeMembers gs ++ (encodeTwo n ++ encodeAll encodeTwo ms)))
+
+  -- some of k goals, well formed
+  pub record SomeGoals (es : List Spelled) (k : ℕ) (gs : List (List ℕ)) : Type 0 where
+    pub entries : FitEntries es
+    pub count : GoalCount f k
+    pub fewer : length gs < k
+    pub each : Each (FitMembers es) gs
+
+  -- some of n members of the next, well formed
+  pub record SomeMembers (es : List Spelled) (k : ℕ) (gs : List (List ℕ)) (n : ℕ) (ms : List ℕ) : Type 0 where
+    pub goals : SomeGoals es k gs
+    pub count : Counts 24 n
+    pub fewer : length ms < n
+    pub rising : Rising ms
+    pub each : Each (Formula (recordsOf es)) ms
+
+  -- and they are well formed; CLM2 alone has a goal count
+  abbrev pub Reached : ClaimStage → Type 0
+  Reached at-entry-count = Unit
+  Reached (at-entry n es) = SomeEntries n es
+  Reached (at-fields n es p) = SomeEntries n es × FitKind p
+  Reached (at-goal-count es) = (f ≡ clm2) × FitEntries es
+  Reached (at-member-count es k gs) = SomeGoals es k gs
+  Reached (at-member es k gs n ms) = SomeMembers es k gs n ms
+
+  abbrev pub claimStages : Stages
+  claimStages = record { Stage = ClaimStage; done = done; Reached = Reached; width = width; Wrong = Wrong }
+
+  -- a file of this form earns this refusal at this place
+  abbrev pub FormEarns : List ℕ → ℕ → ℕ → Type 0
+  FormEarns bytes n q = Earned (claimOpening f) 10 11 encodeBody (FitIn f) claimStages bytes n q
 
 -- the claim file earns this refusal at this place
-abbrev pub ClaimEarns : List ℕ → ℕ → ℕ → Type 0
-ClaimEarns bytes n q = Earned claimOpening 10 11 encodeBody FitClaim claimStages bytes n q
+pub data ClaimEarns (bytes : List ℕ) : ℕ → ℕ → Type 0 where
+  -- neither opening stands in front
+  no-opening : ((f : Form) → Opens (claimOpening f) bytes → ⊥) → ClaimEarns bytes 10 0
+  -- one does, and the file earns this as one of its form
+  by-form : {n q : ℕ} (f : Form) → Opens (claimOpening f) bytes → FormEarns f bytes n q → ClaimEarns bytes n q

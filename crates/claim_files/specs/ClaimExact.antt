@@ -1,13 +1,14 @@
 -- what is read as a claim is a claim file of what was decoded, and a claim file is read so
-use mathlib.Core.Path.{_≡_, refl, sym}
+use mathlib.Core.Path.{_≡_, refl, sym, ap, _∙_}
 use mathlib.Core.Logic.{_↔_, inl, inr}
-use mathlib.Core.List.{List}
+use mathlib.Core.List.{List, _++_}
 use Prim.Native.Nat.{ℕ, _<_, _≤_}
 use native.Mathlib.Omega.{arith}
-use Rattle.verdict.specs.Tells.{Tells, tells-as, and-tells, or-tells, leb-tells, eqb-tells}
+use lib.ListN.{getD}
+use Rattle.verdict.specs.Tells.{Tells, tells-as, and-tells, or-tells, leb-tells, eqb-tells, fails-holds}
 use Rattle.formula.specs.Kind
 use Rattle.formula.specs.Spelled.{Spelled, aStands, bStands, recordsOf, by-length, recordOf}
-use Rattle.formula.specs.Claim.{SpelledClaim}
+use Rattle.formula.specs.Claim.{Form, clm1, clm2, SpelledClaim}
 use Rattle.bits.specs.IfSet.{if-set-le}
 use Rattle.formula.specs.Fields.{hasA, hasB, isModal, mapOf}
 use Rattle.encoding.specs.Encode.{FitField, Bytes, PairOfBytes, encodePair}
@@ -16,10 +17,14 @@ use Rattle.encoding.specs.ParseLaws.{Exact, exact-as, seq-exact, via-exact, gua
 use Rattle.encoding.specs.ChainLaws.{each-as}
 use Rattle.encoding.specs.ListLaws.{count-exact, listed-exact, rising-exact}
 use Rattle.encoding.specs.FileLaws as File
+use Rattle.encoding.specs.FileLaws.{Opens}
+use Rattle.encoding.specs.Opening.{opens-tells}
+use Rattle.encoding.specs.Known.{known-exact}
 use Rattle.formula.specs.Members.{formula-tells}
 use Rattle.encoding.specs.FieldLaws.{field-exact}
-use Rattle.claim_files.specs.ClaimFile.{claimOpening, encodeFields, encodeEntry, encodeEntries, encodeMembers, encodeBody, encodeClaim, FitMap, FitKind, FitEntry, FitEntries, FitMembers, FitClaim, ClaimFile}
-use Rattle.claim_files.specs.ReadClaim.{early, kind-fits, mapAndKind, fields, made, entry, entries, members, claimOf, body, readClaim}
+use Rattle.claim_files.specs.ClaimFile.{claimOpening, encodeFields, encodeEntry, encodeEntries, encodeMembers, encodeGoalCount, encodeGoals, encodeBody, encodeClaim}
+use Rattle.claim_files.specs.ClaimFile.{FitMap, FitKind, FitEntry, FitEntries, FitMembers, GoalCount, FitGoals, FitClaim, FitIn, FormFile, ClaimFile}
+use Rattle.claim_files.specs.ReadClaim.{early, kind-fits, mapAndKind, fields, made, entry, entries, members, goalCount, goals, claimOf, body, readForm, formBy, formOf, readClaim}
 
 pub map-byte : (k : ℕ) → mapOf k < 256
 map-byte k = omega (arith, if-set-le (hasA k) 1, if-set-le (hasB k) 2)
@@ -64,29 +69,68 @@ members-exact es f =
     (λ ms h. ((omega (arith, h .count), h .count), h .rising, each-as (λ m q. (omega (arith, q .inside, f .count, by-length recordOf es), q)) (h .each)))
     (rising-exact (count-exact 24 12 (two-exact early)) (two-exact early) (formula-tells (recordsOf es)) 14)
 
-pub body-exact : Exact body encodeBody FitClaim
-unfolding body
-body-exact =
-    via-exact (seq-exact entries-exact members-exact) claimOf (λ c. (c .spelling, c .members))
-    (λ c f. ((f .entries, f .members), refl, refl))
-    (λ p h. (record { entries = h .0; members = h .1 }, refl))
+pub goal-count-exact : (f : Form) → Exact (goalCount f) (encodeGoalCount f) (GoalCount f)
+goal-count-exact clm1 = known-exact 1
+goal-count-exact clm2 = exact-as (λ n h. h .1) (λ n h. (omega arith, h)) (count-exact 16 72 (two-exact early))
+
+pub goals-exact : (f : Form) (es : List Spelled) → FitEntries es → Exact (goals f es) (encodeGoals f) (FitGoals f es)
+unfolding goals
+goals-exact f es h =
+    exact-as (λ gs k. record { count = k .0; each = k .1 }) (λ gs k. (k .count, k .each)) (listed-exact (goal-count-exact f) (members-exact es h))
+
+module _ (f : Form) where
+  pub body-exact : Exact (body f) encodeBody (FitIn f)
+  unfolding body
+  body-exact =
+      via-exact (seq-exact entries-exact (goals-exact f)) (claimOf f) (λ c. (c .spelling, c .goals))
+      (λ c (e, k). ((k .entries, rw (← e) (k .goals)), rw (← e) refl, rw (← e) refl))
+      (λ p h. ((refl, record { entries = h .0; goals = h .1 }), refl))
+
+  -- a file of one form
+  pub form-good : {bytes : List ℕ} {c : SpelledClaim} → FormFile f bytes c → readForm f bytes ≡ good c
+  unfolding readForm
+  form-good k = File.file-good (claimOpening f) 10 early (body f) body-exact k
+
+  pub good-form : {bytes : List ℕ} {c : SpelledClaim} → Bytes bytes → readForm f bytes ≡ good c → FormFile f bytes c
+  unfolding readForm
+  good-form b h = File.good-file (claimOpening f) 10 early (body f) body-exact b h
+
+-- the two openings differ in their last letter
+one-opening : {bytes : List ℕ} → Opens (claimOpening clm1) bytes → Opens (claimOpening clm2) bytes → ⊥
+one-opening (r, e) (t, i) =
+    let z : _≡_ {A = ℕ} 49 50 = sym (ap (λ (s : List ℕ). getD s 3 0) e) ∙ ap (λ (s : List ℕ). getD s 3 0) i in
+    omega arith
+
+-- a file that opens as one of a form is read as one of it
+pub form-opens : (f : Form) (bytes : List ℕ) → Opens (claimOpening f) bytes → formOf bytes ≡ f
+form-opens clm1 bytes o = ap formBy (fails-holds (opens-tells (claimOpening clm2) bytes) (one-opening o))
+form-opens clm2 bytes o = ap formBy (opens-tells (claimOpening clm2) bytes .holds o)
+
+pub read-in : (f : Form) (bytes : List ℕ) → formOf bytes ≡ f → readClaim bytes ≡ readForm f bytes
+unfolding readClaim
+read-in f bytes e = ap (λ (g : Form). readForm g bytes) e
+
+pub claim-form : {f : Form} {bytes : List ℕ} {c : SpelledClaim} → FormFile f bytes c → ClaimFile bytes c
+claim-form {f} {bytes} {c} k = record { encoded = k .encoded ∙ ap (λ (g : Form). claimOpening g ++ encodeBody c) (sym (k .fits .0)); fits = k .fits .1 }
+
+pub form-claim : {bytes : List ℕ} {c : SpelledClaim} → ClaimFile bytes c → FormFile (c .form) bytes c
+form-claim k = record { encoded = k .encoded; fits = (refl, k .fits) }
 
 -- a claim file is read, and decoded
 pub claim-good : {bytes : List ℕ} {c : SpelledClaim} → ClaimFile bytes c → readClaim bytes ≡ good c
-unfolding readClaim
-claim-good f = File.file-good claimOpening 10 early body body-exact f
+claim-good {bytes} {c} k = read-in (c .form) bytes (form-opens (c .form) bytes (_, k .encoded)) ∙ form-good (c .form) (form-claim k)
 
 -- what is read is a claim file, of what was decoded
 pub good-claim : {bytes : List ℕ} {c : SpelledClaim} → Bytes bytes → readClaim bytes ≡ good c → ClaimFile bytes c
 unfolding readClaim
-good-claim b h = File.good-file claimOpening 10 early body body-exact b h
+good-claim {bytes} b h = claim-form (good-form (formOf bytes) b h)
 
 pub claim-exact : {bytes : List ℕ} {c : SpelledClaim} → Bytes bytes → ClaimFile bytes c ↔ (readClaim bytes ≡ good c)
 claim-exact b = (claim-good, good-claim b)
 
 -- one file, one decoding
 pub one-claim : {bytes : List ℕ} {c d : SpelledClaim} → ClaimFile bytes c → ClaimFile bytes d → c ≡ d
-one-claim f g = File.one-decoding claimOpening 10 early body body-exact f g
+one-claim f g = File.good-same (sym (claim-good f) ∙ claim-good g)
 
 -- decoding what was encoded gives the records back
 pub claim-decodes : (c : SpelledClaim) → FitClaim c → readClaim (encodeClaim c) ≡ good c

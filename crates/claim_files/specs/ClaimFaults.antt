@@ -1,148 +1,84 @@
 -- a claim file is refused with a number at a place just when its bytes earn that
-use mathlib.Core.Path.{_≡_, refl, sym, ap}
+use mathlib.Core.Path.{_≡_, refl, sym, subst, _∙_}
 use mathlib.Core.Logic.{_↔_, _⊎_, inl, inr}
-use mathlib.Core.List.{List, _++_, append-nil}
-use mathlib.Core.Bool.{false}
-use Prim.Native.Nat.{ℕ, _+_}
-use native.Mathlib.Omega.{arith}
-use Rattle.verdict.specs.Tells.{fails}
-use Rattle.formula.specs.Kind
-use Rattle.formula.specs.Spelled.{Spelled, aStands, bStands, recordsOf, recordOf, by-length}
-use Rattle.formula.specs.Claim.{SpelledClaim}
-use Rattle.formula.specs.Codes.{Formula}
-use Rattle.bits.specs.IfSet.{ifSet}
-use Rattle.encoding.specs.Encode.{Bytes, TwoBytes, PairOfBytes, encodePair, encodeTwo, encodeAll, Counts}
-use Rattle.encoding.specs.Stages.{Stages, raw, tested, followed, listing, climbing}
-use Rattle.encoding.specs.ParseLaws.{bytes-exact, two-exact}
-use Rattle.encoding.specs.ListLaws.{count-exact}
-use Rattle.encoding.specs.ChainLaws.{each-as}
-use Rattle.encoding.specs.Widths.{seq-takes, bytes-take, two-takes}
-use Rattle.encoding.specs.FaultLaws.{Refuses, Stands, renames-each, refuses-as, raw-refuses, via-refuses, seq-refuses, tested-refuses}
-use Rattle.encoding.specs.ListFaults.{count-refuses, listed-refuses, rising-refuses}
-use Rattle.encoding.specs.File.{refused, no-opening}
+use mathlib.Core.List.{List}
+use mathlib.Core.Bool.{Bool, true, false}
+use Prim.Native.Nat.{ℕ}
+use Rattle.verdict.specs.Tells.{fails, fails-holds}
+use Rattle.formula.specs.Claim.{Form, clm1, clm2, SpelledClaim}
+use Rattle.encoding.specs.Encode.{Bytes}
+use Rattle.encoding.specs.File.{Reading, refused, good}
 use Rattle.encoding.specs.FileLaws as File
+use Rattle.encoding.specs.FileLaws.{Opens}
+use Rattle.encoding.specs.Walk.{file-closed}
 use Rattle.encoding.specs.Opening.{opens, opens-tells}
-use Rattle.formula.specs.Members.{formula-tells}
-use Rattle.encoding.specs.FieldLaws.{field-takes}
-use Rattle.claim_files.specs.ClaimFile.{claimOpening, encodeEntry, encodeEntries, FitKind, FitEntry, FitEntries, ClaimFile}
-use Rattle.claim_files.specs.ReadClaim.{early, made, entry, entries, members, claimOf, body, readClaim}
-use Rattle.claim_files.specs.ClaimExact.{fit-byte, kind-tells, kind-exact, entry-exact, entries-exact, body-exact}
-use Rattle.claim_files.specs.ClaimDocument.{at-entry-count, at-entry, at-fields, at-member-count, at-member, claimStages, ClaimEarns}
+use Rattle.claim_files.specs.ClaimFile.{claimOpening, ClaimFile}
+use Rattle.claim_files.specs.ReadClaim.{early, body, readForm, formBy, formOf, readClaim}
+use Rattle.claim_files.specs.ClaimExact.{body-exact, form-opens, read-in, claim-good, good-claim}
+use Rattle.claim_files.specs.ClaimParts.{body-refuses}
+use Rattle.claim_files.specs.ClaimDocument.{FormEarns, ClaimEarns, no-opening, by-form}
 
--- the stages as the parsers are joined
-abbrev EntryParts : Stages
-EntryParts =
-    followed encodePair (λ p. PairOfBytes p × FitKind p) (tested 2 encodePair PairOfBytes FitKind 13)
-    (λ p. raw (ifSet (aStands (p .0)) 2 + ifSet (bStands (p .0)) 2))
+module _ (f : Form) where
+  -- a file of one form
+  form-earned : {bytes : List ℕ} {n q : ℕ} → Bytes bytes → readForm f bytes ≡ refused n q → FormEarns f bytes n q
+  unfolding readForm
+  form-earned b h = File.refused-earned (claimOpening f) 10 early (body f) (body-exact f) (body-refuses f) b h
 
-abbrev CountPart : ℕ → Stages
-CountPart top = tested 2 encodeTwo TwoBytes (Counts top) 12
+  form-refused : {bytes : List ℕ} {n q : ℕ} → FormEarns f bytes n q → readForm f bytes ≡ refused n q
+  unfolding readForm
+  form-refused e = File.earned-refused (claimOpening f) 10 early (body f) (body-exact f) (body-refuses f) e
 
-abbrev EntriesParts : Stages
-EntriesParts = listing encodeTwo (λ n. TwoBytes n × Counts 256 n) (CountPart 256) encodeEntry FitEntry EntryParts
+-- neither opening stands in front
+closed : (bytes : List ℕ) → ((f : Form) → Opens (claimOpening f) bytes → ⊥) → readClaim bytes ≡ refused 10 0
+unfolding readClaim readForm
+closed bytes h = file-closed (claimOpening (formOf bytes)) 10 early (body (formOf bytes)) bytes (fails-holds (opens-tells (claimOpening (formOf bytes)) bytes) (h (formOf bytes)))
 
-abbrev MembersParts : List Spelled → Stages
-MembersParts es = climbing encodeTwo (λ n. TwoBytes n × Counts 24 n) (CountPart 24) 2 encodeTwo TwoBytes (Formula (recordsOf es)) 14
+-- the program's tests of the openings decide refusal 10
+neither : (bytes : List ℕ) → opens (claimOpening clm1) bytes ≡ false → opens (claimOpening clm2) bytes ≡ false → (f : Form) → Opens (claimOpening f) bytes → ⊥
+neither bytes i e clm1 o = fails (opens-tells (claimOpening clm1) bytes) i o
+neither bytes i e clm2 o = fails (opens-tells (claimOpening clm2) bytes) e o
 
-abbrev Parts : Stages
-Parts = followed encodeEntries FitEntries EntriesParts MembersParts
+pub claim-closed : (bytes : List ℕ) → opens (claimOpening clm1) bytes ≡ false → opens (claimOpening clm2) bytes ≡ false → readClaim bytes ≡ refused 10 0
+claim-closed bytes i e = closed bytes (neither bytes i e)
 
-entry-refuses : Refuses early entry EntryParts
-entry-refuses =
-    via-refuses
-    (seq-refuses (tested-refuses (bytes-take early) (bytes-exact early) 13 kind-tells) kind-exact
-    (λ p _. raw-refuses (seq-takes (field-takes early (aStands (p .0))) (λ _. field-takes early (bStands (p .0))))))
-    made
-
-entries-refuse : Refuses early entries EntriesParts
-unfolding entries
-entries-refuse = listed-refuses (count-exact 256 12 (two-exact early)) (count-refuses 256 12 (two-takes early) (two-exact early)) entry-exact entry-refuses
-
-members-refuse : (es : List Spelled) → Refuses early (members es) (MembersParts es)
-unfolding members
-members-refuse es = rising-refuses (count-exact 24 12 (two-exact early)) (count-refuses 24 12 (two-takes early) (two-exact early)) (two-exact early) (two-takes early) (formula-tells (recordsOf es)) 14
-
-parts-refuse : Refuses early body Parts
-unfolding body
-parts-refuse = via-refuses (seq-refuses entries-refuse entries-exact (λ es _. members-refuse es)) claimOf
-
--- each part is a stage in document 01's words
-parts-stages : Stands Parts claimStages
-parts-stages (inl (inl σ)) r = record { stage = at-entry-count; reached = tt; same = refl; wide = refl; wrongs = λ w n u. u }
-parts-stages (inl (inr (n, (es, inl σ)))) (c, ((i, h), r)) = record {
-  stage = at-entry n es;
-  reached = record { count = c .1; fewer = i; each = h };
-  same = ap (λ (s : List ℕ). encodeTwo n ++ s) (sym (append-nil (encodeAll encodeEntry es)));
-  wide = refl;
-  wrongs = λ w n u. u;
-}
-parts-stages (inl (inr (n, (es, inr (p, σ))))) (c, ((i, h), (l, r))) = record {
-  stage = at-fields n es p;
-  reached = (record { count = c .1; fewer = i; each = h }, l .1);
-  same = refl;
-  wide = refl;
-  wrongs = λ w n u. u;
-}
-parts-stages (inr (es, inl σ)) (f, r) = record { stage = at-member-count es; reached = f; same = sym (append-nil (encodeEntries es)); wide = refl; wrongs = λ w n u. u }
-parts-stages (inr (es, inr (n, (ms, σ)))) (f, (c, ((i, h, k), r))) = record {
-  stage = at-member es n ms;
-  reached = record { entries = f; count = c .1; fewer = i; rising = h; each = each-as (λ m (_, q). q) k };
-  same = ap (λ (s : List ℕ). encodeEntries es ++ (encodeTwo n ++ s)) (sym (append-nil (encodeAll encodeTwo ms)));
-  wide = refl;
-  wrongs = λ w n u. u;
-}
-
-stages-parts : Stands claimStages Parts
-stages-parts at-entry-count r = record { stage = inl (inl tt); reached = tt; same = refl; wide = refl; wrongs = λ w n u. u }
-stages-parts (at-entry n es) r = record {
-  stage = inl (inr (n, (es, inl tt)));
-  reached = ((omega (arith, r .count), r .count), ((r .fewer, r .each), tt));
-  same = ap (λ (s : List ℕ). encodeTwo n ++ s) (append-nil (encodeAll encodeEntry es));
-  wide = refl;
-  wrongs = λ w n u. u;
-}
-stages-parts (at-fields n es p) (r, l) = record {
-  stage = inl (inr (n, (es, inr (p, tt))));
-  reached = ((omega (arith, r .count), r .count), ((r .fewer, r .each), (((fit-byte (p .0) (p .1) (l .1), omega (arith, l .0)), l), tt)));
-  same = refl;
-  wide = refl;
-  wrongs = λ w n u. u;
-}
-stages-parts (at-member-count es) f = record { stage = inr (es, inl tt); reached = (f, tt); same = append-nil (encodeEntries es); wide = refl; wrongs = λ w n u. u }
-stages-parts (at-member es n ms) r = record {
-  stage = inr (es, inr (n, (ms, tt)));
-  reached = (r .entries, ((omega (arith, r .count), r .count), ((r .fewer, r .rising, each-as (λ m q. (omega (arith, q .inside, r .entries .count, by-length recordOf es), q)) (r .each)), tt)));
-  same = ap (λ (s : List ℕ). encodeEntries es ++ (encodeTwo n ++ s)) (append-nil (encodeAll encodeTwo ms));
-  wide = refl;
-  wrongs = λ w n u. u;
-}
-
-pub body-refuses : Refuses early body claimStages
-body-refuses = refuses-as (renames-each parts-stages) (renames-each stages-parts) parts-refuse
+-- CLM2 by its opening, and else CLM1
+opened : (bytes : List ℕ) → ((f : Form) → Opens (claimOpening f) bytes → ⊥) ⊎ Opens (claimOpening (formOf bytes)) bytes
+opened bytes = go (opens (claimOpening clm2) bytes) refl (opens (claimOpening clm1) bytes) refl
+  where
+    go : (b : Bool) → opens (claimOpening clm2) bytes ≡ b → (c : Bool) → opens (claimOpening clm1) bytes ≡ c
+        → ((f : Form) → Opens (claimOpening f) bytes → ⊥) ⊎ Opens (claimOpening (formBy b)) bytes
+    go true e c i = inr (opens-tells (claimOpening clm2) bytes .says e)
+    go false e true i = inr (opens-tells (claimOpening clm1) bytes .says i)
+    go false e false i = inl (neither bytes i e)
 
 -- no number lies
 pub claim-earned : {bytes : List ℕ} {n q : ℕ} → Bytes bytes → readClaim bytes ≡ refused n q → ClaimEarns bytes n q
-unfolding readClaim
-claim-earned b h = File.refused-earned claimOpening 10 early body body-exact body-refuses b h
+claim-earned {bytes} {n} {q} b h = go (opened bytes)
+  where
+    go : ((f : Form) → Opens (claimOpening f) bytes → ⊥) ⊎ Opens (claimOpening (formOf bytes)) bytes → ClaimEarns bytes n q
+    go (inl c) =
+        let (i, j) = File.refused-same {A = SpelledClaim} (sym (closed bytes c) ∙ h) in
+        subst (λ (q : ℕ). ClaimEarns bytes n q) j (subst (λ (n : ℕ). ClaimEarns bytes n 0) i (no-opening c))
+    go (inr o) = by-form (formOf bytes) o (form-earned (formOf bytes) b (sym (read-in (formOf bytes) bytes refl) ∙ h))
 
 -- and each is given where it is earned
 pub claim-refused : {bytes : List ℕ} {n q : ℕ} → ClaimEarns bytes n q → readClaim bytes ≡ refused n q
-unfolding readClaim
-claim-refused e = File.earned-refused claimOpening 10 early body body-exact body-refuses e
+claim-refused {bytes} (no-opening c) = closed bytes c
+claim-refused {bytes} (by-form f o e) = read-in f bytes (form-opens f bytes o) ∙ form-refused f e
 
--- exactly what document 01 says is refused, with its number and place
+-- exactly what the documents say is refused, with its number and place
 pub claim-refusal : {bytes : List ℕ} {n q : ℕ} → Bytes bytes → (readClaim bytes ≡ refused n q) ↔ ClaimEarns bytes n q
 claim-refusal b = (claim-earned b, claim-refused)
 
 pub one-claim-refusal : {bytes : List ℕ} {n q m r : ℕ} → ClaimEarns bytes n q → ClaimEarns bytes m r → (n ≡ m) × (q ≡ r)
-one-claim-refusal f g = File.one-refusal claimOpening 10 early body body-exact body-refuses f g
+one-claim-refusal e g = File.refused-same {A = SpelledClaim} (sym (claim-refused e) ∙ claim-refused g)
 
 pub claim-or-refusal : (bytes : List ℕ) → Bytes bytes → ((c : SpelledClaim) × ClaimFile bytes c) ⊎ ((n : ℕ) × (q : ℕ) × ClaimEarns bytes n q)
-claim-or-refusal bytes b = File.outcome claimOpening 10 early body body-exact body-refuses bytes b
+claim-or-refusal bytes b = go (readClaim bytes) refl
+  where
+    go : (z : Reading SpelledClaim) → readClaim bytes ≡ z → ((c : SpelledClaim) × ClaimFile bytes c) ⊎ ((n : ℕ) × (q : ℕ) × ClaimEarns bytes n q)
+    go (good c) h = inl (c, good-claim b h)
+    go (refused n q) h = inr (n, q, claim-earned b h)
 
 pub claim-not-both : {bytes : List ℕ} {c : SpelledClaim} {n q : ℕ} → ClaimFile bytes c → ClaimEarns bytes n q → ⊥
-claim-not-both f g = File.not-both claimOpening 10 early body body-exact body-refuses f g
-
--- the program's test of the opening decides refusal 10
-pub claim-closed : (bytes : List ℕ) → opens claimOpening bytes ≡ false → readClaim bytes ≡ refused 10 0
-claim-closed bytes h = claim-refused (no-opening (λ r e. fails (opens-tells claimOpening bytes) h (r, e)))
+claim-not-both k e = File.refused-not-good (sym (claim-refused e) ∙ claim-good k)

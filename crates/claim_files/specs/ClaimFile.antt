@@ -1,4 +1,4 @@
--- claim files as document 01 and T-04 write them: the encoding, and which entries and members a file may hold
+-- claim files as document 01, T-04 and T-05 write them: the encoding in both forms, and which entries and goals a file may hold
 use mathlib.Core.Path.{_≡_}
 use mathlib.Core.Logic.{_⊎_}
 use mathlib.Core.List.{List, [], _∷_, _++_}
@@ -7,15 +7,16 @@ use lib.ListN.{length}
 use Rattle.verdict.specs.Lists.{Each, Rising}
 use Rattle.formula.specs.Kind
 use Rattle.formula.specs.Spelled.{Spelled, aStands, bStands, recordsOf}
-use Rattle.formula.specs.Claim.{SpelledClaim}
+use Rattle.formula.specs.Claim.{Form, clm1, clm2, SpelledClaim}
 use Rattle.formula.specs.Codes.{Formula}
 use Rattle.formula.specs.Fields.{mapOf}
 use Rattle.encoding.specs.Encode.{FitField, encodePair, encodeTwo, encodeField, encodeCounted, Counts}
 use Rattle.encoding.specs.File.{Encodes}
 
--- the letters CLM1
-abbrev pub claimOpening : List ℕ
-claimOpening = 67 ∷ 76 ∷ 77 ∷ 49 ∷ []
+-- the letters CLM1 and CLM2
+abbrev pub claimOpening : Form → List ℕ
+claimOpening clm1 = 67 ∷ 76 ∷ 77 ∷ 49 ∷ []
+claimOpening clm2 = 67 ∷ 76 ∷ 77 ∷ 50 ∷ []
 
 -- a bit map byte, a kind byte, then only the fields whose bit stands
 abbrev pub encodeFields : ℕ → ℕ × ℕ → List ℕ
@@ -32,11 +33,20 @@ encodeEntries es = encodeCounted encodeTwo encodeEntry es
 abbrev pub encodeMembers : List ℕ → List ℕ
 encodeMembers ms = encodeCounted encodeTwo encodeTwo ms
 
+-- two bytes, the goal count; CLM1 has one goal and writes no count
+abbrev pub encodeGoalCount : Form → ℕ → List ℕ
+encodeGoalCount clm1 n = []
+encodeGoalCount clm2 n = encodeTwo n
+
+-- and that many member lists
+abbrev pub encodeGoals : Form → List (List ℕ) → List ℕ
+encodeGoals f gs = encodeCounted (encodeGoalCount f) encodeMembers gs
+
 abbrev pub encodeBody : SpelledClaim → List ℕ
-encodeBody c = encodeEntries (c .spelling) ++ encodeMembers (c .members)
+encodeBody c = encodeEntries (c .spelling) ++ encodeGoals (c .form) (c .goals)
 
 abbrev pub encodeClaim : SpelledClaim → List ℕ
-encodeClaim c = claimOpening ++ encodeBody c
+encodeClaim c = claimOpening (c .form) ++ encodeBody c
 
 -- the map of the kind; a box or diamond may carry an action in field B (map 3)
 abbrev pub FitMap : ℕ → ℕ → Type 0
@@ -66,10 +76,27 @@ pub record FitMembers (es : List Spelled) (ms : List ℕ) : Type 0 where
   -- entry numbers in range, no names
   pub each : Each (Formula (recordsOf es)) ms
 
+-- the goal count (1 to 16); CLM1 has one goal
+abbrev pub GoalCount : Form → ℕ → Type 0
+GoalCount clm1 n = n ≡ 1
+GoalCount clm2 n = Counts 16 n
+
+pub record FitGoals (f : Form) (es : List Spelled) (gs : List (List ℕ)) : Type 0 where
+  pub count : GoalCount f (length gs)
+  pub each : Each (FitMembers es) gs
+
 pub record FitClaim (c : SpelledClaim) : Type 0 where
   pub entries : FitEntries (c .spelling)
-  pub members : FitMembers (c .spelling) (c .members)
+  pub goals : FitGoals (c .form) (c .spelling) (c .goals)
 
--- the bytes are a claim file with these entries, so spelled, and members
-abbrev pub ClaimFile : List ℕ → SpelledClaim → Type 0
-ClaimFile bytes c = Encodes claimOpening encodeBody FitClaim bytes c
+-- the claim fits, in this form
+abbrev pub FitIn : Form → SpelledClaim → Type 0
+FitIn f c = (c .form ≡ f) × FitClaim c
+
+abbrev pub FormFile : Form → List ℕ → SpelledClaim → Type 0
+FormFile f bytes c = Encodes (claimOpening f) encodeBody (FitIn f) bytes c
+
+-- the bytes are a claim file of the claim's form with these entries, so spelled, and goals
+pub record ClaimFile (bytes : List ℕ) (c : SpelledClaim) : Type 0 where
+  pub encoded : bytes ≡ encodeClaim c
+  pub fits : FitClaim c

@@ -1,14 +1,16 @@
--- the claim by bytes: the first fault in the order of the bytes (10 to 14), or the decoding
+-- the claim by bytes: the first fault in the order of the bytes (10 to 14 and 72), or the decoding
 use mathlib.Core.List.{List}
-use mathlib.Core.Bool.{Bool, _&&_, _||_}
+use mathlib.Core.Bool.{Bool, true, false, _&&_, _||_}
 use Prim.Native.Nat.{ℕ}
 use lib.Dec.{eqb, leb}
 use Rattle.formula.specs.Kind
 use Rattle.formula.specs.Spelled.{Spelled, aStands, bStands, recordsOf}
-use Rattle.formula.specs.Claim.{SpelledClaim}
+use Rattle.formula.specs.Claim.{Form, clm1, clm2, SpelledClaim}
 use Rattle.formula.specs.Fields.{isModal, mapOf}
 use Rattle.encoding.specs.Parse.{Parser, seq, guard, via, bytes, two, field, count, times, listed, rising}
 use Rattle.encoding.specs.File.{Reading, readFile}
+use Rattle.encoding.specs.Known.{known}
+use Rattle.encoding.specs.Opening.{opens}
 use Rattle.formula.specs.Members.{isFormula}
 use Rattle.claim_files.specs.ClaimFile.{claimOpening}
 
@@ -41,13 +43,36 @@ unfoldable pub members : List Spelled → Parser (List ℕ)
 unfolding times isFormula
 members es s at = rising (count 24 12 (two early)) (isFormula (recordsOf es)) 14 (two early) s at
 
-abbrev pub claimOf : List Spelled × List ℕ → SpelledClaim
-claimOf p = record { spelling = p .0; members = p .1 }
+-- the goal count; CLM1 has one goal and writes no count
+abbrev pub goalCount : Form → Parser ℕ
+goalCount clm1 s at = known 1 s at
+goalCount clm2 s at = count 16 72 (two early) s at
 
-unfoldable pub body : Parser SpelledClaim
-unfolding entries members
-body s at = via claimOf (seq entries members) s at
+-- and that many member lists
+unfoldable pub goals : Form → List Spelled → Parser (List (List ℕ))
+unfolding times members
+goals f es s at = listed (goalCount f) (members es) s at
+
+abbrev pub claimOf : Form → List Spelled × List (List ℕ) → SpelledClaim
+claimOf f p = record { form = f; spelling = p .0; goals = p .1 }
+
+unfoldable pub body : Form → Parser SpelledClaim
+unfolding entries goals
+body f s at = via (claimOf f) (seq entries (goals f)) s at
+
+-- a file of one form
+unfoldable pub readForm : Form → List ℕ → Reading SpelledClaim
+unfolding readFile body
+readForm f s = readFile (claimOpening f) 10 early (body f) s
+
+abbrev pub formBy : Bool → Form
+formBy true = clm2
+formBy false = clm1
+
+-- by its first letters; where neither opening stands in front, the reading of CLM1 says so
+abbrev pub formOf : List ℕ → Form
+formOf s = formBy (opens (claimOpening clm2) s)
 
 unfoldable pub readClaim : List ℕ → Reading SpelledClaim
-unfolding readFile body
-readClaim s = readFile claimOpening 10 early body s
+unfolding readForm opens
+readClaim s = readForm (formOf s) s

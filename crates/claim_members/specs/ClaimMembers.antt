@@ -1,4 +1,4 @@
--- the members of a claim file, as the program walks over them: judged by the entries' kinds, and stored
+-- the members of a goal, as the program walks over them: judged by the entries' kinds, and stored
 use mathlib.Core.Path.{_≡_, refl, sym, ap, _∙_, fun-ext}
 use mathlib.Core.List.{List, [], _∷_, _++_}
 use mathlib.Core.Bool.{Bool, true, false, not, _&&_, false≢true}
@@ -6,6 +6,7 @@ use Prim.Native.Nat.{ℕ, suc, _+_, _*_, _-_, _<_, _≤_}
 use native.Mathlib.Omega.{arith}
 use lib.Dec.{eqb, ltb}
 use lib.ListN.{length, getD, drop, set}
+use lib.Seq.{sets}
 use borrow.Author.Tests.{le-leb, lt-leb, lt-ltb, le-ltb, not-true, not-false}
 use Rattle.verdict.specs.Lists.{written}
 use Rattle.verdict.specs.Tells.{Tells, tells-as, and-tells, not-tells, ltb-tells, eqb-tells, fails-holds}
@@ -14,11 +15,11 @@ use Rattle.formula.specs.Table.{Table}
 use Rattle.formula.specs.Codes.{Formula}
 use Rattle.formula.specs.Columns.{column, kindColumn, written-at}
 use Rattle.formula.specs.Spelled.{Spelled, recordOf, recordsOf, markedOf, tableBy, by-length}
-use Rattle.encoding.specs.Parse.{Got, fault, guard, times, count, two, fits-from, rising}
+use Rattle.encoding.specs.Parse.{Got, fault, Parser, guard, times, count, two, fits-from, rising}
 use Rattle.formula.specs.Members.{isFormula, formula-tells}
 use Rattle.claim_files.specs.ReadClaim.{early, members}
 use Rattle.encoding.specs.Walk.{Reached, guard-passes, guard-fails, guard-cut, Walking, walk-begins, walk-steps, walk-stops, walk-ends, counted-starts, counted-cut}
-use Rattle.verdict.specs.WrittenLaws.{written-more}
+use Rattle.verdict.specs.WrittenLaws.{sets-more}
 use Rattle.encoding.specs.Places.{InFile}
 use Rattle.file_parts.specs.Numbers.{twoAt, countAt, count-inside}
 use Rattle.file_parts.specs.Parts.{ListRead, PartTells, part-as}
@@ -71,22 +72,26 @@ module _ (ks : List ℕ) (n c : ℕ) (s : List ℕ) (at : ℕ) where
           near = h .near;
         }
 
--- the members stand in front of what was there before
-pub record MembersStored (ms₀ ms : List ℕ) (l : List ℕ) : Type 0 where
-  pub members : ms ≡ written l ms₀
+-- the members stand from a start on, and what was there before unchanged beside them
+pub record MembersStored (start : ℕ) (ms₀ ms : List ℕ) (l : List ℕ) : Type 0 where
+  pub members : ms ≡ sets ms₀ start l
 
 -- m members from a place on
 unfoldable pub membersFrom : List ℕ → ℕ → ℕ → List ℕ → ℕ → Got (List ℕ)
 unfolding plainFormula
 membersFrom ks n m s at = times (λ c. guard (fits-from (plainFormula ks n) c) 14 (two early)) (λ _ x. suc x) m 0 (drop at s) at
 
--- the members' part of a file
-unfoldable pub membersAt : List ℕ → ℕ → List ℕ → ℕ → Got (List ℕ)
+-- the members of a goal, and where they are in a file
+unfoldable pub membersBy : List ℕ → ℕ → Parser (List ℕ)
 unfolding plainFormula times
-membersAt ks n s at = rising (count 24 12 (two early)) (plainFormula ks n) 14 (two early) (drop at s) at
+membersBy ks n s at = rising (count 24 12 (two early)) (plainFormula ks n) 14 (two early) s at
 
--- the part begins at offset 1,542 or before: no member lies past offset 1,592
-pub members-place : (s : List ℕ) (at : ℕ) → InFile s 1542 at → {m o : ℕ} → Reached s (at + 2) (countAt 24 12 early s at) m o → InFile s 1544 o × (m ≤ 24)
+unfoldable pub membersAt : List ℕ → ℕ → List ℕ → ℕ → Got (List ℕ)
+unfolding membersBy
+membersAt ks n s at = membersBy ks n (drop at s) at
+
+-- the last of sixteen goals begins at offset 2,294 or before
+pub members-place : (s : List ℕ) (at : ℕ) → InFile s 2294 at → {m o : ℕ} → Reached s (at + 2) (countAt 24 12 early s at) m o → InFile s 2296 o × (m ≤ 24)
 members-place s at p h = (record { within = h .inside; low = omega (arith, h .near, p .low) }, count-inside early s at 24 12 h .1)
 
 module _ (ks : List ℕ) (n : ℕ) (s : List ℕ) (at : ℕ) where
@@ -94,51 +99,51 @@ module _ (ks : List ℕ) (n : ℕ) (s : List ℕ) (at : ℕ) where
   unfolding membersAt countAt plainFormula times
   members-cut h = counted-cut (λ c. guard (fits-from (plainFormula ks n) c) 14 (two early)) (λ _ x. suc x) (count 24 12 (two early)) (drop at s) at h
 
-  module _ (p : InFile s 1542 at) {m o : ℕ} (h : Reached s (at + 2) (countAt 24 12 early s at) m o) where
-    pub members-tell : (Stored : List ℕ → Type 0) (r : Part) → PartTells s (o + 2 * m) 24 (membersFrom ks n m s o) Stored r → PartTells s 1592 24 (membersAt ks n s at) Stored r
+  module _ {m o : ℕ} (h : Reached s (at + 2) (countAt 24 12 early s at) m o) where
+    pub members-tell : (Stored : List ℕ → Type 0) (r : Part) → PartTells s (o + 2 * m) 24 (membersFrom ks n m s o) Stored r → PartTells s (at + 50) 24 (membersAt ks n s at) Stored r
     unfolding membersAt membersFrom countAt plainFormula times
     members-tell Stored r t =
-        part-as s 24 Stored r (omega (arith, h .near, p .low, count-inside early s at 24 12 h))
+        part-as s 24 Stored r (omega (arith, h .near, count-inside early s at 24 12 h))
         (counted-starts (λ c. guard (fits-from (plainFormula ks n) c) 14 (two early)) (λ _ x. suc x) (count 24 12 (two early)) (drop at s) at (h .found)) t
 
 -- i of m members are read and stored, and the next is not below the floor
-pub record Listed (ks : List ℕ) (n : ℕ) (s : List ℕ) (from m : ℕ) (ms₀ : List ℕ) (i at floor : ℕ) (ms : List ℕ) : Type 0 where
+pub record Listed (ks : List ℕ) (n : ℕ) (s : List ℕ) (from m start : ℕ) (ms₀ : List ℕ) (i at floor : ℕ) (ms : List ℕ) : Type 0 where
   pub list : List ℕ
   pub walking : Walking (λ c. guard (fits-from (plainFormula ks n) c) 14 (two early)) (λ _ x. suc x) (membersFrom ks n m s from) m i list floor (drop at s) at
-  pub stored : ms ≡ written list ms₀
+  pub stored : ms ≡ sets ms₀ start list
   pub within : at ≤ length s
   pub near : at ≤ from + 2 * i
 
-module _ (ks : List ℕ) (n : ℕ) (s : List ℕ) (from m : ℕ) (ms₀ : List ℕ) where
+module _ (ks : List ℕ) (n : ℕ) (s : List ℕ) (from m start : ℕ) (ms₀ : List ℕ) where
   abbrev p : ℕ → List ℕ → ℕ → Got ℕ
   p c = guard (fits-from (plainFormula ks n) c) 14 (two early)
 
-  pub none-listed : from ≤ length s → Listed ks n s from m ms₀ 0 from 0 ms₀
+  pub none-listed : from ≤ length s → Listed ks n s from m start ms₀ 0 from 0 ms₀
   unfolding membersFrom plainFormula
   none-listed h =
       record { list = []; walking = walk-begins p (λ _ x. suc x) m 0 (drop from s) from; stored = refl; within = h; near = omega arith }
 
-  module _ {i at floor : ℕ} {ms : List ℕ} (e : Listed ks n s from m ms₀ i at floor ms) where
+  module _ {i at floor : ℕ} {ms : List ℕ} (e : Listed ks n s from m start ms₀ i at floor ms) where
     pub listing-stops : i < m → {k q : ℕ} → memberAt ks n floor s at ≡ fault k q → membersFrom ks n m s from ≡ fault k q
     unfolding memberAt plainFormula
     listing-stops h f = walk-stops p (λ _ x. suc x) (e .walking) h f
 
-    pub one-listed : i < m → m ≤ 24 → length ms₀ ≡ 24 → {v o : ℕ} → Reached s (at + 2) (memberAt ks n floor s at) v o
-        → Listed ks n s from m ms₀ (i + 1) o (v + 1) (set ms i v)
+    pub one-listed : i < m → {v o : ℕ} → Reached s (at + 2) (memberAt ks n floor s at) v o
+        → Listed ks n s from m start ms₀ (i + 1) o (v + 1) (set ms (start + i) v)
     unfolding memberAt plainFormula
-    one-listed h f l {v} {o} r =
+    one-listed h {v} {o} r =
         let up : suc v ≡ v + 1 = omega arith in
         record {
           list = e .list ++ (v ∷ []);
           walking = rw up at (walk-steps p (λ _ x. suc x) (e .walking) h (r .found));
           stored =
-              ap (λ (u : List ℕ). set u i v) (e .stored) ∙ ap (λ (k : ℕ). set (written (e .list) ms₀) k v) (sym (e .walking .many))
-              ∙ written-more (e .list) ms₀ v (omega (arith, e .walking .many));
+              ap (λ (u : List ℕ). set u (start + i) v) (e .stored) ∙ ap (λ (k : ℕ). set (sets ms₀ start (e .list)) (start + k) v) (sym (e .walking .many))
+              ∙ sym (sets-more (e .list) ms₀ start v);
           within = r .inside;
           near = omega (arith, r .near, e .near);
         }
 
-    pub all-listed : i ≤ m → m ≤ i → m ≤ 24 → ListRead s (from + 2 * m) 24 (membersFrom ks n m s from) (MembersStored ms₀ ms) m at
+    pub all-listed : i ≤ m → m ≤ i → m ≤ 24 → ListRead s (from + 2 * m) 24 (membersFrom ks n m s from) (MembersStored start ms₀ ms) m at
     all-listed l h f =
         record {
           list = e .list;
@@ -169,9 +174,10 @@ unfolding column tableBy
 same-kinds [] = refl
 same-kinds (e ∷ es) = ap (λ (l : List ℕ). e .kind ∷ l) (same-kinds es)
 
-pub members-same : (es : List Spelled) (old s : List ℕ) (at : ℕ) → members es (drop at s) at ≡ membersAt (written (kindColumn (markedOf es)) old) (length es) s at
-unfolding members membersAt times isFormula plainFormula
-members-same es old s at =
-    ap (λ (ok : ℕ → Bool). rising (count 24 12 (two early)) ok 14 (two early) (drop at s) at) (fun-ext (λ e. same-formula (recordsOf es) old e))
-    ∙ ap (λ (ks : List ℕ). membersAt (written ks old) (length (recordsOf es)) s at) (same-kinds es)
-    ∙ ap (λ (n : ℕ). membersAt (written (kindColumn (markedOf es)) old) n s at) (by-length recordOf es)
+-- so the members are read the same in sight of the kinds alone
+pub members-same : (es : List Spelled) (old : List ℕ) → members es ≡ membersBy (written (kindColumn (markedOf es)) old) (length es)
+unfolding members membersBy times isFormula plainFormula
+members-same es old =
+    ap (λ (ok : ℕ → Bool). rising (count 24 12 (two early)) ok 14 (two early)) (fun-ext (λ e. same-formula (recordsOf es) old e))
+    ∙ ap (λ (ks : List ℕ). membersBy (written ks old) (length (recordsOf es))) (same-kinds es)
+    ∙ ap (λ (n : ℕ). membersBy (written (kindColumn (markedOf es)) old) n) (by-length recordOf es)

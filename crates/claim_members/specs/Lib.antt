@@ -1,1 +1,3 @@
 pub mod ClaimMembers
+pub mod GoalColumns
+pub mod ClaimGoals

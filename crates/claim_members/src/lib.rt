@@ -1,4 +1,4 @@
-// The members of a claim file: each at its place (14), their count (12), and their column.
+// The members of a claim's goals: each at its place (14), their count (12), and their column. The goals, one after the other, are in `goals`.
 ghost use mathlib.Core.Path.{_≡_};
 ghost use Prim.Native.Nat.{_+_, _*_, _≤_};
 ghost use lib.ListN.{length};
@@ -12,6 +12,8 @@ use file_parts::Part;
 use file_parts::count_at;
 use file_parts::two_at;
 use formula::Kind;
+
+pub mod goal_lists;
 
 // Members rise strictly, lie in range and are no names.
 pub fn may_follow(kinds: &[u8; 256], entries: usize, floor: usize, member: usize) -> bool
@@ -46,19 +48,20 @@ fn member_at(bytes: &[u8], at: usize, kinds: &[u8; 256], entries: usize, floor: 
     }
 }
 
-// The members are stored while they are read.
+// The members are stored while they are read, from a start on.
 fn store_members(
     bytes: &[u8],
     from: usize,
     count: usize,
     kinds: &[u8; 256],
     entries: usize,
-    members: &mut [u16; 24],
+    members: &mut [u16; 384],
+    start: usize,
 ) -> Part
-    requires { ⌜ (length (now members) ≡ 24) × (entries ≤ 256) ⌝ }
-    requires { ⌜ (InFile (now bytes) 1544 from) × (count ≤ 24) ⌝ }
+    requires { ⌜ (length (now members) ≡ 384) × (start ≤ 360) × (entries ≤ 256) ⌝ }
+    requires { ⌜ (InFile (now bytes) 2296 from) × (count ≤ 24) ⌝ }
     ensures { λ r. ⌜ PartTells (now (bytes .entry)) (from + 2 * count) 24 (membersFrom (now (kinds .entry)) entries count (now (bytes .entry)) from)
-        (MembersStored (now (members .entry)) (now (members .exit))) r ⌝ }
+        (MembersStored start (now (members .entry)) (now (members .exit))) r ⌝ }
 {
     let mut at = from;
     let mut floor = 0;
@@ -67,7 +70,7 @@ fn store_members(
         match member_at(bytes, at, kinds, entries, floor) {
             Number::Refused { number, place } => return Part::Refused { number, place },
             Number::Read { value, next } => {
-                members[i] = value;
+                members[start + i] = value;
                 floor = value as usize + 1;
                 at = next;
                 i += 1;
@@ -77,18 +80,19 @@ fn store_members(
     Part::Read { count, next: at }
 }
 
-// Two bytes, the member count (1 to 24); the members.
+// Two bytes, the member count (1 to 24); the members. They are stored from a start on.
 pub fn read_members(
     bytes: &[u8],
     at: usize,
     kinds: &[u8; 256],
     entries: usize,
-    members: &mut [u16; 24],
+    members: &mut [u16; 384],
+    start: usize,
 ) -> Part
-    requires { ⌜ (length (now members) ≡ 24) × (entries ≤ 256) ⌝ }
-    requires { ⌜ InFile (now bytes) 1542 at ⌝ }
-    ensures { λ r. ⌜ PartTells (now (bytes .entry)) 1592 24 (membersAt (now (kinds .entry)) entries (now (bytes .entry)) at)
-        (MembersStored (now (members .entry)) (now (members .exit))) r ⌝ }
+    requires { ⌜ (length (now members) ≡ 384) × (start ≤ 360) × (entries ≤ 256) ⌝ }
+    requires { ⌜ InFile (now bytes) 2294 at ⌝ }
+    ensures { λ r. ⌜ PartTells (now (bytes .entry)) (at + 50) 24 (membersAt (now (kinds .entry)) entries (now (bytes .entry)) at)
+        (MembersStored start (now (members .entry)) (now (members .exit))) r ⌝ }
 {
     match count_at(bytes, at, 24, ClaimFault::COUNT, ClaimFault::LENGTH) {
         Number::Refused { number, place } => Part::Refused { number, place },
@@ -99,6 +103,7 @@ pub fn read_members(
             kinds,
             entries,
             members,
+            start,
         ),
     }
 }

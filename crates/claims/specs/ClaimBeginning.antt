@@ -1,25 +1,24 @@
 -- a claim file's first bytes, judged by themselves: its opening, its entry count and its first entry
 use mathlib.Core.Path.{_≡_, sym, ap, _∙_}
-use mathlib.Core.Bool.{Bool, true, false, not}
+use mathlib.Core.Bool.{Bool}
 use mathlib.Core.List.{List, []}
 use Prim.Native.Nat.{ℕ, _+_}
 use native.Mathlib.Omega.{arith}
-use borrow.Author.Tests.{not-true, not-false}
+use lib.Dec.{eqb}
+use borrow.Author.Tests.{eq-eqb, ne-eqb}
 use Rattle.verdict.specs.Verdict as verdicts
 use Rattle.verdict.specs.Verdict.{Verdict, accepted, pick}
 use Rattle.formula.specs.Spelled.{Spelled}
 use Rattle.formula.specs.Claim.{SpelledClaim}
 use Rattle.encoding.specs.Parse.{Got, fault, got}
 use Rattle.encoding.specs.File.{Reading, refused}
-use Rattle.encoding.specs.Opening.{opens}
 use Rattle.encoding.specs.Places.{InFile}
 use Rattle.encoding.specs.Walk.{Reached}
-use Rattle.claim_files.specs.ClaimFile.{claimOpening}
 use Rattle.claim_files.specs.ReadClaim.{early, readClaim}
 use Rattle.file_parts.specs.Numbers.{countAt, count-inside}
 use Rattle.claim_entries.specs.ClaimEntry.{entryAt}
 use Rattle.claim_entries.specs.ClaimEntries.{entriesAt, entries-start, entries-cut, none-entered, entering-stops}
-use Rattle.claims.specs.ClaimWalk.{claim-closed, claim-no-entries}
+use Rattle.claims.specs.ClaimWalk.{openingForm, claim-closed, claim-opened, claim-no-entries}
 
 -- what a first entry earns by itself, and what the count before it does
 abbrev earns : {A : Type 0} → Got A → Verdict
@@ -32,8 +31,8 @@ counted s (got k r o) = earns (entryAt s o)
 
 -- what the opening, the entry count and the first entry earn
 unfoldable pub beginning : List ℕ → Verdict
-unfolding opens countAt entryAt
-beginning s = pick (opens claimOpening s) (counted s (countAt 256 12 early s 4)) (verdicts.refused 10 0)
+unfolding openingForm countAt entryAt
+beginning s = pick (eqb (openingForm s) 0) (verdicts.refused 10 0) (counted s (countAt 256 12 early s 4))
 
 -- a refusal is that of the whole file; acceptance says nothing of it
 abbrev pub BeginningTells : Reading SpelledClaim → Verdict → Type 0
@@ -57,23 +56,26 @@ pub record Begun (s : List ℕ) (v : Verdict) : Type 0 where
   pub earned : v ≡ beginning s
   pub stands : BeginningTells (readClaim s) v
 
-module _ (s : List ℕ) {opened : Bool} (test : opened ≡ opens claimOpening s) where
-  pub begun-closed : not opened ≡ true → Begun s (verdicts.refused 10 0)
-  unfolding beginning
-  begun-closed h = record { earned = sym (ap (λ (b : Bool). pick b (counted s (countAt 256 12 early s 4)) (verdicts.refused 10 0)) (sym test ∙ not-true opened h)); stands = claim-closed s test h }
+module _ (s : List ℕ) {f : ℕ} (test : f ≡ openingForm s) where
+  abbrev by-opening : Bool → Verdict
+  by-opening b = pick b (verdicts.refused 10 0) (counted s (countAt 256 12 early s 4))
 
-  module _ (h : not opened ≡ false) where
+  pub begun-closed : f ≡ 0 → Begun s (verdicts.refused 10 0)
+  unfolding beginning
+  begun-closed h = record { earned = sym (ap by-opening (eq-eqb (openingForm s) 0 (sym test ∙ h))); stands = claim-closed s test h }
+
+  module _ (h : f ≡ 0 → ⊥) where
     -- past the opening
     open-beginning : beginning s ≡ counted s (countAt 256 12 early s 4)
     unfolding beginning
-    open-beginning = ap (λ (b : Bool). pick b (counted s (countAt 256 12 early s 4)) (verdicts.refused 10 0)) (sym test ∙ not-false opened h)
+    open-beginning = ap by-opening (ne-eqb (openingForm s) 0 (λ e. h (test ∙ e)))
 
     pub begun-uncounted : {n q : ℕ} → countAt 256 12 early s 4 ≡ fault n q → Begun s (verdicts.refused n q)
-    begun-uncounted e = record { earned = sym (open-beginning ∙ ap (counted s) e); stands = claim-no-entries s test h (entries-cut s 4 e) }
+    begun-uncounted e = record { earned = sym (open-beginning ∙ ap (counted s) e); stands = claim-no-entries s (claim-opened s test h) (entries-cut s 4 e) }
 
     module _ {k o : ℕ} (c : Reached s (4 + 2) (countAt 256 12 early s 4) k o) where
       pub begun-cut : {n q : ℕ} → entryAt s o ≡ fault n q → Begun s (verdicts.refused n q)
-      begun-cut e = record { earned = sym (open-beginning ∙ ap (counted s) (c .found) ∙ ap earns e); stands = claim-no-entries s test h (first-cut s c e) }
+      begun-cut e = record { earned = sym (open-beginning ∙ ap (counted s) (c .found) ∙ ap earns e); stands = claim-no-entries s (claim-opened s test h) (first-cut s c e) }
 
       pub begun-passed : {x : Spelled} {z : ℕ} {r : List ℕ} → entryAt s o ≡ got x r z → Begun s accepted
       begun-passed e = record { earned = sym (open-beginning ∙ ap (counted s) (c .found) ∙ ap earns e); stands = tt }

@@ -1,56 +1,61 @@
 -- a whole claim file, as the program walks over it: what its answer tells, and what it leaves in each array
 use mathlib.Core.Path.{_≡_, refl, sym, ap, _∙_}
 use mathlib.Core.List.{List}
-use mathlib.Core.Bool.{Bool, true, false, not}
+use mathlib.Core.Bool.{Bool, true, false}
 use Prim.Native.Nat.{ℕ, _<_, _≤_}
 use native.Mathlib.Omega.{arith}
-use lib.ListN.{length, take, drop, length-append}
-use lib.Seq.{take-append-seam}
-use borrow.Author.Tests.{not-true, not-false}
+use lib.Dec.{eqb}
+use lib.ListN.{length, drop, length-append}
 use Rattle.verdict.specs.Lists.{written}
+use Rattle.verdict.specs.Tests.{choose}
 use Rattle.formula.specs.Table.{Entry, Table}
-use Rattle.formula.specs.Claim.{Claim, SpelledClaim, markedClaim}
+use Rattle.formula.specs.Claim.{Form, clm1, clm2, formNumber, Claim, SpelledClaim, markedClaim}
 use Rattle.formula.specs.Spelled.{Spelled, marked, markedOf, by-length}
 use Rattle.formula.specs.Plain.{tableOf}
-use Rattle.formula.specs.Held.{ClaimHeld}
-use Rattle.formula.specs.Columns.{column, column-length, kindColumn, aColumn, bColumn, table-of-columns}
+use Rattle.formula.specs.Held.{goalsOf, ClaimHeld}
+use Rattle.formula.specs.Columns.{column, column-length, kindColumn, table-of-columns}
 use Rattle.encoding.specs.Parse.{Got, fault, got, bind}
 use Rattle.encoding.specs.File.{Reading, refused, good, ending}
 use Rattle.encoding.specs.Outcome.{RefusedWith}
-use Rattle.encoding.specs.Opening.{opens, begins-tells}
+use Rattle.encoding.specs.Opening.{opens, opens-tells, begins-tells}
 use Rattle.claim_files.specs.ClaimFile.{claimOpening}
-use Rattle.claim_files.specs.ReadClaim.{early, entries, members, claimOf, body, readClaim}
-use Rattle.encoding.specs.Walk.{file-opens, file-closed, bytes-follow, none-follow}
+use Rattle.claim_files.specs.ReadClaim.{early, goals, claimOf, body, readForm, formBy, formOf, readClaim}
+use Rattle.claim_files.specs.ClaimExact.{form-opens}
+use Rattle.claim_files.specs.ClaimFaults as files
+use Rattle.encoding.specs.Walk.{file-opens, bytes-follow, none-follow}
 use Rattle.file_parts.specs.Parts.{ListRead}
 use Rattle.claim_entries.specs.ClaimEntries.{EntryArrays, EntriesStored, entriesAt}
-use Rattle.claim_members.specs.ClaimMembers.{MembersStored, membersAt, members-same}
+use Rattle.claim_members.specs.GoalColumns.{GoalsStored}
+use Rattle.claim_members.specs.ClaimGoals.{goalsAt, goals-same}
 use Rattle.claims.specs.declared.ClaimRead.{ClaimRead}
 use Rattle.claims.specs.declared.ClaimRead.the-variants.{Read, Refused}
 
 -- the arrays that a claim is decoded into
-pub record ClaimArrays (ks xs ys ms : List ℕ) : Type 0 where
+pub record ClaimArrays (ks xs ys gs ms : List ℕ) : Type 0 where
   pub entries : EntryArrays ks xs ys
-  pub members : length ms ≡ 24
+  pub starts : length gs ≡ 17
+  pub members : length ms ≡ 384
 
 -- a claim as the columns hold it: a 0 that is written out is marked there
 abbrev pub heldReading : Reading SpelledClaim → Reading Claim
 heldReading (refused n q) = refused n q
 heldReading (good c) = good (markedClaim c)
 
--- the file is a claim, of n entries and k members, and is held
-pub record ClaimGot (r : Reading Claim) (ks xs ys ms : List ℕ) (n k : ℕ) : Type 0 where
+-- the file is a claim of the form of this number, of n entries and k goals, and is held
+pub record ClaimGot (r : Reading Claim) (ks xs ys gs ms : List ℕ) (f n k : ℕ) : Type 0 where
   pub claim : Claim
   pub was : r ≡ good claim
-  pub held : ClaimHeld claim ks xs ys n ms k
+  pub form : formNumber (claim .form) ≡ f
+  pub held : ClaimHeld claim ks xs ys n gs ms k
 
 -- the answer of one walk; a refused file may leave a part of its decoding
-abbrev pub ClaimTells : Reading Claim → List ℕ → List ℕ → List ℕ → List ℕ → ClaimRead → Type 0
-ClaimTells r ks xs ys ms (Read n k) = ClaimGot r ks xs ys ms n k
-ClaimTells r ks xs ys ms (Refused n q) = RefusedWith r n q
+abbrev pub ClaimTells : Reading Claim → List ℕ → List ℕ → List ℕ → List ℕ → List ℕ → ClaimRead → Type 0
+ClaimTells r ks xs ys gs ms (Read f n k) = ClaimGot r ks xs ys gs ms f n k
+ClaimTells r ks xs ys gs ms (Refused n q) = RefusedWith r n q
 
 -- what holds of the answer in an arm that knows which it is
-module _ {r : Reading Claim} (ks xs ys ms : List ℕ) {w : ClaimRead} (t : ClaimTells r ks xs ys ms w) where
-  pub claim-as-read : {n k : ℕ} → w ≡ Read n k → ClaimGot r ks xs ys ms n k
+module _ {r : Reading Claim} (ks xs ys gs ms : List ℕ) {w : ClaimRead} (t : ClaimTells r ks xs ys gs ms w) where
+  pub claim-as-read : {f n k : ℕ} → w ≡ Read f n k → ClaimGot r ks xs ys gs ms f n k
   claim-as-read e = rw e at t
 
   pub claim-as-refused : {n q : ℕ} → w ≡ Refused n q → RefusedWith r n q
@@ -59,72 +64,126 @@ module _ {r : Reading Claim} (ks xs ys ms : List ℕ) {w : ClaimRead} (t : Claim
 abbrev pub refusal : ℕ → ℕ → ClaimRead
 refusal n q = Refused n q
 
-pub claim-refused : {r : Reading SpelledClaim} (ks xs ys ms : List ℕ) {w : ClaimRead} {n q : ℕ} → (w ≡ refusal n q) × (n < 65536) × (q < 65536) → r ≡ refused n q
-    → ClaimTells (heldReading r) ks xs ys ms w
-claim-refused ks xs ys ms (e, a, b) h = rw e (record { was = ap heldReading h; small = (a, b) })
+pub claim-refused : {r : Reading SpelledClaim} (ks xs ys gs ms : List ℕ) {w : ClaimRead} {n q : ℕ} → (w ≡ refusal n q) × (n < 65536) × (q < 65536) → r ≡ refused n q
+    → ClaimTells (heldReading r) ks xs ys gs ms w
+claim-refused ks xs ys gs ms (e, a, b) h = rw e (record { was = ap heldReading h; small = (a, b) })
 
 -- a column that was written is there whole
 column-there : (f : Entry → ℕ) (t : Table) (old : List ℕ) → length t ≤ length (written (column f t) old)
 column-there f t old = omega (arith, length-append (column f t) (drop (length (column f t)) old), column-length f t)
 
-module _ {ks₀ ks xs₀ xs ys₀ ys ms₀ ms : List ℕ} {es : Table} {l : List ℕ} (x : EntriesStored ks₀ ks xs₀ xs ys₀ ys es) (y : MembersStored ms₀ ms l) where
-  stored-held : {n k : ℕ} → length es ≡ n → n ≤ 256 → length l ≡ k → k ≤ 24 → ClaimHeld (record { entries = es; members = l }) ks xs ys n ms k
-  stored-held {n} {k} i a j b = record {
-    same = rw (← i, ← j, x .kinds, x .a-fields, x .b-fields, y .members) (ap (λ (c : Table × List ℕ). record { entries = c .0; members = c .1 }) both);
+module _ {ks₀ ks xs₀ xs ys₀ ys gs ms : List ℕ} {es : Table} {l : List (List ℕ)} (x : EntriesStored ks₀ ks xs₀ xs ys₀ ys es) (y : GoalsStored gs ms l) where
+  stored-held : (f : Form) {n k : ℕ} → length es ≡ n → n ≤ 256 → length l ≡ k → ClaimHeld (record { form = f; entries = es; goals = l }) ks xs ys n gs ms k
+  stored-held f {n} {k} i a j = record {
+    same = ap (λ (t : Table). record { form = f; entries = t; goals = goalsOf gs ms k }) table ∙ ap (λ (g : List (List ℕ)). record { form = f; entries = es; goals = g }) (rw (← j) (y .same));
     entries = a;
     kinds = rw (← i, x .kinds) (column-there (λ r. r .kind) es ks₀);
     a-fields = rw (← i, x .a-fields) (column-there (λ r. r .a) es xs₀);
     b-fields = rw (← i, x .b-fields) (column-there (λ r. r .b) es ys₀);
-    members = b;
-    listed = rw (← j, y .members) (omega (arith, length-append l (drop (length l) ms₀)));
+    goals = rw (← j) (y .held);
   }
     where
-      both : _≡_ {A = Table × List ℕ} (tableOf (written (kindColumn es) ks₀) (written (aColumn es) xs₀) (written (bColumn es) ys₀) (length es), take (length l) (written l ms₀)) (es, l)
-      both = rw (table-of-columns es ks₀ xs₀ ys₀, take-append-seam l (drop (length l) ms₀)) refl
+      table : tableOf ks xs ys n ≡ es
+      table = rw (← i, x .kinds, x .a-fields, x .b-fields) (table-of-columns es ks₀ xs₀ ys₀)
 
-module _ (s : List ℕ) {opened : Bool} (test : opened ≡ opens claimOpening s) where
-  pub claim-closed : not opened ≡ true → readClaim s ≡ refused 10 0
-  unfolding readClaim
-  claim-closed h = file-closed claimOpening 10 early body s (sym test ∙ not-true opened h)
+-- the number of the form by whose letters the bytes open, and 0 where they open by none
+unfoldable pub openingForm : List ℕ → ℕ
+unfolding opens
+openingForm s = choose (opens (claimOpening clm1) s) (formNumber clm1) (choose (opens (claimOpening clm2) s) (formNumber clm2) 0)
 
-  module _ (h : not opened ≡ false) where
-    pub claim-long : 4 ≤ length s
-    claim-long = begins-tells claimOpening s .says (sym test ∙ not-false opened h) .long
+-- for the program's returns
+module _ (s : List ℕ) {one : Bool} (first : one ≡ opens (claimOpening clm1) s) where
+  pub opens-one : one ≡ true → formNumber clm1 ≡ openingForm s
+  unfolding openingForm
+  opens-one h = rw (← first, h) refl
 
-    -- the members are read in sight of the entries
-    abbrev after-entries : Got (List Spelled) → Reading SpelledClaim
-    after-entries g = ending early (bind (bind g (λ es r o. bind (members es r o) (λ ms t z. got (es, ms) t z))) (λ c t z. got (claimOf c) t z))
+  module _ {several : Bool} (h : one ≡ false) (second : several ≡ opens (claimOpening clm2) s) where
+    pub opens-several : several ≡ true → formNumber clm2 ≡ openingForm s
+    unfolding openingForm
+    opens-several k = rw (← first, h, ← second, k) refl
 
-    abbrev after-members : List Spelled → Got (List ℕ) → Reading SpelledClaim
-    after-members es g = ending early (bind (bind g (λ ms t z. got (es, ms) t z)) (λ c t z. got (claimOf c) t z))
+    pub opens-none : several ≡ false → 0 ≡ openingForm s
+    unfolding openingForm
+    opens-none k = rw (← first, h, ← second, k) refl
 
-    claim-entries : readClaim s ≡ after-entries (entriesAt s 4)
-    unfolding readClaim body entriesAt
-    claim-entries = file-opens claimOpening 10 early body s (sym test ∙ not-false opened h)
+-- it is the one that the file is read in
+pub record Opened (s : List ℕ) (n : ℕ) : Type 0 where
+  pub number : formNumber (formOf s) ≡ n
+  pub letters : opens (claimOpening (formOf s)) s ≡ true
 
-    pub claim-no-entries : {n q : ℕ} → entriesAt s 4 ≡ fault n q → readClaim s ≡ refused n q
-    claim-no-entries e = claim-entries ∙ ap after-entries e
+module _ (s : List ℕ) {n : ℕ} (test : n ≡ openingForm s) where
+  pub claim-closed : n ≡ 0 → readClaim s ≡ refused 10 0
+  unfolding openingForm
+  claim-closed h = go (opens (claimOpening clm1) s) (opens (claimOpening clm2) s) refl refl (sym h ∙ test)
+    where
+      go : (b c : Bool) → opens (claimOpening clm1) s ≡ b → opens (claimOpening clm2) s ≡ c → 0 ≡ choose b 1 (choose c 2 0) → readClaim s ≡ refused 10 0
+      go true c i j k = absurd (omega arith)
+      go false true i j k = absurd (omega arith)
+      go false false i j k = files.claim-closed s i j
 
-    module _ {ks₀ ks xs₀ xs ys₀ ys : List ℕ} {n o : ℕ} (x : ListRead s 1542 256 (entriesAt s 4) (λ es. EntriesStored ks₀ ks xs₀ xs ys₀ ys (markedOf es)) n o) where
-      claim-members : readClaim s ≡ after-members (x .list) (membersAt ks n s o)
-      claim-members =
-          claim-entries ∙ ap after-entries (x .reached .found) ∙ ap (after-members (x .list)) (members-same (x .list) ks₀ s o)
-          ∙ ap (λ (k : ℕ). after-members (x .list) (membersAt (written (kindColumn (markedOf (x .list))) ks₀) k s o)) (x .many)
-          ∙ ap (λ (u : List ℕ). after-members (x .list) (membersAt u n s o)) (sym (x .stored .kinds))
+  pub claim-opened : (n ≡ 0 → ⊥) → Opened s n
+  unfolding openingForm
+  claim-opened h = go (opens (claimOpening clm1) s) (opens (claimOpening clm2) s) refl refl test
+    where
+      by : (f : Form) → opens (claimOpening f) s ≡ true → n ≡ formNumber f → Opened s n
+      by f e k = let i = form-opens f s (opens-tells (claimOpening f) s .says e) in record { number = ap formNumber i ∙ sym k; letters = rw i e }
 
-      pub claim-no-members : {k q : ℕ} → membersAt ks n s o ≡ fault k q → readClaim s ≡ refused k q
-      claim-no-members e = claim-members ∙ ap (after-members (x .list)) e
+      go : (b c : Bool) → opens (claimOpening clm1) s ≡ b → opens (claimOpening clm2) s ≡ c → n ≡ choose b 1 (choose c 2 0) → Opened s n
+      go true c i j k = by clm1 i k
+      go false true i j k = by clm2 j k
+      go false false i j k = absurd (h k)
 
-      module _ {ms₀ ms : List ℕ} {m z : ℕ} (y : ListRead s 1592 24 (membersAt ks n s o) (MembersStored ms₀ ms) m z) where
-        pub claim-follows : z < length s → readClaim s ≡ refused early z
-        claim-follows f = claim-members ∙ ap (after-members (x .list)) (y .reached .found) ∙ bytes-follow early s (claimOf (x .list, y .list)) z f
+-- which the number tells
+pub form-by-number : (f : Form) → formBy (eqb (formNumber f) 2) ≡ f
+form-by-number clm1 = refl
+form-by-number clm2 = refl
 
-        claim-whole : length s ≤ z → readClaim s ≡ good (record { spelling = x .list; members = y .list })
-        claim-whole f = claim-members ∙ ap (after-members (x .list)) (y .reached .found) ∙ none-follow early s (claimOf (x .list, y .list)) z f
+opening-length : (f : Form) → length (claimOpening f) ≡ 4
+opening-length clm1 = refl
+opening-length clm2 = refl
 
-        pub claim-got : length s ≤ z → ClaimGot (heldReading (readClaim s)) ks xs ys ms n m
-        claim-got f = record {
-          claim = markedClaim (record { spelling = x .list; members = y .list });
-          was = ap heldReading (claim-whole f);
-          held = stored-held (x .stored) (y .stored) (by-length marked (x .list) ∙ x .many) (x .few) (y .many) (y .few);
-        }
+module _ (s : List ℕ) {f : ℕ} (o : Opened s f) where
+  pub claim-long : 4 ≤ length s
+  claim-long = omega (arith, begins-tells (claimOpening (formOf s)) s .says (o .letters) .long, opening-length (formOf s))
+
+  -- the goals are read in sight of the entries
+  abbrev after-entries : Got (List Spelled) → Reading SpelledClaim
+  after-entries g = ending early (bind (bind g (λ es r z. bind (goals (formOf s) es r z) (λ gs t w. got (es, gs) t w))) (λ c t w. got (claimOf (formOf s) c) t w))
+
+  abbrev after-goals : List Spelled → Got (List (List ℕ)) → Reading SpelledClaim
+  after-goals es g = ending early (bind (bind g (λ gs t w. got (es, gs) t w)) (λ c t w. got (claimOf (formOf s) c) t w))
+
+  claim-entries : readClaim s ≡ after-entries (entriesAt s 4)
+  unfolding readClaim readForm body entriesAt
+  claim-entries =
+      file-opens (claimOpening (formOf s)) 10 early (body (formOf s)) s (o .letters)
+      ∙ ap (λ (n : ℕ). ending early (body (formOf s) (drop n s) n)) (opening-length (formOf s))
+
+  pub claim-no-entries : {n q : ℕ} → entriesAt s 4 ≡ fault n q → readClaim s ≡ refused n q
+  claim-no-entries e = claim-entries ∙ ap after-entries e
+
+  module _ {ks₀ ks xs₀ xs ys₀ ys : List ℕ} {n z : ℕ} (x : ListRead s 1542 256 (entriesAt s 4) (λ es. EntriesStored ks₀ ks xs₀ xs ys₀ ys (markedOf es)) n z) where
+    claim-goals : readClaim s ≡ after-goals (x .list) (goalsAt (formBy (eqb f 2)) ks n s z)
+    claim-goals =
+        claim-entries ∙ ap after-entries (x .reached .found) ∙ ap (after-goals (x .list)) (goals-same (formOf s) (x .list) ks₀ s z)
+        ∙ ap (λ (k : ℕ). after-goals (x .list) (goalsAt (formOf s) (written (kindColumn (markedOf (x .list))) ks₀) k s z)) (x .many)
+        ∙ ap (λ (u : List ℕ). after-goals (x .list) (goalsAt (formOf s) u n s z)) (sym (x .stored .kinds))
+        ∙ ap (λ (g : Form). after-goals (x .list) (goalsAt g ks n s z)) (sym (form-by-number (formOf s)) ∙ ap (λ (m : ℕ). formBy (eqb m 2)) (o .number))
+
+    pub claim-no-goals : {k q : ℕ} → goalsAt (formBy (eqb f 2)) ks n s z ≡ fault k q → readClaim s ≡ refused k q
+    claim-no-goals e = claim-goals ∙ ap (after-goals (x .list)) e
+
+    module _ {gs ms : List ℕ} {k w : ℕ} (y : ListRead s 2344 16 (goalsAt (formBy (eqb f 2)) ks n s z) (GoalsStored gs ms) k w) where
+      pub claim-follows : w < length s → readClaim s ≡ refused early w
+      claim-follows h = claim-goals ∙ ap (after-goals (x .list)) (y .reached .found) ∙ bytes-follow early s (claimOf (formOf s) (x .list, y .list)) w h
+
+      claim-whole : length s ≤ w → readClaim s ≡ good (claimOf (formOf s) (x .list, y .list))
+      claim-whole h = claim-goals ∙ ap (after-goals (x .list)) (y .reached .found) ∙ none-follow early s (claimOf (formOf s) (x .list, y .list)) w h
+
+      pub claim-got : length s ≤ w → ClaimGot (heldReading (readClaim s)) ks xs ys gs ms f n k
+      claim-got h = record {
+        claim = markedClaim (claimOf (formOf s) (x .list, y .list));
+        was = ap heldReading (claim-whole h);
+        form = o .number;
+        held = stored-held (x .stored) (y .stored) (formOf s) (by-length marked (x .list) ∙ x .many) (x .few) (y .many);
+      }

@@ -1,4 +1,4 @@
-// A back leaf's link to its companion (38), told in one step by the entry and exit numbers of the tree.
+// A back leaf's link to its companion (38), told in one step by the entry and exit numbers of the trees.
 ghost use Prim.Native.Nat.{_+_, _*_, _<_};
 ghost use lib.ListN.{length};
 ghost use Rattle.companions.specs.Companions.{Companion};

@@ -1,22 +1,23 @@
 -- the verdict is exact: it accepts exactly the correct proofs, and refuses with exactly the refusal that is earned
 use mathlib.Core.Path.{_≡_, refl, sym, ap, _∙_}
 use mathlib.Core.Logic.{_↔_}
-use mathlib.Core.List.{List}
+use mathlib.Core.List.{List, []}
 use Prim.Native.Nat.{ℕ}
-use native.Mathlib.Omega.{arith}
 use Rattle.verdict.specs.Verdict as verdicts
 use Rattle.verdict.specs.Verdict.{accepted}
 use Rattle.verdict.specs.VerdictLaws.{accepted-not-refused}
+use Rattle.verdict.specs.EachLaws.{each-member}
 use Rattle.encoding.specs.Encode.{Bytes}
 use Rattle.encoding.specs.File.{Reading, refused, good}
 use Rattle.formula.specs.Claim.{Derivation}
-use Rattle.proof_files.specs.ProofRecords.{node-count, code-formula}
+use Rattle.proof_files.specs.ProofRecords.{rooted, code-formula}
 use Rattle.calculus.specs.Given.{Given}
+use Rattle.calculus.specs.GoalLaws.{at-in}
 use Rattle.calculus.specs.JudgeExact.{accepted-correct, correct-accepted}
 use Rattle.calculus.specs.FaultLaws.{refused-earned, earned-refused}
 use Rattle.reader.specs.Files.{Files, files}
 use Rattle.reader.specs.WellFormed.{WellFormed}
-use Rattle.reader.specs.FormedLaws.{member-formula}
+use Rattle.reader.specs.FormedLaws.{member-formula, one-goal}
 use Rattle.reader.specs.FilesExact.{files-exactly}
 use Rattle.demands.specs.Correct.{Correct}
 use Rattle.demands.specs.Check.{answer, verdict}
@@ -26,8 +27,10 @@ use Rattle.demands.specs.Earned.{Earned, by-files, by-rules}
 pub given : {claim proof : List ℕ} {f : Files Derivation} → WellFormed claim proof f → Given (f .claim) (f .beside)
 given w = record {
   well = w .claim-formed .formed .well;
-  claimed = member-formula (w .claim-formed);
-  some = omega (arith, node-count (w .beside-formed));
+  claimed = λ i e h m. member-formula (w .claim-formed) _ (at-in [] _ i h) e m;
+  rooted =
+      let r = rooted (one-goal (w .claim-formed)) (w .beside-formed .fits) in
+      record { as-many = r .as-many; rising = r .rising; inside = λ x m. each-member (r .each) x m };
   members = λ v x l m. code-formula (w .beside-formed) v x m;
 }
 

@@ -9,10 +9,10 @@ use Rattle.formula.specs.Table.{Table}
 use Rattle.formula.specs.Claim.{Claim, Derivation}
 use Rattle.meaning.specs.States.{Model}
 use Rattle.meaning.specs.Meaning.{own}
-use Rattle.calculus.specs.Tree.{Tree}
+use Rattle.calculus.specs.Tree.{Trees}
 use Rattle.calculus.specs.Rules.{Keeps}
 use Rattle.calculus.specs.Loops.{GoodLoops}
-use Rattle.calculus.specs.Faults.{Claimed}
+use Rattle.calculus.specs.Goals.{goal, Claimed}
 use Rattle.reader.specs.Files.{Files}
 use Rattle.reader.specs.WellFormed.{ClaimFormed, WellFormed}
 
@@ -22,9 +22,9 @@ pub record Correct (claim proof : List ℕ) : Type 0 where
   pub read : Files Derivation
   -- 10 to 34
   pub formed : WellFormed claim proof read
-  -- 35
-  pub tree : Tree (read .beside .nodes)
-  -- 36: the root's members are the claim's, all in focus
+  -- 35: one tree for each root
+  pub tree : Trees (read .beside .roots) (read .beside .nodes)
+  -- 36: each root's members are its goal's, all in focus
   pub root : Claimed (read .claim) (read .beside)
   -- 37 and 38
   pub keeps : (v : ℕ) → v < length (read .beside .nodes) → Keeps (read .claim) (read .beside) v
@@ -35,10 +35,12 @@ pub record Correct (claim proof : List ℕ) : Type 0 where
 abbrev pub Refutes : Model → Table → ℕ → List ℕ → Type 0
 Refutes M t s ms = elements ms ⊆ (λ e. own M t e s ≡ false)
 
--- in every finite model, of any number of states, every state has a member of the claim that is true there
+-- goal by goal: in every finite model, of any number of states, every state has a member of the goal that is true there, so no state refutes
+-- even one goal
 pub record Irrefutable (claim : List ℕ) : Type 0 where
   pub read : Claim
   -- 10 to 23: the claim is well formed
   pub formed : ClaimFormed claim read
-  pub some-true : (M : Model) (s : ℕ) → s < M .size → (e : ℕ) × elements (read .members) e × (own M (read .entries) e s ≡ true)
-  pub none-refutes : (M : Model) (s : ℕ) → s < M .size → Refutes M (read .entries) s (read .members) → ⊥
+  pub some-true : (i : ℕ) → i < length (read .goals) → (M : Model) (s : ℕ) → s < M .size
+      → (e : ℕ) × elements (goal read i) e × (own M (read .entries) e s ≡ true)
+  pub none-refutes : (i : ℕ) → i < length (read .goals) → (M : Model) (s : ℕ) → s < M .size → Refutes M (read .entries) s (goal read i) → ⊥

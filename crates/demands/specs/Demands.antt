@@ -1,5 +1,5 @@
 -- the demands on the gate over the definitions, each with its proof; `Bytes s`: the numbers of s are below 256
--- what to read to believe them: `Correct`, `Irrefutable` and `Earned` rest on 779 lines of definitions, all contracts of the calls on 1919 lines;
+-- what to read to believe them: `Correct`, `Irrefutable` and `Earned` rest on 873 lines of definitions, all contracts of the calls on 2135 lines;
 -- tests/believed.sh counts and lists them
 use mathlib.Core.Path.{_≡_}
 use mathlib.Core.Logic.{_↔_, _⊎_}
@@ -13,7 +13,7 @@ use Rattle.encoding.specs.Encode.{Bytes}
 use Rattle.encoding.specs.File.{Reading, good, refused as refused-reading}
 use Rattle.formula.specs.Kind
 use Rattle.formula.specs.Table.{Table, entry, kind, action}
-use Rattle.formula.specs.Claim.{Claim, SpelledClaim, claimOf as recorded, Derivation}
+use Rattle.formula.specs.Claim.{Form, formNumber, Claim, SpelledClaim, claimOf as recorded, Derivation}
 use Rattle.formula.specs.Shape.{mu, nu}
 use Rattle.formula.specs.ShapeLaws.{mu-shape, nu-shape}
 use Rattle.formula.specs.Codes.{entryOf}
@@ -34,8 +34,13 @@ use Rattle.proof_files.specs.ReadProof.{readProof}
 use Rattle.proof_files.specs.ProofExact.{proof-decodes, proof-encodes}
 use Rattle.reader.specs.Files.{Files, readFormed, files}
 use Rattle.calculus.specs.Sequents.{listed}
+use Rattle.calculus.specs.Goals.{goal}
 use Rattle.tree.specs.Owners.{tree-judged}
-use Rattle.writing.specs.Writing.{ClaimRecords, ProofRecords, claimFile, proofFile, shortClaim, shortProof, writingClaim, writingProof, laidInto}
+use Rattle.writing.specs.RecordBytes.{claimHead, proofHead}
+use Rattle.writing.specs.Goals.{goalsFit, rootsFit}
+use Rattle.writing.specs.Writing.{ClaimRecords, ProofRecords, claimFile, proofFile, shortClaim, shortProof, goalPlace, claimReading, proofReading, bothReading, writingClaim, writingProof, laidInto}
+use Rattle.writing.specs.ClaimEnds.{longestClaim}
+use Rattle.writing.specs.ProofEnds.{longestProof}
 use Rattle.writing.specs.ClaimTrips.{claimOf, ClaimGiven, claim-roomy}
 use Rattle.writing.specs.ProofTrips.{derivationOf, ProofGiven, LongProof, proof-roomy}
 use Rattle.model_files.specs.Described.{modelOf}
@@ -52,16 +57,16 @@ use Rattle.demands.specs.CheckExact as check
 use Rattle.demands.specs.EvaluateExact as evaluation
 use Rattle.demands.specs.Sound as soundness
 use Rattle.demands.specs.Written as written
-use Rattle.demands.specs.Refutable.{muOfBox, falseAlone, mu-of-box-refuted, false-refuted}
+use Rattle.demands.specs.Refutable.{muOfBox, falseAlone, secondFalse, mu-of-box-refuted, false-refuted, second-refuted}
 
 module _ (claim proof : List ℕ) (bc : Bytes claim) (bp : Bytes proof) where
   -- 3, first half: what is accepted is irrefutable in every finite model, of any number of states
   pub accepted-sound : verdict claim proof ≡ accepted → Irrefutable claim
   accepted-sound h = soundness.sound (check.verdict-correct claim proof bc bp h)
 
-  -- the same of the table and the members that the file encodes: in every finite model every state has a true member
-  pub accepted-true : verdict claim proof ≡ accepted → (c : SpelledClaim) → ClaimFile claim c
-      → (M : Model) (s : ℕ) → s < M .size → (e : ℕ) × elements (c .members) e × (own M (recorded c .entries) e s ≡ true)
+  -- the same of the table and the goals that the file encodes: in every finite model every state has a true member of each goal
+  pub accepted-true : verdict claim proof ≡ accepted → (c : SpelledClaim) → ClaimFile claim c → (i : ℕ) → i < length (c .goals)
+      → (M : Model) (s : ℕ) → s < M .size → (e : ℕ) × elements (goal (recorded c) i) e × (own M (recorded c .entries) e s ≡ true)
   accepted-true h c f = soundness.irrefutable-true (accepted-sound h) c f
 
   -- 3, second half: accepted exactly when claim and proof are well formed and keep every rule, members compared by formula (T-03)
@@ -103,6 +108,10 @@ mu-of-box = mu-of-box-refuted
 
 pub false-alone : Irrefutable falseAlone → ⊥
 false-alone = false-refuted
+
+-- nor is a claim of which one goal is not (T-05)
+pub second-false : Irrefutable secondFalse → ⊥
+second-false = second-refuted
 
 -- 2: an evaluation of a claim in a model, with the slices it is lent
 module _ (claim model : List ℕ) (l : LentWords) (bc : Bytes claim) (bm : Bytes model) where
@@ -198,10 +207,10 @@ claim-round-trip = claim-decodes
 pub claim-bytes-back : {bytes : List ℕ} {c : SpelledClaim} → Bytes bytes → readClaim bytes ≡ good c → encodeClaim c ≡ bytes
 claim-bytes-back = claim-encodes
 
-pub proof-round-trip : {c : Claim} {d : Derivation} → FitProof c d → readProof c (encodeProof d) ≡ good d
+pub proof-round-trip : {c : Claim} {d : Derivation} → FitProof c d → readProof c (encodeProof (c .form) d) ≡ good d
 proof-round-trip = proof-decodes
 
-pub proof-bytes-back : (c : Claim) {bytes : List ℕ} {d : Derivation} → Bytes bytes → readProof c bytes ≡ good d → encodeProof d ≡ bytes
+pub proof-bytes-back : (c : Claim) {bytes : List ℕ} {d : Derivation} → Bytes bytes → readProof c bytes ≡ good d → encodeProof (c .form) d ≡ bytes
 proof-bytes-back = proof-encodes
 
 -- T-01: what is written is a file or a refusal. No refusal writes a byte; a file stands in front, and bytes beyond its end are untouched
@@ -212,27 +221,59 @@ module _ (w : Reading (List ℕ)) (out : List ℕ) where
   pub file-stands-in-front : {file : List ℕ} → w ≡ good file → (take (length file) (laidInto w out) ≡ file) × (drop (length file) (laidInto w out) ≡ drop (length file) out)
   file-stands-in-front = written.file-in-front w out
 
+-- what the reader makes of records that stand for a file of a form (T-05). Where the goals' member counts add up to the members, and CLM1 has one,
+-- it is what the reader says of that file; else 12 where the goal count stands, unless the reader finds a fault up to there
+module _ (f : Form) (c : ClaimRecords) where
+  pub claim-as-file : goalsFit f (c .counts) (c .members) ≡ true → claimReading f c ≡ readFormed (claimFile f c)
+  claim-as-file = written.fitting-goals f c
+
+  module _ (unfit : goalsFit f (c .counts) (c .members) ≡ false) where
+    pub claim-unfit : {p : ℕ} → readFormed (claimHead f (c .count) (take (c .count) (c .entries)) (length (c .counts))) ≡ refused-reading 11 p
+        → claimReading f c ≡ refused-reading 12 (goalPlace c)
+    claim-unfit = written.unfit-goals f c unfit
+
+    pub claim-unfit-later : {m p : ℕ} → (m ≡ 11 → ⊥) → readFormed (claimHead f (c .count) (take (c .count) (c .entries)) (length (c .counts))) ≡ refused-reading m p
+        → claimReading f c ≡ refused-reading m p
+    claim-unfit-later = written.unfit-before f c unfit
+
+-- the same of a proof's records beside a claim: 34 where the roots begin, unless they are as many as the goals, or none in PRF1
+module _ (f : Form) (d : ProofRecords) (k : Claim) where
+  pub proof-as-file : rootsFit f (length (k .goals)) (d .roots) ≡ true → proofReading f d k ≡ readProof k (proofFile f d)
+  proof-as-file = written.fitting-roots f d k
+
+  module _ (unfit : rootsFit f (length (k .goals)) (d .roots) ≡ false) where
+    pub roots-unfit : {p : ℕ} → readProof k (proofHead f (d .count)) ≡ refused-reading 31 p → proofReading f d k ≡ refused-reading 34 6
+    roots-unfit = written.unfit-roots f d k unfit
+
+    pub roots-unfit-later : {m p : ℕ} → (m ≡ 31 → ⊥) → readProof k (proofHead f (d .count)) ≡ refused-reading m p → proofReading f d k ≡ refused-reading m p
+    roots-unfit-later = written.unfit-count f d k unfit
+
 -- writing a claim's records, and a proof's over them, into a slice with room for so many bytes
 module _ (c : ClaimRecords) (room : ℕ) where
-  -- refusal 1 comes first
+  -- refusal 1 comes first, then 10 for a number that is no form
   pub claim-short-first : shortClaim c ≡ true → writingClaim c room ≡ refused-reading 1 0
   claim-short-first = written.claim-first c room
 
-  -- then the one that the reader would give for the file that the records make, however short the output slice is
-  pub claim-refused-as-read : shortClaim c ≡ false → {n q : ℕ} → readFormed (claimFile c) ≡ refused-reading n q → writingClaim c room ≡ refused-reading n q
-  claim-refused-as-read = written.claim-refuses c room
+  pub claim-no-form : shortClaim c ≡ false → ((f : Form) → c .form ≡ formNumber f → ⊥) → writingClaim c room ≡ refused-reading 10 0
+  claim-no-form = written.claim-formless c room
 
-  -- 70 is judged after the records
-  pub claim-room-last : shortClaim c ≡ false → (k : Claim) → readFormed (claimFile c) ≡ good k → room < length (claimFile c) → writingClaim c room ≡ refused-reading 70 0
-  claim-room-last = written.claim-last c room
+  module _ (f : Form) (named : c .form ≡ formNumber f) where
+    -- then the one that the reader would give for the file that the records make, however short the output slice is
+    pub claim-refused-as-read : shortClaim c ≡ false → {n q : ℕ} → claimReading f c ≡ refused-reading n q → writingClaim c room ≡ refused-reading n q
+    claim-refused-as-read = written.claim-refuses c room f named
 
-  -- reading a written file gives the records back, and it is never longer than this
-  pub claim-reads-back : {file : List ℕ} → writingClaim c room ≡ good file → (readFormed file ≡ good (claimOf c)) × (length file ≤ 1592)
-  claim-reads-back = written.claim-back c room
+    -- 70 is judged after the records
+    pub claim-room-last : shortClaim c ≡ false → (k : Claim) → claimReading f c ≡ good k → room < length (claimFile f c) → writingClaim c room ≡ refused-reading 70 0
+    claim-room-last = written.claim-last c room f named
 
-  -- a slice of that length never earns 70
-  pub claim-has-room : shortClaim c ≡ false → (k : Claim) → readFormed (claimFile c) ≡ good k → 1592 ≤ room → writingClaim c room ≡ good (claimFile c)
-  claim-has-room = claim-roomy c room
+    -- reading a written file gives the records back, within the form, and it is never longer than 1,592 bytes (CLM1) or 2,344 (CLM2)
+    pub claim-reads-back : {file : List ℕ} → writingClaim c room ≡ good file
+        → (readFormed file ≡ good (claimOf f c)) × ClaimGiven c (claimOf f c) × (length file ≤ longestClaim f)
+    claim-reads-back = written.claim-back c room f named
+
+    -- a slice of that length never earns 70
+    pub claim-has-room : shortClaim c ≡ false → (k : Claim) → claimReading f c ≡ good k → longestClaim f ≤ room → writingClaim c room ≡ good (claimFile f c)
+    claim-has-room = claim-roomy c room f named
 
   -- writing the records of an accepted claim gives its bytes back
   pub claim-written-again : {claim proof : List ℕ} → Bytes claim → Bytes proof → (k : Correct claim proof) → ClaimGiven c (k .read .claim)
@@ -243,26 +284,34 @@ module _ (c : ClaimRecords) (room : ℕ) where
     pub proof-short-first : (shortClaim c || shortProof d) ≡ true → writingProof c d room ≡ refused-reading 1 0
     proof-short-first = written.proof-first c room d
 
-    pub proof-refused-as-read : (shortClaim c || shortProof d) ≡ false → {n q : ℕ} → files (claimFile c) (proofFile d) ≡ refused-reading n q
-        → writingProof c d room ≡ refused-reading n q
-    proof-refused-as-read = written.proof-refuses c room d
+    pub proof-no-form : (shortClaim c || shortProof d) ≡ false → ((f : Form) → c .form ≡ formNumber f → ⊥) → writingProof c d room ≡ refused-reading 10 0
+    proof-no-form = written.proof-formless c room d
 
-    -- then 35, and 70 last
-    module _ (long : (shortClaim c || shortProof d) ≡ false) (f : Files Derivation) (read : files (claimFile c) (proofFile d) ≡ good f) where
-      pub proof-tree-refused : {n q : ℕ} → tree-judged (f .beside .nodes) ≡ refused n q → writingProof c d room ≡ refused-reading n q
-      proof-tree-refused = written.proof-by-tree c room d long f read
+    module _ (f : Form) (named : c .form ≡ formNumber f) where
+      -- the claim's records, then the proof's
+      pub proof-refused-as-read : (shortClaim c || shortProof d) ≡ false → {n q : ℕ} → bothReading f c d ≡ refused-reading n q
+          → writingProof c d room ≡ refused-reading n q
+      proof-refused-as-read = written.proof-refuses c room d f named
 
-      pub proof-room-last : tree-judged (f .beside .nodes) ≡ accepted → room < length (proofFile d) → writingProof c d room ≡ refused-reading 70 0
-      proof-room-last = written.proof-last c room d long f read
+      -- then 35, and 70 last
+      module _ (long : (shortClaim c || shortProof d) ≡ false) (x : Files Derivation) (read : bothReading f c d ≡ good x) where
+        pub proof-tree-refused : {n q : ℕ} → tree-judged (x .beside .roots) (x .beside .nodes) ≡ refused n q → writingProof c d room ≡ refused-reading n q
+        proof-tree-refused = written.proof-by-tree c room d f named long x read
 
-    pub proof-reads-back : {file : List ℕ} → writingProof c d room ≡ good file
-        → (readProof (claimOf c) file ≡ good (derivationOf d)) × ProofGiven d (derivationOf d .nodes) × (length file ≤ 58374)
-    proof-reads-back = written.proof-back c room d
+        pub proof-room-last : tree-judged (x .beside .roots) (x .beside .nodes) ≡ accepted → room < length (proofFile f d) → writingProof c d room ≡ refused-reading 70 0
+        proof-room-last = written.proof-last c room d f named long x read
 
-    pub proof-has-room : shortClaim c ≡ false → shortProof d ≡ false → (f : Files Derivation) → files (claimFile c) (proofFile d) ≡ good f
-        → tree-judged (f .beside .nodes) ≡ accepted → 58374 ≤ room → writingProof c d room ≡ good (proofFile d)
-    proof-has-room = proof-roomy c d room
+      -- an accepted proof never needs over 58,374 bytes in PRF1, and in PRF2 two bytes more for each goal: 58,406 at most
+      pub proof-reads-back : {file : List ℕ} → writingProof c d room ≡ good file
+          → (files (claimFile f c) file ≡ good (record { claim = claimOf f c; beside = derivationOf f d })) × ProofGiven f d (derivationOf f d)
+          × (length file ≤ longestProof f (length (c .counts)))
+      proof-reads-back = written.proof-back c room d f named
+
+      pub proof-has-room : shortClaim c ≡ false → shortProof d ≡ false → (x : Files Derivation) → bothReading f c d ≡ good x
+          → tree-judged (x .beside .roots) (x .beside .nodes) ≡ accepted → longestProof f (length (c .counts)) ≤ room → writingProof c d room ≡ good (proofFile f d)
+      proof-has-room = proof-roomy c d room f named
 
     pub proof-written-again : {claim proof : List ℕ} → Bytes claim → Bytes proof → (k : Correct claim proof) → ClaimGiven c (k .read .claim)
-        → ProofGiven d (k .read .beside .nodes) → 256 ≤ length (c .entries) → LongProof d → length proof ≤ room → writingProof c d room ≡ good proof
+        → ProofGiven (k .read .claim .form) d (k .read .beside) → 256 ≤ length (c .entries) → LongProof d → length proof ≤ room
+        → writingProof c d room ≡ good proof
     proof-written-again bc bp k given nodes long = written.accepted-proof-again bc bp k c given long room d nodes

@@ -13,9 +13,9 @@ use Rattle.formula.specs.Table.{Table}
 use Rattle.conditions.specs.Formed as table
 use Rattle.formula.specs.Claim.{Claim, Derivation}
 use Rattle.claim_files.specs.ClaimDocument as claims
-use Rattle.claim_files.specs.ClaimDocument.{ClaimStage, at-entry-count, at-entry, at-fields, at-member-count, at-member}
+use Rattle.claim_files.specs.ClaimDocument.{ClaimStage, at-entry-count, at-entry, at-fields, at-goal-count, at-member-count, at-member}
 use Rattle.proof_files.specs.ProofDocument as proofs
-use Rattle.proof_files.specs.ProofDocument.{ProofStage, at-node-count, at-node, at-code-count, at-code}
+use Rattle.proof_files.specs.ProofDocument.{NodeStage, at-rule, at-code-count, at-code, ProofStage, at-node-count, at-root, at-node}
 use Rattle.calculus.specs.Faults as rules
 use Rattle.model_files.specs.ModelDocument as models
 use Rattle.model_files.specs.ModelDocument.{StateStage, StateWrong, unfit-map, zero-mask, zero-actions, zero-count, unfit-successor, ModelStage, at-state-count, at-state, ModelEarns, by-form}
@@ -35,15 +35,20 @@ claim-wrong : (σ : ClaimStage) (w : List ℕ) (n : ℕ) → claims.Wrong σ w n
 claim-wrong at-entry-count w n x = omega (arith, unfit-number x)
 claim-wrong (at-entry m es) w n x = omega (arith, unfit-number x)
 claim-wrong (at-fields m es k) w n x = absurd x
-claim-wrong (at-member-count es) w n x = omega (arith, unfit-number x)
-claim-wrong (at-member es m ms) w n x = omega (arith, unfit-number x)
+claim-wrong (at-goal-count es) w n x = omega (arith, unfit-number x)
+claim-wrong (at-member-count es k gs) w n x = omega (arith, unfit-number x)
+claim-wrong (at-member es k gs m ms) w n x = omega (arith, unfit-number x)
 
-proof-wrong : (t : Table) (σ : ProofStage) (w : List ℕ) (n : ℕ) → proofs.Wrong t σ w n → 10 ≤ n
-proof-wrong t at-node-count w n x = omega (arith, unfit-number x)
-proof-wrong t (at-node m p) w n x = omega (arith, unfit-number x)
-proof-wrong t (proofs.at-fields m p r b) w n x = absurd x
-proof-wrong t (at-code-count m p r v) w n x = omega (arith, unfit-number x)
-proof-wrong t (at-code m p r v k cs) w n x = omega (arith, unfit-number x)
+node-wrong : (t : Table) (σ : NodeStage) (w : List ℕ) (n : ℕ) → proofs.NodeWrong t σ w n → 10 ≤ n
+node-wrong t at-rule w n x = omega (arith, unfit-number x)
+node-wrong t (proofs.at-fields r b) w n x = absurd x
+node-wrong t (at-code-count r v) w n x = omega (arith, unfit-number x)
+node-wrong t (at-code r v k cs) w n x = omega (arith, unfit-number x)
+
+proof-wrong : (c : Claim) (σ : ProofStage) (w : List ℕ) (n : ℕ) → proofs.Wrong c σ w n → 10 ≤ n
+proof-wrong c at-node-count w n x = omega (arith, unfit-number x)
+proof-wrong c (at-root m rs) w n x = omega (arith, unfit-number x)
+proof-wrong c (at-node m rs p σ) w n x = node-wrong (c .entries) σ w n x
 
 state-wrong : {f : Form} {k c : ℕ} {σ : StateStage} {w : List ℕ} {n : ℕ} → StateWrong f k c σ w n → 10 ≤ n
 state-wrong (unfit-map m o k) = omega arith
@@ -78,18 +83,19 @@ table-number (table.unguarded h k l m o) = omega arith
 rules-number : {c : Claim} {d : Derivation} {n q : ℕ} → rules.Earns c d n q → 10 ≤ n
 rules-number (rules.bad-child a b c) = omega arith
 rules-number (rules.orphan a b c d e) = omega arith
-rules-number (rules.other-root a b) = omega arith
+rules-number (rules.other-root a b c d) = omega arith
 rules-number (rules.rule-broken a b c d e f) = omega arith
 rules-number (rules.bad-link a b c d e f) = omega arith
 rules-number (rules.bad-loop a b c d e f g h) = omega arith
 
 claim-number : {claim : List ℕ} {n q : ℕ} → ClaimUnformed claim n q → 10 ≤ n
-claim-number (by-bytes e) = file-number (omega arith) (omega arith) claim-wrong e
+claim-number (by-bytes (claims.no-opening h)) = omega arith
+claim-number (by-bytes (claims.by-form f o e)) = file-number (omega arith) (omega arith) claim-wrong e
 claim-number (by-table c f e) = table-number e
 
 pub earned-number : {claim proof : List ℕ} {n q : ℕ} → Earned claim proof n q → 10 ≤ n
 earned-number (by-files (by-claim e)) = claim-number e
-earned-number (by-files (by-beside c k e)) = file-number (omega arith) (omega arith) (proof-wrong (c .entries)) e
+earned-number (by-files (by-beside c k e)) = file-number (omega arith) (omega arith) (proof-wrong c) e
 earned-number (by-rules f w e) = rules-number e
 
 pub evaluation-number : {claim model : List ℕ} {l : LentWords} {n q : ℕ} → EvaluationEarned claim model l n q → 1 ≤ n

@@ -1,10 +1,9 @@
--- a correct proof is sound: in every finite model every state has a true member of its claim, and of each node's sequent
+-- a correct proof is sound: in every finite model every state has a true member of each goal, and of each node's sequent
 use mathlib.Core.Path.{_≡_, refl, ap, _∙_}
 use mathlib.Core.Logic.{_⊎_, inl, inr, ⊎-elim}
 use mathlib.Core.List.{List, [], _∷_, List·Memᴰ, List·Memᴰ·head, List·Memᴰ·tail, List·Memᴰ·cases-cons, List·Memᴰ·not-nil}
 use mathlib.Core.Bool.{Bool, true, false}
 use Prim.Native.Nat.{ℕ, _<_}
-use native.Mathlib.Omega.{arith}
 use lib.ListN.{length}
 use Rattle.verdict.specs.Sets.{elements, _⊆_}
 use Rattle.formula.specs.Codes.{entryOf}
@@ -14,12 +13,12 @@ use Rattle.meaning.specs.States.{Model}
 use Rattle.meaning.specs.Meaning.{own}
 use Rattle.claim_files.specs.ClaimFile.{ClaimFile}
 use Rattle.claim_files.specs.ClaimExact.{one-claim}
-use Rattle.proof_files.specs.ProofRecords.{node-count}
 use Rattle.calculus.specs.Sequents.{listed}
+use Rattle.calculus.specs.Goals.{goal}
 use Rattle.calculus.specs.CorrectNodes.{CorrectNodes}
 use Rattle.calculus.specs.Falsity.{Falsity}
 use Rattle.calculus.specs.Kripke.{kripke}
-use Rattle.calculus.specs.Sound.{claim-not-refuted, no-node-refuted}
+use Rattle.calculus.specs.Sound.{goal-not-refuted, no-node-refuted}
 use Rattle.demands.specs.Correct.{Correct, Refutes, Irrefutable}
 use Rattle.demands.specs.CheckExact.{given}
 
@@ -51,32 +50,32 @@ module _ {claim proof : List ℕ} (k : Correct claim proof) where
     abbrev F : Falsity (c .entries) M
     F = kripke (c .entries) (k .formed .claim-formed .formed .well) M
 
-    pub none-refutes : Refutes M (c .entries) s (c .members) → ⊥
+    pub none-refutes : (i : ℕ) → i < length (c .goals) → Refutes M (c .entries) s (goal c i) → ⊥
     unfolding kripke
-    none-refutes f = claim-not-refuted c F d tables (omega (arith, node-count (k .formed .beside-formed))) (k .root) s state (λ e m. f e m)
+    none-refutes i h f = goal-not-refuted c F d tables (given (k .formed)) (k .root) i h s state (λ e m. f e m)
 
-    -- every node, not only the root
+    -- every node, not only the roots
     pub node-true : (v : ℕ) → v < length (d .nodes) → (x : ℕ) × listed (d .nodes) v x × (own M (c .entries) (entryOf x) s ≡ true)
     unfolding kripke
     node-true v real =
         some-true (λ x. own M (c .entries) (entryOf x) s) (node (d .nodes) v .codes)
         (λ f. no-node-refuted c F d tables v real s (record { inside = state; all = λ x m. f x m }))
 
-    pub member-true : (e : ℕ) × elements (c .members) e × (own M (c .entries) e s ≡ true)
-    member-true = some-true (λ e. own M (c .entries) e s) (c .members) none-refutes
+    pub member-true : (i : ℕ) → i < length (c .goals) → (e : ℕ) × elements (goal c i) e × (own M (c .entries) e s ≡ true)
+    member-true i h = some-true (λ e. own M (c .entries) e s) (goal c i) (none-refutes i h)
 
   -- demand 3, first half
   pub sound : Irrefutable claim
   sound = record {
     read = c;
     formed = k .formed .claim-formed;
-    some-true = λ M s h. member-true M s h;
-    none-refutes = λ M s h f. none-refutes M s h f;
+    some-true = λ i l M s h. member-true M s h i l;
+    none-refutes = λ i l M s h f. none-refutes M s h i l f;
   }
 
 -- of whatever claim the file encodes: there is one only
 pub irrefutable-true : {claim : List ℕ} → Irrefutable claim → (c : SpelledClaim) → ClaimFile claim c
-    → (M : Model) (s : ℕ) → s < M .size → (e : ℕ) × elements (c .members) e × (own M (claimOf c .entries) e s ≡ true)
+    → (i : ℕ) → i < length (c .goals) → (M : Model) (s : ℕ) → s < M .size → (e : ℕ) × elements (goal (claimOf c) i) e × (own M (claimOf c .entries) e s ≡ true)
 irrefutable-true k c f =
     let same : k .read ≡ claimOf c = k .formed .records ∙ ap claimOf (one-claim (k .formed .claim-file) f) in
     rw same at (k .some-true)

@@ -1,4 +1,4 @@
--- a number that is known already: it takes no byte, where a parser of a list asks for a count
+-- a value that is known already: it takes no byte, where a parser of a list asks for a count, or where one form of a file writes nothing
 use mathlib.Core.Path.{_≡_, refl, sym, subst, ap}
 use mathlib.Core.List.{List, []}
 use Prim.Native.Nat.{ℕ, _+_}
@@ -11,26 +11,27 @@ use Rattle.encoding.specs.ParseLaws.{Exact, Wrote}
 use Rattle.encoding.specs.Widths.{Takes}
 use Rattle.encoding.specs.FaultLaws.{Refuses, raw-refuses}
 
-abbrev pub known : ℕ → Parser ℕ
-known n s at = got n s at
+abbrev pub known : {A : Type 0} → A → Parser A
+known x s at = got x s at
 
-abbrev pub nothing : ℕ → List ℕ
-nothing n = []
+abbrev pub nothing : {A : Type 0} → A → List ℕ
+nothing x = []
 
-pub known-exact : (n : ℕ) → Exact (known n) nothing (λ m. m ≡ n)
-known-exact n = record { reads = reads; wrote = wrote }
-  where
-    reads : (m : ℕ) → m ≡ n → (s : List ℕ) (at : ℕ) → got n s at ≡ got m s (at + 0)
-    reads m h s at = let i : at + 0 ≡ at = omega arith in rw (i, h) refl
+module _ {A : Type 0} where
+  pub known-exact : (x : A) → Exact (known x) nothing (λ y. y ≡ x)
+  known-exact x = record { reads = reads; wrote = wrote }
+    where
+      reads : (y : A) → y ≡ x → (s : List ℕ) (at : ℕ) → got x s at ≡ got y s (at + 0)
+      reads y h s at = let i : at + 0 ≡ at = omega arith in rw (i, h) refl
 
-    wrote : (s : List ℕ) (at m : ℕ) (r : List ℕ) (o : ℕ) → Bytes s → got n s at ≡ got m r o → Wrote nothing (λ (m : ℕ). m ≡ n) m s r
-    wrote s at m r o b h = record { fits = sym (same-value h); split = same-left h; left = subst Bytes (same-left h) b }
+      wrote : (s : List ℕ) (at : ℕ) (y : A) (r : List ℕ) (o : ℕ) → Bytes s → got x s at ≡ got y r o → Wrote nothing (λ (y : A). y ≡ x) y s r
+      wrote s at y r o b h = record { fits = sym (same-value h); split = same-left h; left = subst Bytes (same-left h) b }
 
-pub known-takes : (early n : ℕ) → Takes early (known n) 0
-known-takes early n = record {
-  cut = λ s at h. absurd (omega arith);
-  whole = λ s at h. (n, s, ap (λ (o : ℕ). got n s o) (omega arith), omega arith);
-}
+  pub known-takes : (early : ℕ) (x : A) → Takes early (known x) 0
+  known-takes early x = record {
+    cut = λ s at h. absurd (omega arith);
+    whole = λ s at h. (x, s, ap (λ (o : ℕ). got x s o) (omega arith), omega arith);
+  }
 
-pub known-refuses : (early n : ℕ) → Refuses early (known n) (raw 0)
-known-refuses early n = raw-refuses (known-takes early n)
+  pub known-refuses : (early : ℕ) (x : A) → Refuses early (known x) (raw 0)
+  known-refuses early x = raw-refuses (known-takes early x)

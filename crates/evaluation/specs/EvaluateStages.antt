@@ -105,7 +105,7 @@ module _ (claim model : List ℕ) where
   unfolding inModel
   claim-refused u l = rw (u .was) refl
 
-  module _ {ks xs ys ms : List ℕ} {n k : ℕ} (g : ClaimGot (readFormed claim) ks xs ys ms n k) where
+  module _ {ks xs ys gs ms : List ℕ} {f n k : ℕ} (g : ClaimGot (readFormed claim) ks xs ys gs ms f n k) where
     -- an entry table that stands in the columns
     table-is : g .claim .entries ≡ tableOf ks xs ys n
     table-is = ap (λ (c : Claim). c .entries) (sym (g .held .same))

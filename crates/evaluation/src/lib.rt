@@ -82,12 +82,14 @@ fn after_lengths(
     ensures { λ r. ⌜ Staged (evaluated (inModel (now (claim .entry)) (now (model .entry)))) (now (words .entry)) r (now (kinds .exit)) (now (a .exit))
         (now (b .exit)) (now (words .exit)) ⌝ }
 {
-    let mut members = [0u16; 24];
-    match read_formed(claim, kinds, a, b, &mut members) {
+    let mut bounds = [0u16; 17];
+    let mut members = [0u16; 384];
+    match read_formed(claim, kinds, a, b, &mut bounds, &mut members) {
         ClaimRead::Refused { number, place } => refuse(number as u16, place as u32),
         ClaimRead::Read {
+            form: _,
             entries,
-            members: _,
+            goals: _,
         } => after_model(model, kinds, a, b, entries, words),
     }
 }

@@ -5,24 +5,37 @@ use Rattle.formula.specs.Table.{Table}
 use Rattle.formula.specs.Spelled.{Spelled, recordsOf, markedOf}
 use Rattle.formula.specs.Nodes.{Proof}
 
--- an entry table, and the members, of which at least one is to be true everywhere
+-- the form for one goal, and the form for several
+pub data Form : Type 0 where
+  clm1 : Form
+  clm2 : Form
+
+-- as the calls name them
+abbrev pub formNumber : Form → ℕ
+formNumber clm1 = 1
+formNumber clm2 = 2
+
+-- an entry table, and the goals: the members of each, of which at least one is to be true everywhere
 pub record Claim : Type 0 where
+  pub form : Form
   pub entries : Table
-  pub members : List ℕ
+  pub goals : List (List ℕ)
 
 -- a claim as its file spells it
 pub record SpelledClaim : Type 0 where
+  pub form : Form
   pub spelling : List Spelled
-  pub members : List ℕ
+  pub goals : List (List ℕ)
 
 -- the claim of its entries' records
 abbrev pub claimOf : SpelledClaim → Claim
-claimOf c = record { entries = recordsOf (c .spelling); members = c .members }
+claimOf c = record { form = c .form; entries = recordsOf (c .spelling); goals = c .goals }
 
 -- as the code holds it
 abbrev pub markedClaim : SpelledClaim → Claim
-markedClaim c = record { entries = markedOf (c .spelling); members = c .members }
+markedClaim c = record { form = c .form; entries = markedOf (c .spelling); goals = c .goals }
 
--- the numbered nodes
+-- the root of each goal's tree, and the numbered nodes
 pub record Derivation : Type 0 where
+  pub roots : List ℕ
   pub nodes : Proof

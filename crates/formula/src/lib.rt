@@ -75,6 +75,15 @@ impl Kind {
     }
 }
 
+// The forms of a claim with its proof, as the calls name them: CLM1 with PRF1 for one goal, CLM2 with PRF2 for several.
+pub struct Form;
+
+impl Form {
+    pub const CLM1: u8 = 1;
+
+    pub const CLM2: u8 = 2;
+}
+
 pub struct Rule;
 
 impl Rule {

@@ -21,7 +21,7 @@ use Rattle.written.specs.CanonLaws.{canon-inside}
 use Rattle.numbers.specs.Numbered.{Numberable, Numbered}
 use Rattle.sequents.specs.Keys.{Numbers}
 
-module _ {bytes : List ℕ} {c : Claim} (F : ClaimFormed bytes c) {ks xs ys ms : List ℕ} {n k : ℕ} (held : ClaimHeld c ks xs ys n ms k) where
+module _ {bytes : List ℕ} {c : Claim} (F : ClaimFormed bytes c) {ks xs ys gs ms : List ℕ} {n k : ℕ} (held : ClaimHeld c ks xs ys n gs ms k) where
   table-is : c .entries ≡ tableOf ks xs ys n
   table-is = ap (λ (d : Claim). d .entries) (sym (held .same))
 

@@ -7,20 +7,18 @@ use native.Mathlib.Omega.{arith}
 use native.Mathlib.Numerals.{add-one}
 use borrow.Author.Tests.{ltb-true, ltb-false}
 use lib.Dec.{ltb}
-use lib.ListN.{length, getD, take, drop, set, length-append, length-drop, length-map}
-use lib.Seq.{sets, length-sets, sets-eq, drop-cons, drop-drop, length-take-le, take-length}
-use Rattle.verdict.specs.Lists.{valuesFrom, valuesFrom-length, written}
+use lib.ListN.{length, getD, take, drop, set, length-append, length-drop}
+use lib.Seq.{sets, length-sets, sets-eq, drop-cons, drop-drop, length-take-le}
+use Rattle.verdict.specs.Lists.{valuesFrom, written}
 use Rattle.formula.specs.Table.{Entry}
 use Rattle.formula.specs.Nodes.{Node}
-use Rattle.formula.specs.Records.{NodeRecord}
 use Rattle.formula.specs.Fields.{hasPrincipal, hasFirst, hasSecond, hasBack}
-use Rattle.formula.specs.Claim.{SpelledClaim, Derivation}
-use Rattle.formula.specs.Plain.{plainEntry, tableOf}
+use Rattle.formula.specs.Plain.{plainEntry}
 use Rattle.encoding.specs.Encode.{encodeTwo, encodePart, encodeField, encodeAll}
-use Rattle.claim_files.specs.ClaimFile.{claimOpening, encodeEntry, encodeClaim}
-use Rattle.proof_files.specs.ProofFile.{proofOpening, encodeCodes, full, encodeNode, encodeProof}
-use Rattle.writing.specs.Spelling.{spelledAs, spellingOf, spelledClaim}
-use Rattle.writing.specs.Held.{plainRecord, recordsOf, NodesGiven}
+use Rattle.claim_files.specs.ClaimFile.{encodeEntry}
+use Rattle.proof_files.specs.ProofFile.{encodeCodes, full, encodeNode}
+use Rattle.writing.specs.Spelling.{spelledAs, spellingOf}
+use Rattle.writing.specs.Held.{plainRecord, NodesGiven}
 use Rattle.writing.specs.FieldEnds.{numbers-long}
 use Rattle.writing.specs.ProofEnds.{nodesOver}
 
@@ -121,13 +119,6 @@ codesPart cs start n = encodePart (full (take n (drop start cs))) encodeCodes (t
 abbrev pub entryAt : ℕ → ℕ → ℕ → Entry
 entryAt k a b = record { kind = k; a = a; b = b }
 
--- the claim that stands in the columns, as it is spelled, and the proof
-abbrev pub claimOf : List ℕ → List ℕ → List ℕ → ℕ → List ℕ → SpelledClaim
-claimOf ks xs ys n ms = spelledClaim (tableOf ks xs ys n) ms
-
-abbrev pub proofOf : List ℕ → List ℕ → List ℕ → List ℕ → ℕ → Derivation
-proofOf rs ls ns cs n = record { nodes = nodesOver (recordsOf rs ls ns n) cs }
-
 -- no node has more than 24 codes
 abbrev pub FewCodes : List ℕ → ℕ → Type 0
 FewCodes ns n = (v : ℕ) → v < n → getD ns v 0 ≤ 24
@@ -147,10 +138,7 @@ module _ (rs ls ns cs : List ℕ) where
   nodes-step n v start k same h =
       let e : n - v ≡ suc (n - (v + 1)) = omega arith in
       let j : suc v ≡ v + 1 = omega arith in
-      rw same
-      (ap (λ (k : ℕ). nodesLeft v k start) e
-      ∙ ap (λ (u : ℕ). encodeNode (nodeAt (getD rs v 0) ls v cs start (getD ns v 0)) ++ encodeAll encodeNode (nodesOver (valuesFrom (plainRecord rs ls ns) u (n - (v + 1))) (drop (getD ns v 0) (drop start cs)))) j
-      ∙ ap (λ (l : List ℕ). encodeNode (nodeAt (getD rs v 0) ls v cs start (getD ns v 0)) ++ encodeAll encodeNode (nodesOver (valuesFrom (plainRecord rs ls ns) (v + 1) (n - (v + 1))) l)) (drop-drop (getD ns v 0) start cs))
+      rw (same, e, ← j, ← (drop-drop (getD ns v 0) start cs)) refl
 
 -- a run that is left to be stored has room
 pub room-left : {whole start now : List ℕ} {from at : ℕ} (xs ys : List ℕ) → Left whole from start (xs ++ ys) at now → from + length whole ≤ length start → at + length xs ≤ length now
@@ -240,8 +228,8 @@ module _ (ks xs ys : List ℕ) where
   entries-end n i h = let e : n - i ≡ 0 = omega arith in rw e refl
 
 module _ (rs ls ns cs : List ℕ) where
-  pub nodes-begin : (n : ℕ) (out : List ℕ) → Left (nodesLeft rs ls ns cs 0 n 0) 6 out (nodesLeft rs ls ns cs 0 (n - 0) 0) 6 out
-  nodes-begin n out = let i : n - 0 ≡ n = omega arith in rw i (all-left (nodesLeft rs ls ns cs 0 n 0) out 6)
+  pub nodes-begin : (n from : ℕ) (out : List ℕ) → Left (nodesLeft rs ls ns cs 0 n 0) from out (nodesLeft rs ls ns cs 0 (n - 0) 0) from out
+  nodes-begin n from out = let i : n - 0 ≡ n = omega arith in rw i (all-left (nodesLeft rs ls ns cs 0 n 0) out from)
 
   pub nodes-end : (n v start : ℕ) → n ≤ v → nodesLeft rs ls ns cs v (n - v) start ≡ []
   unfolding encodeAll valuesFrom nodesOver
@@ -253,38 +241,3 @@ nothing-put out at e = rw e (record { place = omega arith; stored = refl })
 
 pub byte-put : (out : List ℕ) (at n : ℕ) → Put out at (n ∷ []) (at + 1) (set out at n)
 byte-put out at n = record { place = refl; stored = refl }
-
--- a claim file by its parts: opening and count, entries, member count, members
-module _ (ks xs ys : List ℕ) (n : ℕ) (ms : List ℕ) where
-  abbrev pub memberParts : List ℕ
-  memberParts = encodeTwo (length ms) ++ numbersLeft ms 0 (length ms)
-
-  abbrev pub claimParts : List ℕ
-  claimParts = (claimOpening ++ encodeTwo n) ++ (entriesLeft ks xs ys 0 n ++ memberParts)
-
-  pub claim-parts : claimParts ≡ encodeClaim (claimOf ks xs ys n ms)
-  unfolding tableOf
-  claim-parts = rw (length-map (valuesFrom (plainEntry ks xs ys) 0 n) spelledAs, valuesFrom-length (plainEntry ks xs ys) 0 n, take-length ms) refl
-
-  pub parts-fit : (out : List ℕ) → length (encodeClaim (claimOf ks xs ys n ms)) ≤ length out → 0 + length claimParts ≤ length out
-  parts-fit out h = omega (arith, ap length claim-parts)
-
--- a proof file by its parts
-module _ (rs ls ns cs : List ℕ) (n : ℕ) where
-  abbrev pub proofParts : List ℕ
-  proofParts = (proofOpening ++ encodeTwo n) ++ nodesLeft rs ls ns cs 0 n 0
-
-  over-length : (vs : List NodeRecord) (cs : List ℕ) → length (nodesOver vs cs) ≡ length vs
-  unfolding nodesOver
-  over-length [] cs = refl
-  over-length (v ∷ vs) cs = ap suc (over-length vs (drop (v .count) cs))
-
-  pub proof-parts : proofParts ≡ encodeProof (proofOf rs ls ns cs n)
-  proof-parts = rw (over-length (recordsOf rs ls ns n) cs, valuesFrom-length (plainRecord rs ls ns) 0 n) refl
-
-  pub proof-fits : (out : List ℕ) → length (encodeProof (proofOf rs ls ns cs n)) ≤ length out → 0 + length proofParts ≤ length out
-  proof-fits out h = omega (arith, ap length proof-parts)
-
--- a file stored from the front of the slice
-pub file-put : {out after parts file : List ℕ} {next : ℕ} → parts ≡ file → length file ≤ length out → Put out 0 parts next after → after ≡ written file out
-file-put {out} {after} {parts} {file} e h p = p .stored ∙ ap (sets out 0) e ∙ sets-written file out h

@@ -1,1 +1,3 @@
 pub mod Laying
+pub mod Goals
+pub mod Files

@@ -1,21 +1,27 @@
-// Claims and proofs as bytes: records that were judged, laid down in a lent slice from columns of plain numbers. Beyond the file the slice
-// is as it was.
+// Claims and proofs of both forms as bytes: records that were judged, laid down in a lent slice from columns of plain numbers. Beyond the file the
+// slice is as it was.
 ghost use mathlib.Core.Path.{_≡_};
 ghost use mathlib.Core.List.{[], _∷_, _++_};
 ghost use Prim.Native.Nat.{_+_, _*_, _<_, _≤_};
 ghost use lib.ListN.{length};
 ghost use lib.Seq.{sets};
 ghost use Rattle.verdict.specs.Lists.{written};
+ghost use Rattle.formula.specs.Claim.{Form, formNumber};
 ghost use Rattle.encoding.specs.Encode.{encodeTwo, encodeField};
-ghost use Rattle.claim_files.specs.ClaimFile.{encodeEntry, encodeClaim};
-ghost use Rattle.proof_files.specs.ProofFile.{encodeNode, encodeProof};
+ghost use Rattle.claim_files.specs.ClaimFile.{claimOpening, encodeEntry, encodeMembers, encodeGoalCount, encodeClaim};
+ghost use Rattle.proof_files.specs.ProofFile.{proofOpening, encodeNode, encodeRoots, encodeProof};
+ghost use Rattle.proofs.specs.NamedForm.{namedForm};
+ghost use Rattle.writing.specs.RecordBytes.{split};
 ghost use Rattle.writing.specs.Spelling.{mapFor, spelledAs};
-ghost use Rattle.laying.specs.Laying.{Fits, Put, numbersLeft, entriesLeft, entryAt, claimOf, nodeAt, linkBytes, codesPart, NodeRoom, nodesLeft, proofOf};
+ghost use Rattle.laying.specs.Laying.{Fits, Put, numbersLeft, entriesLeft, entryAt, nodeAt, linkBytes, codesPart, NodeRoom, nodesLeft};
+ghost use Rattle.laying.specs.Goals.{GoalsRoom, goalAt, goalsLeft};
+ghost use Rattle.laying.specs.Files.{claimOf, proofOf};
 use bits::if_set;
 use bits::wide;
 use claim_files::CLAIM_OPENING;
 use formula::Kind;
 use formula::Rule;
+use proof_files::AFTER_COUNT;
 use proof_files::PROOF_OPENING;
 
 // Two-byte fields are little-endian.
@@ -110,31 +116,85 @@ fn put_entries(
     at
 }
 
-// A claim file.
+// The letters that open a claim file of the form, and the entry count.
+fn open_claim(out: &mut [u8], form: u8, count: usize)
+    requires { ⌜ Fits (now out) 0 (claimOpening (namedForm form) ++ encodeTwo count) × (count < 65536) ⌝ }
+    ensures { λ r. ⌜ Put (now (out .entry)) 0 (claimOpening (namedForm form) ++ encodeTwo count) 6 (now (out .exit)) ⌝ }
+{
+    if form == formula::Form::CLM2 {
+        put_opening(
+            out,
+            claim_files::GOALS_OPENING[0],
+            claim_files::GOALS_OPENING[1],
+            claim_files::GOALS_OPENING[2],
+            claim_files::GOALS_OPENING[3],
+            count,
+        );
+    } else {
+        put_opening(
+            out,
+            CLAIM_OPENING[0],
+            CLAIM_OPENING[1],
+            CLAIM_OPENING[2],
+            CLAIM_OPENING[3],
+            count,
+        );
+    }
+}
+
+// The goal count, which the form for one goal does not write. The place after it.
+fn put_goal_count(out: &mut [u8], at: usize, form: u8, goals: usize) -> usize
+    requires { ⌜ Fits (now out) at (encodeGoalCount (namedForm form) goals) × (goals ≤ 16) ⌝ }
+    ensures { λ r. ⌜ Put (now (out .entry)) at (encodeGoalCount (namedForm form) goals) r (now (out .exit)) ⌝ }
+{
+    put_field(out, at, form == formula::Form::CLM2, goals as u16)
+}
+
+// A goal's member count, then its members.
+fn put_goal(out: &mut [u8], at: usize, members: &[u16], start: usize, count: u16) -> usize
+    requires { ⌜ Fits (now out) at (encodeMembers (goalAt (now members) start count)) × (start + count ≤ length (now members)) ⌝ }
+    ensures { λ r. ⌜ Put (now (out .entry)) at (encodeMembers (goalAt (now (members .entry)) start count)) r (now (out .exit)) ⌝ }
+{
+    put_two(out, at, count);
+    put_numbers(out, at + 2, members, start, wide(count))
+}
+
+// The members of each goal follow those of the one before.
+fn put_goals(out: &mut [u8], from: usize, counts: &[u16], members: &[u16])
+    requires { ⌜ Fits (now out) from (goalsLeft (now counts) (now members) 0 0) × GoalsRoom (now counts) (now members) ⌝ }
+    ensures { λ r. ⌜ now (out .exit) ≡ sets (now (out .entry)) from (goalsLeft (now (counts .entry)) (now (members .entry)) 0 0) ⌝ }
+{
+    let mut at = from;
+    let mut start: usize = 0;
+    let mut i: usize = 0;
+    while i < counts.len() {
+        let count = counts[i];
+        at = put_goal(out, at, members, start, count);
+        start += wide(count);
+        i += 1;
+    }
+}
+
+// A claim file of the form: the goals' member counts, and the members of all goals one after another.
 pub fn put_claim(
     out: &mut [u8],
+    form: u8,
     kinds: &[u8; 256],
     a: &[u16; 256],
     b: &[u16; 256],
     count: usize,
+    counts: &[u16],
     members: &[u16],
 )
-    requires { ⌜ (length (encodeClaim (claimOf (now kinds) (now a) (now b) count (now members))) ≤ length (now out)) × (count ≤ 256)
-        × (length (now members) ≤ 24) ⌝ }
-    ensures { λ r. ⌜ now (out .exit) ≡ written (encodeClaim (claimOf (now (kinds .entry)) (now (a .entry)) (now (b .entry)) count
-        (now (members .entry)))) (now (out .entry)) ⌝ }
+    requires { ⌜ (length (encodeClaim (claimOf (namedForm form) (now kinds) (now a) (now b) count (split (now counts) (now members)))) ≤ length (now out))
+        × (count ≤ 256) × GoalsRoom (now counts) (now members) ⌝ }
+    ensures { λ r. ⌜ ((f : Form) → form ≡ formNumber f → now (out .exit) ≡ written (encodeClaim (claimOf f (now (kinds .entry)) (now (a .entry))
+        (now (b .entry)) count (split (now (counts .entry)) (now (members .entry))))) (now (out .entry))) ⌝ }
 {
-    put_opening(
-        out,
-        CLAIM_OPENING[0],
-        CLAIM_OPENING[1],
-        CLAIM_OPENING[2],
-        CLAIM_OPENING[3],
-        count,
-    );
+    open_claim(out, form, count);
     let at = put_entries(out, kinds, a, b, count);
-    put_two(out, at, members.len() as u16);
-    put_numbers(out, at + 2, members, 0, members.len());
+    let from = put_goal_count(out, at, form, counts.len());
+    put_goals(out, from, counts, members);
 }
 
 // Principal, first child, second child, back link: those that the rule has.
@@ -183,18 +243,19 @@ fn put_node(
 
 fn put_nodes(
     out: &mut [u8],
+    from: usize,
     rules: &[u8],
     links: &[u16],
     counts: &[u16],
     codes: &[u16],
     nodes: usize,
 )
-    requires { ⌜ Fits (now out) 6 (nodesLeft (now rules) (now links) (now counts) (now codes) 0 nodes 0)
+    requires { ⌜ Fits (now out) from (nodesLeft (now rules) (now links) (now counts) (now codes) 0 nodes 0)
         × NodeRoom (now rules) (now links) (now counts) (now codes) nodes ⌝ }
-    ensures { λ r. ⌜ now (out .exit) ≡ sets (now (out .entry)) 6 (nodesLeft (now (rules .entry)) (now (links .entry)) (now (counts .entry))
+    ensures { λ r. ⌜ now (out .exit) ≡ sets (now (out .entry)) from (nodesLeft (now (rules .entry)) (now (links .entry)) (now (counts .entry))
         (now (codes .entry)) 0 nodes 0) ⌝ }
 {
-    let mut at: usize = 6;
+    let mut at = from;
     let mut start: usize = 0;
     let mut v: usize = 0;
     while v < nodes {
@@ -205,27 +266,60 @@ fn put_nodes(
     }
 }
 
-// A proof file.
+// The letters that open a proof file of the form, and the node count.
+fn open_proof(out: &mut [u8], form: u8, nodes: usize)
+    requires { ⌜ Fits (now out) 0 (proofOpening (namedForm form) ++ encodeTwo nodes) × (nodes < 65536) ⌝ }
+    ensures { λ r. ⌜ Put (now (out .entry)) 0 (proofOpening (namedForm form) ++ encodeTwo nodes) 6 (now (out .exit)) ⌝ }
+{
+    if form == formula::Form::CLM2 {
+        put_opening(
+            out,
+            proof_files::GOALS_OPENING[0],
+            proof_files::GOALS_OPENING[1],
+            proof_files::GOALS_OPENING[2],
+            proof_files::GOALS_OPENING[3],
+            nodes,
+        );
+    } else {
+        put_opening(
+            out,
+            PROOF_OPENING[0],
+            PROOF_OPENING[1],
+            PROOF_OPENING[2],
+            PROOF_OPENING[3],
+            nodes,
+        );
+    }
+}
+
+// The roots, which the form for one goal does not write. The place after them.
+fn put_roots(out: &mut [u8], form: u8, roots: &[u16]) -> usize
+    requires { ⌜ Fits (now out) 6 (encodeRoots (namedForm form) (now roots)) ⌝ }
+    ensures { λ r. ⌜ Put (now (out .entry)) 6 (encodeRoots (namedForm form) (now (roots .entry))) r (now (out .exit)) ⌝ }
+{
+    if form == formula::Form::CLM2 {
+        return put_numbers(out, AFTER_COUNT, roots, 0, roots.len());
+    }
+    AFTER_COUNT
+}
+
+// A proof file of the form.
 pub fn put_proof(
     out: &mut [u8],
+    form: u8,
+    roots: &[u16],
     rules: &[u8],
     links: &[u16],
     counts: &[u16],
     codes: &[u16],
     nodes: usize,
 )
-    requires { ⌜ (length (encodeProof (proofOf (now rules) (now links) (now counts) (now codes) nodes)) ≤ length (now out))
-        × NodeRoom (now rules) (now links) (now counts) (now codes) nodes ⌝ }
-    ensures { λ r. ⌜ now (out .exit) ≡ written (encodeProof (proofOf (now (rules .entry)) (now (links .entry)) (now (counts .entry))
-        (now (codes .entry)) nodes)) (now (out .entry)) ⌝ }
+    requires { ⌜ (length (encodeProof (namedForm form) (proofOf (namedForm form) (now roots) (now rules) (now links) (now counts) (now codes) nodes))
+        ≤ length (now out)) × NodeRoom (now rules) (now links) (now counts) (now codes) nodes ⌝ }
+    ensures { λ r. ⌜ ((f : Form) → form ≡ formNumber f → now (out .exit) ≡ written (encodeProof f (proofOf f (now (roots .entry)) (now (rules .entry))
+        (now (links .entry)) (now (counts .entry)) (now (codes .entry)) nodes)) (now (out .entry))) ⌝ }
 {
-    put_opening(
-        out,
-        PROOF_OPENING[0],
-        PROOF_OPENING[1],
-        PROOF_OPENING[2],
-        PROOF_OPENING[3],
-        nodes,
-    );
-    put_nodes(out, rules, links, counts, codes, nodes);
+    open_proof(out, form, nodes);
+    let from = put_roots(out, form, roots);
+    put_nodes(out, from, rules, links, counts, codes, nodes);
 }

@@ -12,9 +12,10 @@ use Rattle.verdict.specs.Shown.{shown}
 use Rattle.encoding.specs.Encode.{Bytes}
 use Rattle.encoding.specs.File.{Reading, refused, good}
 use Rattle.formula.specs.Table.{Table}
-use Rattle.formula.specs.Claim.{Claim, Derivation}
+use Rattle.formula.specs.Claim.{Form, Claim, Derivation}
 use Rattle.formula.specs.Plain.{tableOf, tableOf-length}
-use Rattle.formula.specs.Held.{heldClaim}
+use Rattle.formula.specs.Held.{heldClaim, goalsOf}
+use Rattle.proof_files.specs.ProofRecords.{node-count}
 use Rattle.calculus.specs.Judge.{judge}
 use Rattle.records.specs.Records.{shownEntry, shownEntries, entriesOf, EntryRoom, EntriesLoaded}
 use Rattle.records.specs.Shown.{map-written, entries-shown, loaded-table}
@@ -55,34 +56,40 @@ pub early-stands : {before : Verdict} (claim proof : List ℕ) (es : List Entry)
 early-stands claim proof es vs cs accepted begun h = absurd h
 early-stands claim proof es vs cs (verdicts.refused n q) begun h = rw (begun .stands n q refl proof) (record { answer = λ tag. refl; lent = λ tag. refl })
 
-module _ (claim proof : List ℕ) (bc : Bytes claim) (bp : Bytes proof) (ks xs ys ms : List ℕ) (f : Found) where
+-- a proof that is read has a node
+has-node : {ks xs ys : List ℕ} {n : ℕ} {gs ms : List ℕ} {k : ℕ} {os s : List ℕ} {at m : ℕ} → Readable ks xs ys n gs ms k os s at m → 1 ≤ m
+has-node r = omega (arith, r .nodes, node-count (r .file))
+
+module _ (claim proof : List ℕ) (bc : Bytes claim) (bp : Bytes proof) (ks xs ys gs ms os : List ℕ) (f : Found) where
   abbrev Got : Type 0
-  Got = FilesGot (files claim proof) ks xs ys ms (f .entries) (f .listed) (f .nodes)
+  Got = FilesGot (files claim proof) ks xs ys gs ms os (f .entries) (f .goals) (f .nodes) (f .at)
 
   -- a node was found: nothing was refused, neither before the files nor in them
-  passed : (x : Reading (Files Derivation)) → files claim proof ≡ x → Tells x ks xs ys ms f → (f .nodes ≡ 0 → ⊥) → Got
+  passed : (x : Reading (Files Derivation)) → files claim proof ≡ x → Tells x ks xs ys gs ms os f → (f .nodes ≡ 0 → ⊥) → Got
   passed (refused n q) e u some = absurd (some (u .nodes))
-  passed (good fs) e g some = record { files = g .files; was = e ∙ g .was; held = g .held; nodes = g .nodes }
+  passed (good fs) e g some = rw e g
 
-  pub nothing-refused : (before : Verdict) → Tells (firstly before (files claim proof)) ks xs ys ms f → (f .nodes ≡ 0 → ⊥) → (before ≡ accepted) × Got
+  pub nothing-refused : (before : Verdict) → Tells (firstly before (files claim proof)) ks xs ys gs ms os f → (f .nodes ≡ 0 → ⊥) → (before ≡ accepted) × Got
   nothing-refused accepted told some = (refl, passed (files claim proof) refl told some)
   nothing-refused (verdicts.refused n q) u some = absurd (some (u .nodes))
 
   module _ (es : List Entry) (vs : List Node) (cs : List ℕ) (none : f .nodes ≡ 0) where
     -- no node was found: the files were refused, since a proof that is read has one
-    unread : (x : Reading (Files Derivation)) → files claim proof ≡ x → Tells x ks xs ys ms f → LentJudged x es vs cs (shown (f .verdict)) es vs cs
+    unread : (x : Reading (Files Derivation)) → files claim proof ≡ x → Tells x ks xs ys gs ms os f → LentJudged x es vs cs (shown (f .verdict)) es vs cs
     unread (refused n q) e u = record { answer = λ tag. u .verdict; lent = λ tag. refl }
-    unread (good fs) e g = absurd (omega (arith, none, count (readable claim proof bc bp (record { files = g .files; was = e ∙ g .was; held = g .held; nodes = g .nodes })) .0))
+    unread (good fs) e g =
+        let got : Got = rw e g in absurd (omega (arith, none, has-node (readable claim proof bc bp got)))
 
     -- a refusal leaves the slices as they were
-    pub refusal-stands : (before : Verdict) → Tells (firstly before (files claim proof)) ks xs ys ms f → LentJudged (firstly before (files claim proof)) es vs cs (shown (f .verdict)) es vs cs
+    pub refusal-stands : (before : Verdict) → Tells (firstly before (files claim proof)) ks xs ys gs ms os f
+        → LentJudged (firstly before (files claim proof)) es vs cs (shown (f .verdict)) es vs cs
     refusal-stands accepted told = unread (files claim proof) refl told
     refusal-stands (verdicts.refused n q) u = record { answer = λ tag. u .verdict; lent = λ tag. refl }
 
 -- both files are read: their entries are stored, loaded from where they stand, and judged with the nodes
-module _ (claim proof : List ℕ) (bc : Bytes claim) (bp : Bytes proof) {ks xs ys ms : List ℕ} {n k m : ℕ} (g : FilesGot (files claim proof) ks xs ys ms n k m)
+module _ (claim proof : List ℕ) (bc : Bytes claim) (bp : Bytes proof) {ks xs ys gs ms os : List ℕ} {n k m at : ℕ} (g : FilesGot (files claim proof) ks xs ys gs ms os n k m at)
     {es : List Entry} {vs : List Node} {cs : List ℕ} (long : AllLong es vs cs) where
-  r : Readable ks xs ys n ms k proof m
+  r : Readable ks xs ys n gs ms k os proof at m
   r = readable claim proof bc bp g
 
   entry-room : EntryRoom ks xs ys n
@@ -110,18 +117,29 @@ module _ (claim proof : List ℕ) (bc : Bytes claim) (bp : Bytes proof) {ks xs y
           loaded-table es′ n there loaded
           ∙ first-shown shownEntry es′ (tableOf ks xs ys n) (shownEntries es) n table-stored (sym (tableOf-length ks xs ys n))
 
-      claim-same : heldClaim ks′ xs′ ys′ n ms k ≡ heldClaim ks xs ys n ms k
-      claim-same = ap (λ (t : Table). record { entries = t; members = heldClaim ks xs ys n ms k .members }) table-same
+      claim-same : (f : Form) → heldClaim f ks′ xs′ ys′ n gs ms k ≡ heldClaim f ks xs ys n gs ms k
+      claim-same f = ap (λ (t : Table). record { form = f; entries = t; goals = goalsOf gs ms k }) table-same
 
-      pub may-judge : Readable ks′ xs′ ys′ n ms k proof m × RoomFor 1024 m vs cs
+      pub may-judge : Readable ks′ xs′ ys′ n gs ms k os proof at m × RoomFor 1024 m vs cs
       may-judge = (
-        record { table = numberable-as table-same (r .table); members = r .members; decodes = r .decodes; file = rw claim-same (r .file); nodes = r .nodes },
-        record { rows = count r .1; nodes = omega (arith, count r .1, long .nodes); codes = omega (arith, count r .1, long .codes) },
+        record {
+          table = numberable-as table-same (r .table);
+          goals = r .goals;
+          decodes = r .decodes;
+          near = r .near;
+          form = r .form;
+          file = rw (claim-same (r .form)) (r .file);
+          nodes = r .nodes;
+        },
+        record { rows = count r; nodes = omega (arith, count r, long .nodes); codes = omega (arith, count r, long .codes) },
       )
 
-      module _ {before : Verdict} (first : before ≡ accepted) {v : Verdict} {vs′ : List Node} {cs′ : List ℕ} (judged : JudgedStored (heldClaim ks′ xs′ ys′ n ms k) (proofAt proof) vs cs v vs′ cs′) where
+      module _ {before : Verdict} (first : before ≡ accepted) {v : Verdict} {vs′ : List Node} {cs′ : List ℕ}
+          (judged : JudgedStored (λ f. heldClaim f ks′ xs′ ys′ n gs ms k) (proofAt proof at os k) vs cs v vs′ cs′) where
         verdict-is : v ≡ judge (g .files .claim) (g .files .beside)
-        verdict-is = judged .verdict ∙ ap (λ (c : Claim). judge c (proofAt proof)) claim-same ∙ sym (readable-judged claim proof bc bp g)
+        verdict-is =
+            let f = r .form in
+            judged .verdict f ∙ ap (λ (c : Claim). judge c (proofAt proof at os k)) (claim-same f) ∙ sym (readable-judged claim proof bc bp g f)
 
         lent-is : lentOf es′ vs′ cs′ ≡ decodedInto (g .files) (lentOf es vs cs)
         lent-is =

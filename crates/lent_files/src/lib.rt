@@ -28,7 +28,9 @@ pub fn judge_read(
     let mut kinds = [0u8; 256];
     let mut a = [0u16; 256];
     let mut b = [0u16; 256];
-    let mut members = [0u16; 24];
+    let mut bounds = [0u16; 17];
+    let mut members = [0u16; 384];
+    let mut roots = [0u16; 16];
     let found = find_files(
         before,
         claim,
@@ -36,7 +38,9 @@ pub fn judge_read(
         &mut kinds,
         &mut a,
         &mut b,
+        &mut bounds,
         &mut members,
+        &mut roots,
     );
     if found.nodes == 0 {
         return found.verdict;
@@ -45,12 +49,15 @@ pub fn judge_read(
     load_entries(entries, found.entries, &mut kinds, &mut a, &mut b);
     judge_stored(
         proof,
+        found.at,
         &kinds,
         &a,
         &b,
         found.entries,
+        &bounds,
         &members,
-        found.listed,
+        found.goals,
+        &roots,
         found.nodes,
         nodes,
         codes,

@@ -11,15 +11,34 @@ use Rattle.records.specs.Records.{shownEntry, shownNode, shownEntries, shownNod
 use Rattle.records.specs.Shown.{map-take, loaded-table, noRecord, rule-at, principal-at, link-at, count-at, list-of}
 use Rattle.records.specs.declared.Entry.{Entry}
 use Rattle.records.specs.declared.Node.{Node}
+use Rattle.writing.specs.Writing.{ClaimRecords, ProofRecords}
 use Rattle.writing.specs.Promises.{WriteClaim, WriteProof}
 use Rattle.writing.specs.Held.{plainRecord, recordsOf, EntriesHeld, NodesHeld, Loadable, ClaimWritten, ProofWritten}
 
-abbrev pub WriteClaimCall : List Entry → ℕ → List ℕ → List ℕ → ℕ → List ℕ → Type 0
-WriteClaimCall es n ms out r out′ = WriteClaim (record { entries = shownEntries es; count = n; members = ms }) out r out′
+-- a claim's records, of the form's number: the lent entries, how many of them count, the goals' member counts, the members
+abbrev pub lentClaim : ℕ → List Entry → ℕ → List ℕ → List ℕ → ClaimRecords
+lentClaim form es n gs ms = record {
+  form = form;
+  entries = shownEntries es;
+  count = n;
+  counts = gs;
+  members = ms;
+}
 
-abbrev pub WriteProofCall : List Entry → ℕ → List ℕ → List Node → ℕ → List ℕ → List ℕ → ℕ → List ℕ → Type 0
-WriteProofCall es n ms vs m cs out r out′ =
-    WriteProof (record { entries = shownEntries es; count = n; members = ms }) (record { nodes = shownNodes vs; count = m; codes = cs }) out r out′
+-- a proof's: the lent nodes, how many of them count, the roots, the codes
+abbrev pub lentProof : List Node → ℕ → List ℕ → List ℕ → ProofRecords
+lentProof vs m os cs = record {
+  nodes = shownNodes vs;
+  count = m;
+  roots = os;
+  codes = cs;
+}
+
+abbrev pub WriteClaimCall : ℕ → List Entry → ℕ → List ℕ → List ℕ → List ℕ → ℕ → List ℕ → Type 0
+WriteClaimCall form es n gs ms out r out′ = WriteClaim (lentClaim form es n gs ms) out r out′
+
+abbrev pub WriteProofCall : ℕ → List Entry → ℕ → List ℕ → List ℕ → List Node → ℕ → List ℕ → List ℕ → List ℕ → ℕ → List ℕ → Type 0
+WriteProofCall form es n gs ms vs m os cs out r out′ = WriteProof (lentClaim form es n gs ms) (lentProof vs m os cs) out r out′
 
 -- reading the columns of node records back gives the records
 records-of-columns : (p : List NodeRecord) (rs ls ns : List ℕ) → recordsOf (written (ruleColumn p) rs) (written (linkColumn p) ls) (written (countColumn p) ns) (length p) ≡ p
@@ -53,11 +72,13 @@ module _ {n k : ℕ} where
       sym (map-take shownNode n vs) ∙ sym (loaded-records vs n (omega (arith, can .fits)) these)
 
 -- what is written from loaded columns is what the records promise
-pub write-claim-call : (es : List Entry) {n k r : ℕ} {ks xs ys ks′ xs′ ys′ ms out out′ : List ℕ} → Loadable (length es) 256 n k → EntriesLoaded es k ks xs ys ks′ xs′ ys′
-    → ClaimWritten (length es) n ks′ xs′ ys′ ms out r out′ → WriteClaimCall es n ms out r out′
-write-claim-call es can loaded right = right (shownEntries es) (length-map es shownEntry) (entries-held es can loaded)
+module _ (form : ℕ) (es : List Entry) (gs : List ℕ) {n k r : ℕ} {ks xs ys ks′ xs′ ys′ ms out out′ : List ℕ} where
+  pub write-claim-call : Loadable (length es) 256 n k → EntriesLoaded es k ks xs ys ks′ xs′ ys′
+      → ClaimWritten form (length es) n ks′ xs′ ys′ gs ms out r out′ → WriteClaimCall form es n gs ms out r out′
+  write-claim-call can loaded right = right (shownEntries es) (length-map es shownEntry) (entries-held es can loaded)
 
-pub write-proof-call : (es : List Entry) (vs : List Node) {rows n k m j r : ℕ} {ks xs ys ks′ xs′ ys′ ms rs ls ns rs′ ls′ ns′ cs out out′ : List ℕ} → rows ≤ 1024 → (m ≤ 1024 → m ≤ rows) → Loadable (length es) 256 n k → EntriesLoaded es k ks xs ys ks′ xs′ ys′
-    → Loadable (length vs) rows m j → FieldsLoaded vs j rs ls ns rs′ ls′ ns′ → ProofWritten (length es) n ks′ xs′ ys′ ms (length vs) m rs′ ls′ ns′ cs out r out′ → WriteProofCall es n ms vs m cs out r out′
-write-proof-call es vs most rows-for can loaded can-nodes loaded-nodes right =
-    right (shownEntries es) (shownNodes vs) (length-map es shownEntry) (length-map vs shownNode) (entries-held es can loaded) (nodes-held vs most rows-for can-nodes loaded-nodes)
+  pub write-proof-call : (vs : List Node) (os : List ℕ) {rows m j : ℕ} {rs ls ns rs′ ls′ ns′ cs : List ℕ} → rows ≤ 1024 → (m ≤ 1024 → m ≤ rows)
+      → Loadable (length es) 256 n k → EntriesLoaded es k ks xs ys ks′ xs′ ys′ → Loadable (length vs) rows m j → FieldsLoaded vs j rs ls ns rs′ ls′ ns′
+      → ProofWritten form (length es) n ks′ xs′ ys′ gs ms (length vs) m rs′ ls′ ns′ os cs out r out′ → WriteProofCall form es n gs ms vs m os cs out r out′
+  write-proof-call vs os most rows-for can loaded can-nodes loaded-nodes right =
+      right (shownEntries es) (shownNodes vs) (length-map es shownEntry) (length-map vs shownNode) (entries-held es can loaded) (nodes-held vs most rows-for can-nodes loaded-nodes)

@@ -12,17 +12,20 @@ use writer::write_proof;
 // In columns with room for 32 nodes: a small proof clears no more. A slice of under 1,024 nodes may be loaded from too: `write_proof` refuses
 // it, whatever the columns hold.
 pub fn write_few(
+    form: u8,
     entries: &[Entry],
     entry_count: usize,
+    sizes: &[u16],
     members: &[u16],
     nodes: &[Node],
     node_count: usize,
+    roots: &[u16],
     codes: &[u16],
     out: &mut [u8],
 ) -> u64
     requires { ⌜ («node_count» ≤ 32) ⌝ }
-    ensures { λ r. ⌜ WriteProofCall (now (entries .entry)) «entry_count» (now (members .entry)) (now (nodes .entry)) «node_count» (now (codes .entry))
-        (now (out .entry)) r (now (out .exit)) ⌝ }
+    ensures { λ r. ⌜ WriteProofCall form (now (entries .entry)) «entry_count» (now (sizes .entry)) (now (members .entry)) (now (nodes .entry))
+        «node_count» (now (roots .entry)) (now (codes .entry)) (now (out .entry)) r (now (out .exit)) ⌝ }
 {
     let mut kinds = [0u8; 256];
     let mut a = [0u16; 256];
@@ -35,14 +38,17 @@ pub fn write_few(
     let nodes_loaded = loadable(nodes.len(), 32, node_count);
     load_node_fields(nodes, nodes_loaded, &mut rules, &mut links, &mut counts);
     write_proof(
+        form,
         entries.len(),
         entry_count,
         &kinds,
         &a,
         &b,
+        sizes,
         members,
         nodes.len(),
         node_count,
+        roots,
         &rules,
         &links,
         &counts,
@@ -53,16 +59,19 @@ pub fn write_few(
 
 // In columns with room for all 1,024.
 pub fn write_many(
+    form: u8,
     entries: &[Entry],
     entry_count: usize,
+    sizes: &[u16],
     members: &[u16],
     nodes: &[Node],
     node_count: usize,
+    roots: &[u16],
     codes: &[u16],
     out: &mut [u8],
 ) -> u64
-    ensures { λ r. ⌜ WriteProofCall (now (entries .entry)) «entry_count» (now (members .entry)) (now (nodes .entry)) «node_count» (now (codes .entry))
-        (now (out .entry)) r (now (out .exit)) ⌝ }
+    ensures { λ r. ⌜ WriteProofCall form (now (entries .entry)) «entry_count» (now (sizes .entry)) (now (members .entry)) (now (nodes .entry))
+        «node_count» (now (roots .entry)) (now (codes .entry)) (now (out .entry)) r (now (out .exit)) ⌝ }
 {
     let mut kinds = [0u8; 256];
     let mut a = [0u16; 256];
@@ -75,14 +84,17 @@ pub fn write_many(
     let nodes_loaded = loadable(nodes.len(), 1024, node_count);
     load_node_fields(nodes, nodes_loaded, &mut rules, &mut links, &mut counts);
     write_proof(
+        form,
         entries.len(),
         entry_count,
         &kinds,
         &a,
         &b,
+        sizes,
         members,
         nodes.len(),
         node_count,
+        roots,
         &rules,
         &links,
         &counts,

@@ -2,14 +2,14 @@
 use mathlib.Core.Path.{_≡_, refl, sym, ap, _∙_}
 use mathlib.Core.Bool.{Bool, true, false, not, _&&_, _||_, false≢true}
 use mathlib.Core.List.{List, [], _∷_}
-use Prim.Native.Nat.{ℕ, _+_, _<_, _≤_}
+use Prim.Native.Nat.{ℕ, zero, suc, _+_, _<_, _≤_}
 use native.Mathlib.Decide.{ℕ-discrete, decLt}
 use native.Mathlib.Omega.{arith}
 use lib.Dec.{eqb, ltb, leb}
 use lib.ListN.{length, getD, set}
 use lib.Seq.{getD-set-same, getD-set-other}
 use borrow.Author.Count.{below-more}
-use borrow.Author.Tests.{eq-eqb, ne-eqb, lt-ltb, le-ltb, le-leb, lt-leb}
+use borrow.Author.Tests.{ne-eqb, lt-ltb, le-ltb, le-leb, lt-leb}
 use Rattle.verdict.specs.Tests.{all, any, member}
 use Rattle.formula.specs.Rule
 use Rattle.formula.specs.Nodes.{Proof, Node}
@@ -17,17 +17,18 @@ use Rattle.formula.specs.PlainNodes.{codesAt, proofOf, proofOf-length, proofOf-
 use Rattle.calculus.specs.Judge.{ancestor, on-loop, good-path}
 use Rattle.tree.specs.Owners.{Owned, Parented}
 use Rattle.spans.specs.Spans.{up}
-use Rattle.spans.specs.Climbs.{path, Parents, path-step, path-end}
+use Rattle.spans.specs.Climbs.{path, Parents, path-step, path-end, path-root}
+use Rattle.spans.specs.SpanLaws.{at-up}
 use Rattle.loops.specs.Paths.{box, passable, barred, Nearest, nearest-at, PathsTold, PathsFilled}
 
 module _ (p : Proof) (owners : List ℕ) (R : Parents p owners) (marked : ℕ → Bool) (table : List ℕ) (v : ℕ) (real : v < length p) (N : Nearest p marked v table) where
   -- without a mark of its own a node's nearest one lies above it
   near-above : nearest-at owners table v false ≤ v
-  near-above = go (ℕ-discrete v 0)
+  near-above = go (getD owners v 0) (R .parented v real)
     where
-      go : Dec (v ≡ 0) → nearest-at owners table v false ≤ v
-      go (yes e) = rw (eq-eqb v 0 e) (omega arith)
-      go (no k) = rw (ne-eqb v 0 k) (let r = R .parented v (omega arith) real in omega (arith, N .most (up owners v) (omega arith)))
+      go : (i : ℕ) → i ≤ v → getD (0 ∷ table) i 0 ≤ v
+      go zero h = omega arith
+      go (suc w) h = omega (arith, N .most w (omega arith))
 
   near-most : (b : Bool) → nearest-at owners table v b ≤ v + 1
   near-most true = omega arith
@@ -35,20 +36,28 @@ module _ (p : Proof) (owners : List ℕ) (R : Parents p owners) (marked : ℕ �
 
   near-tells : (c : ℕ) → member (path p c v) c ≡ true → any marked (path p c v) ≡ ltb c (nearest-at owners table v (marked v))
   unfolding member any
-  near-tells c m = go (decLt c v) (ℕ-discrete c v)
+  near-tells c m = go (ℕ-discrete c v) (decLt c v) (ℕ-discrete (getD owners v 0) 0)
     where
-      further : c < v → member (path p c (up owners v)) c ≡ true → (b : Bool) → (b || any marked (path p c (up owners v))) ≡ ltb c (nearest-at owners table v b)
-      further h n true = sym (lt-ltb c (v + 1) (omega arith))
-      further h n false = let r = R .parented v (omega arith) real in N .tells c (up owners v) (omega arith) n ∙ rw (ne-eqb v 0 (omega arith)) refl
+      further : c < v → 0 < getD owners v 0 → member (path p c (up owners v)) c ≡ true → (b : Bool) → (b || any marked (path p c (up owners v))) ≡ ltb c (nearest-at owners table v b)
+      further h o n true = sym (lt-ltb c (v + 1) (omega arith))
+      further h o n false = let r = R .parented v real in N .tells c (up owners v) (omega arith) n ∙ rw (at-up 0 table (getD owners v 0) o) refl
 
       alone : c ≡ v → (b : Bool) → (b || false) ≡ ltb c (nearest-at owners table v b)
       alone e true = sym (lt-ltb c (v + 1) (omega arith))
       alone e false = sym (le-ltb c (nearest-at owners table v false) (omega (arith, near-above)))
 
-      go : Dec (c < v) → Dec (c ≡ v) → any marked (path p c v) ≡ ltb c (nearest-at owners table v (marked v))
-      go (yes h) _ = rw (path-step p owners R c v h real) (further h (rw (path-step p owners R c v h real, ne-eqb c v (omega arith)) at m) (marked v))
-      go (no h) (yes e) = rw (path-end p owners R c v (omega arith)) (alone e (marked v))
-      go (no h) (no k) = absurd (false≢true (rw (path-end p owners R c v (omega arith), ne-eqb c v k) at m))
+      -- the walk ends at v only if it comes from there
+      ended : path p c v ≡ v ∷ [] → (c ≡ v → ⊥) → ⊥
+      ended e k = false≢true (rw (e, ne-eqb c v k) at m)
+
+      go : Dec (c ≡ v) → Dec (c < v) → Dec (getD owners v 0 ≡ 0) → any marked (path p c v) ≡ ltb c (nearest-at owners table v (marked v))
+      go (yes e) _ _ = rw (path-end p owners R c v (omega arith)) (alone e (marked v))
+      go (no k) (no h) _ = absurd (ended (path-end p owners R c v (omega arith)) k)
+      go (no k) (yes h) (yes r) = absurd (ended (path-root p owners R c v real r) k)
+      go (no k) (yes h) (no r) =
+          let o : 0 < getD owners v 0 = omega arith in
+          let up-one = path-step p owners R c v h real o in
+          rw up-one (further h o (rw (up-one, ne-eqb c v k) at m) (marked v))
 
   pub near-more : v < length table → Nearest p marked (v + 1) (set table v (nearest-at owners table v (marked v)))
   near-more room = record {

@@ -13,7 +13,7 @@ use Rattle.formula.specs.PlainNodes.{proofOf}
 use Rattle.calculus.specs.View.{plain}
 use Rattle.calculus.specs.Judge.{ancestor, on-loop, good-path, loop}
 use Rattle.tree.specs.Owners.{Owned}
-use Rattle.spans.specs.Spans.{up, Upward}
+use Rattle.spans.specs.Spans.{at-parent, Upward}
 use Rattle.spans.specs.Climbs.{path}
 
 -- a box; a node that may lie on a loop path, and one that may not
@@ -31,9 +31,9 @@ pub record Nearest (p : Proof) (marked : ℕ → Bool) (v : ℕ) (table : List �
   pub most : (w : ℕ) → w < v → getD table w 0 ≤ w + 1
   pub tells : (c w : ℕ) → w < v → member (path p c w) c ≡ true → any marked (path p c w) ≡ ltb c (getD table w 0)
 
--- one more than the nearest marked node at or above v, 0 if there is none: from that of v's parent
+-- one more than the nearest marked node at or above v, 0 if there is none: from that of v's parent, if it has one
 abbrev pub nearest-at : List ℕ → List ℕ → ℕ → Bool → ℕ
-nearest-at owners table v marked = choose marked (v + 1) (choose (eqb v 0) 0 (getD table (up owners v) 0))
+nearest-at owners table v marked = choose marked (v + 1) (at-parent owners table v)
 
 -- no barred node from c down to v, and a box
 abbrev pub clear : List ℕ → List ℕ → ℕ → ℕ → Bool

@@ -1,28 +1,25 @@
-// The loop path from a back leaf's companion down to it (39), told in one step by two tables of the tree.
+// The loop path from a back leaf's companion down to it (39), told in one step by two tables of the trees.
 ghost use mathlib.Core.Path.{_≡_};
 ghost use Prim.Native.Nat.{_+_, _*_, _<_, _≤_};
-ghost use lib.ListN.{length};
+ghost use lib.ListN.{length, getD};
 ghost use Rattle.verdict.specs.Shown.{shown};
 ghost use Rattle.formula.specs.PlainNodes.{proofOf};
-ghost use Rattle.tree.specs.Owners.{Owned, Parented};
+ghost use Rattle.tree.specs.Owners.{Owned};
 ghost use Rattle.loops.specs.Paths.{nearest-at, Tabled, PathsFilled, LeafJudged, LeavesJudged, Linked, loops-judged};
-use bits::wide;
 use formula::Rule;
 use loop_nodes::may_loop;
+use spans::at_parent;
 use verdict::Verdict;
 
-// One more than the number of the nearest marked node at or above v, or 0; the table has those of all nodes below v.
+// One more than the number of the nearest marked node at or above v, or 0; the table has that of v's parent, if it has one.
 fn nearest(owners: &[u16], table: &[u16], v: usize, marked: bool) -> u16
-    requires { ⌜ (v < 1024) × (v < length (now owners)) × (v ≤ length (now table)) × Parented (now owners) (v + 1) ⌝ }
+    requires { ⌜ (v < 1024) × (v < length (now owners)) × (getD (now owners) v 0 ≤ length (now table)) ⌝ }
     ensures { λ r. ⌜ r ≡ nearest-at (now (owners .entry)) (now (table .entry)) v marked ⌝ }
 {
     if marked {
         return (v + 1) as u16;
     }
-    if v == 0 {
-        return 0;
-    }
-    table[wide(owners[v]) - 1]
+    at_parent(owners, table, v)
 }
 
 // For each node the nearest one at or above it that may not lie on a loop path, and the nearest box: the codes are looked at once.

@@ -1,3 +1,4 @@
 pub mod ProofDecode
 pub mod ProofStored
+pub mod RootsStored
 pub mod ProofGood

@@ -1,4 +1,4 @@
--- the nodes of a proof file, read off the places where they stand
+-- the roots and the nodes of a proof file, read off the places where they stand
 use mathlib.Core.Path.{_≡_, refl, ap, _∙_}
 use mathlib.Core.List.{List, [], _∷_, _++_}
 use Prim.Native.Nat.{ℕ, zero, suc, _+_, _*_, _<_, _≤_}
@@ -8,6 +8,7 @@ use borrow.Author.Tests.{le-leb, lt-leb}
 use lib.Dec.{leb}
 use lib.ListN.{length, getD, set}
 use Rattle.formula.specs.Nodes.{Node, Proof}
+use Rattle.formula.specs.Claim.{Form, clm1, clm2, Derivation}
 use Rattle.formula.specs.Fields.{linkWidth}
 use Rattle.encoding.specs.Parse.{pick}
 use Rattle.encoding.specs.Places.{wordAt}
@@ -106,14 +107,28 @@ pub data NodesFit (s : List ℕ) : ℕ → ℕ → Type 0 where
   no-node : {at : ℕ} → NodesFit s at 0
   one-more : {at n : ℕ} → NodeFits s at → NodesFit s (nodeEnd s at) n → NodesFit s at (suc n)
 
--- the nodes of a file, after its opening and its node count
-abbrev pub proofIn : List ℕ → Proof
-proofIn s = nodesAt s 6 (wordAt s 4)
+-- the nodes of a file, from a place on; their number stands after the opening
+abbrev pub proofIn : List ℕ → ℕ → Proof
+proofIn s at = nodesAt s at (wordAt s 4)
 
-pub record Decodes (s : List ℕ) : Type 0 where
-  pub long : 6 ≤ length s
+pub record Decodes (s : List ℕ) (at : ℕ) : Type 0 where
+  pub counted : 6 ≤ length s
+  pub long : at ≤ length s
   pub few : wordAt s 4 ≤ 1024
-  pub fit : NodesFit s 6 (wordAt s 4)
+  pub fit : NodesFit s at (wordAt s 4)
+
+-- beside a claim of k goals the roots stand after the node count; PRF1 does not write its only one
+abbrev pub rootsIn : Form → ℕ → List ℕ → List ℕ
+rootsIn clm1 k s = 0 ∷ []
+rootsIn clm2 k s = wordsAt s 6 k
+
+-- and the nodes after these
+abbrev pub nodesPlace : Form → ℕ → ℕ
+nodesPlace clm1 k = 6
+nodesPlace clm2 k = 6 + 2 * k
+
+abbrev pub derivationIn : Form → ℕ → List ℕ → Derivation
+derivationIn f k s = record { roots = rootsIn f k s; nodes = proofIn s (nodesPlace f k) }
 
 -- the four links of node v stand at 4 × v
 abbrev pub setLinks : List ℕ → ℕ → Links → List ℕ

@@ -1,4 +1,4 @@
--- a proof file that is read whole is decoded off its places: whatever its table, its nodes are those that stand there
+-- a proof file that is read whole is decoded off its places: whatever its table, its roots and nodes are those that stand there
 use mathlib.Core.Path.{_≡_, refl, sym, ap, _∙_}
 use mathlib.Core.List.{List, [], _∷_}
 use mathlib.Core.Bool.{Bool, true, false}
@@ -11,7 +11,8 @@ use lib.ListN.{length, getD, drop}
 use Rattle.verdict.specs.Tells.{fails}
 use Rattle.formula.specs.Table.{Table}
 use Rattle.formula.specs.Nodes.{Node, Proof}
-use Rattle.formula.specs.Claim.{Claim, Derivation}
+use Rattle.formula.specs.Claim.{Form, clm1, clm2, Claim, Derivation}
+use Rattle.encoding.specs.Encode.{Counts}
 use Rattle.encoding.specs.Parse.{Got, fault, got, bind, times, in-range, fits-from}
 use Rattle.encoding.specs.File.{refused, good}
 use Rattle.encoding.specs.FileLaws.{refused-not-good, good-same}
@@ -21,12 +22,12 @@ use Rattle.encoding.specs.Places.{wordAt}
 use Rattle.encoding.specs.Opening.{opens}
 use Rattle.encoding.specs.Walk.{Reached}
 use Rattle.proof_files.specs.ProofFile.{proofOpening}
-use Rattle.proof_files.specs.ReadProof.{rule-fits, isCode, sequent, made, node, readProof}
-use Rattle.proof_files.specs.ProofParts.{heading, oneCode, afterCode, codesOf, nodesOf}
+use Rattle.proof_files.specs.ReadProof.{rule-fits, isCode, isNode, sequent, made, node, roots, readProof}
+use Rattle.proof_files.specs.ProofParts.{heading, numberFrom, afterNumber, numbersOf, rootsOf, nodesOf}
 use Rattle.proofs.specs.ProofHead.{head-cut, head-unfit, head-short, head-whole}
-use Rattle.proofs.specs.ProofLaws.{code-cut, code-unfit, code-fits, sequent-cut, sequent-unfit, sequent-codes, node-stops, node-empty, node-codes, node-codes-stop}
-use Rattle.proofs.specs.ProofWhole.{ended, not-opened, no-count, count-unfit, counted}
-use Rattle.nodes.specs.ProofDecode.{wordsAt, codesPlace, nodeEnd, nodeLinks, nodeAt, NodeFits, with-codes, no-codes, nodesAt, NodesFit, no-node, one-more, proofIn, Decodes}
+use Rattle.proofs.specs.ProofLaws.{number-cut, number-unfit, number-fits, roots-known, roots-written, sequent-cut, sequent-unfit, sequent-codes, node-stops, node-empty, node-codes, node-codes-stop}
+use Rattle.proofs.specs.ProofWhole.{ended, not-opened, no-count, count-unfit, roots-stop, roots-read}
+use Rattle.nodes.specs.ProofDecode.{wordsAt, codesPlace, nodeEnd, nodeLinks, nodeAt, NodeFits, with-codes, no-codes, nodesAt, NodesFit, no-node, one-more, rootsIn, nodesPlace, derivationIn, Decodes}
 
 -- something was read
 pub record Read {A : Type 0} (g : Got A) : Type 0 where
@@ -38,32 +39,35 @@ pub record Read {A : Type 0} (g : Got A) : Type 0 where
 never : {A : Type 0} {g : Got A} {n q : ℕ} → Read g → g ≡ fault n q → ⊥
 never r e = fault-not-got (sym e ∙ r .was)
 
-module _ (t : Table) (s : List ℕ) where
-  -- codes that were read are the numbers that stand there
-  code-read : (c at : ℕ) → at ≤ length s → Read (oneCode t c (drop at s) at) → (at + 1 < length s) × (oneCode t c (drop at s) at ≡ got (wordAt s at) (drop (at + 2) s) (at + 2))
-  code-read c at h r = room (decLt (length s) (at + 2))
+module _ (ok : ℕ → Bool) (s : List ℕ) where
+  -- codes or roots that were read are the numbers that stand there
+  number-read : (c at : ℕ) → at ≤ length s → Read (numberFrom ok c (drop at s) at) → (at + 1 < length s) × (numberFrom ok c (drop at s) at ≡ got (wordAt s at) (drop (at + 2) s) (at + 2))
+  number-read c at h r = room (decLt (length s) (at + 2))
     where
-      fits : at + 1 < length s → (b : Bool) → fits-from (isCode t) c (wordAt s at) ≡ b → oneCode t c (drop at s) at ≡ got (wordAt s at) (drop (at + 2) s) (at + 2)
-      fits l true e = code-fits t s at c l e
-      fits l false e = absurd (never r (code-unfit t s at c l e))
+      fits : at + 1 < length s → (b : Bool) → fits-from ok c (wordAt s at) ≡ b → numberFrom ok c (drop at s) at ≡ got (wordAt s at) (drop (at + 2) s) (at + 2)
+      fits l true e = number-fits ok s at c l e
+      fits l false e = absurd (never r (number-unfit ok s at c l e))
 
-      room : Dec (length s < at + 2) → (at + 1 < length s) × (oneCode t c (drop at s) at ≡ got (wordAt s at) (drop (at + 2) s) (at + 2))
-      room (yes l) = absurd (never r (code-cut t s at c h l))
-      room (no l) = let i : at + 1 < length s = omega arith in (i, fits i (fits-from (isCode t) c (wordAt s at)) refl)
+      room : Dec (length s < at + 2) → (at + 1 < length s) × (numberFrom ok c (drop at s) at ≡ got (wordAt s at) (drop (at + 2) s) (at + 2))
+      room (yes l) = absurd (never r (number-cut ok s at c h l))
+      room (no l) = let i : at + 1 < length s = omega arith in (i, fits i (fits-from ok c (wordAt s at)) refl)
 
-  codes-read : (n c at : ℕ) → at ≤ length s → Read (times (oneCode t) afterCode n c (drop at s) at)
-      → Reached s (at + 2 * n) (times (oneCode t) afterCode n c (drop at s) at) (wordsAt s at n) (at + 2 * n)
+  -- n of them in sight of c
+  abbrev some : ℕ → ℕ → ℕ → Got (List ℕ)
+  some n c at = times (numberFrom ok) afterNumber n c (drop at s) at
+
+  numbers-read : (n c at : ℕ) → at ≤ length s → Read (some n c at) → Reached s (at + 2 * n) (some n c at) (wordsAt s at n) (at + 2 * n)
   unfolding times wordsAt
-  codes-read zero c at h r =
+  numbers-read zero c at h r =
       let e : at ≡ at + 2 * 0 = omega arith in
       record { found = ap (λ (k : ℕ). got [] (drop k s) k) e; inside = omega arith; near = omega arith }
-  codes-read (suc n) c at h r =
-      let one = bind-got (oneCode t c (drop at s) at) _ (r .was) in
-      let (i, e) = code-read c at h (record { value = one .first; rest = one .rest; place = one .place; was = one .was }) in
-      let past : times (oneCode t) afterCode (suc n) c (drop at s) at ≡ bind (times (oneCode t) afterCode n (suc (wordAt s at)) (drop (at + 2) s) (at + 2)) (λ l u z. got (wordAt s at ∷ l) u z) =
-      ap (λ (g : Got ℕ). bind g (λ x r o. bind (times (oneCode t) afterCode n (afterCode c x) r o) (λ l u z. got (x ∷ l) u z))) e in
-      let two = bind-got (times (oneCode t) afterCode n (suc (wordAt s at)) (drop (at + 2) s) (at + 2)) _ (sym past ∙ r .was) in
-      let more = codes-read n (suc (wordAt s at)) (at + 2) (omega arith) (record { value = two .first; rest = two .rest; place = two .place; was = two .was }) in
+  numbers-read (suc n) c at h r =
+      let one = bind-got (numberFrom ok c (drop at s) at) _ (r .was) in
+      let (i, e) = number-read c at h (record { value = one .first; rest = one .rest; place = one .place; was = one .was }) in
+      let past : some (suc n) c at ≡ bind (some n (suc (wordAt s at)) (at + 2)) (λ l u z. got (wordAt s at ∷ l) u z) =
+      ap (λ (g : Got ℕ). bind g (λ x r o. bind (times (numberFrom ok) afterNumber n (afterNumber c x) r o) (λ l u z. got (x ∷ l) u z))) e in
+      let two = bind-got (some n (suc (wordAt s at)) (at + 2)) _ (sym past ∙ r .was) in
+      let more = numbers-read n (suc (wordAt s at)) (at + 2) (omega arith) (record { value = two .first; rest = two .rest; place = two .place; was = two .was }) in
       let j : at + 2 + 2 * n ≡ at + 2 * suc n = omega arith in
       record {
         found = past ∙ ap (λ (g : Got (List ℕ)). bind g (λ l u z. got (wordAt s at ∷ l) u z)) (more .found) ∙ ap (λ (k : ℕ). got (wordAt s at ∷ wordsAt s (at + 2) n) (drop k s) k) j;
@@ -71,10 +75,11 @@ module _ (t : Table) (s : List ℕ) where
         near = omega arith;
       }
 
-  codes-found : (n at : ℕ) → at ≤ length s → Read (codesOf t n s at) → Reached s (at + 2 * n) (codesOf t n s at) (wordsAt s at n) (at + 2 * n)
-  unfolding codesOf
-  codes-found n at h r = codes-read n 0 at h r
+  numbers-found : (n at : ℕ) → at ≤ length s → Read (numbersOf ok n s at) → Reached s (at + 2 * n) (numbersOf ok n s at) (wordsAt s at n) (at + 2 * n)
+  unfolding numbersOf
+  numbers-found n at h r = numbers-read n 0 at h r
 
+module _ (t : Table) (s : List ℕ) where
   -- a sequent that was read
   record Listed (at : ℕ) : Type 0 where
     few : getD s at 0 ≤ 24
@@ -86,7 +91,7 @@ module _ (t : Table) (s : List ℕ) where
       count : at < length s → (b : Bool) → in-range 24 (getD s at 0) ≡ b → Listed at
       count l true e =
           let same = sequent-codes t s at l e in
-          let found = codes-found (getD s at 0) (at + 1) (omega arith) (record { value = r .value; rest = r .rest; place = r .place; was = sym same ∙ r .was }) in
+          let found = numbers-found (isCode t) s (getD s at 0) (at + 1) (omega arith) (record { value = r .value; rest = r .rest; place = r .place; was = sym same ∙ r .was }) in
           record {
             few = range-tells 24 (getD s at 0) .says e .1;
             reached = record { found = same ∙ found .found; inside = found .inside; near = found .near };
@@ -123,11 +128,12 @@ module _ (t : Table) (s : List ℕ) where
       coded e (got cs u z) i =
           let listed = sequent-read (codesPlace s at) k (record { value = cs; rest = u; place = z; was = i }) in
           let some = with-codes s at (leb-true 16 (getD s at 0) e) (codesPlace s at) refl in
+          let end : ℕ = codesPlace s at + 1 + 2 * getD s (codesPlace s at) 0 in
           record {
             fits = record { head = k; whole = omega (arith, some .ends, listed .reached .inside); few = omega (arith, some .many, listed .few) };
             found =
                 node-codes t (drop at s) at head e (listed .reached .found)
-                ∙ ap (λ (cs : List ℕ). got (made ((getD s (at + 1) 0, leb 16 (getD s at 0)), (nodeLinks s at, cs))) (drop (codesPlace s at + 1 + 2 * getD s (codesPlace s at) 0) s) (codesPlace s at + 1 + 2 * getD s (codesPlace s at) 0)) (some .are)
+                ∙ ap (λ (cs : List ℕ). got (made ((getD s (at + 1) 0, leb 16 (getD s at 0)), (nodeLinks s at, cs))) (drop end s) end) (some .are)
                 ∙ ap (λ (z : ℕ). got (nodeAt s at) (drop z s) z) (some .ends);
           }
 
@@ -166,36 +172,60 @@ module _ (t : Table) (s : List ℕ) where
       let (f, e) = nodes-read n next (here .fits .whole) (record { value = two .first; rest = two .rest; place = two .place; was = two .was }) in
       (one-more (here .fits) f, sym (same-value (two .then)) ∙ ap (λ (l : List Node). nodeAt s at ∷ l) e)
 
-  -- a file that is read whole: its nodes stand at their places
-  pub record Decoded (p : Proof) : Type 0 where
-    pub decodes : Decodes s
-    pub same : p ≡ proofIn s
+-- the roots of either form that were read
+roots-found : (f : Form) (g n : ℕ) (s : List ℕ) → 6 ≤ length s → Read (rootsOf f g n s) → Reached s (nodesPlace f g) (rootsOf f g n s) (rootsIn f g s) (nodesPlace f g)
+roots-found clm1 g n s l r = record { found = roots-known g n s; inside = l; near = omega arith }
+roots-found clm2 g n s l r =
+    let same = roots-written g n s in
+    let numbers = numbers-found (isNode n) s g 6 l (record { value = r .value; rest = r .rest; place = r .place; was = sym same ∙ r .was }) in
+    record { found = same ∙ numbers .found; inside = numbers .inside; near = numbers .near }
 
 module _ (c : Claim) (s : List ℕ) where
-  nodes-found : {d : Derivation} → 6 ≤ length s → wordAt s 4 ≤ 1024 → (g : Got Proof) → nodesOf (c .entries) (wordAt s 4) s ≡ g → ended g ≡ good d → Decoded (c .entries) s (d .nodes)
-  unfolding nodesOf
-  nodes-found l k (fault n q) e h = absurd (refused-not-good h)
-  nodes-found l k (got x [] o) e h =
-      let (f, i) = nodes-read (c .entries) s (wordAt s 4) 6 l (record { value = x; rest = []; place = o; was = e }) in
-      record { decodes = record { long = l; few = k; fit = f }; same = ap (λ (d : Derivation). d .nodes) (good-same (sym h)) ∙ i }
-  nodes-found l k (got x (y ∷ r) o) e h = absurd (refused-not-good h)
+  abbrev goals : ℕ
+  goals = length (c .goals)
 
-  pub good-decoded : {d : Derivation} → readProof c s ≡ good d → Decoded (c .entries) s (d .nodes)
-  good-decoded {d} h = opening (opens proofOpening s) refl
+  -- where the nodes begin
+  abbrev place : ℕ
+  place = nodesPlace (c .form) goals
+
+  -- a file that is read whole: its roots and its nodes stand at their places
+  pub record Decoded (d : Derivation) : Type 0 where
+    pub decodes : Decodes s place
+    pub same : d ≡ derivationIn (c .form) goals s
+
+  nodes-found : {d : Derivation} {rs : List ℕ} → 6 ≤ length s → place ≤ length s → wordAt s 4 ≤ 1024 → rs ≡ rootsIn (c .form) goals s
+      → (g : Got Proof) → nodesOf (c .entries) (wordAt s 4) s place ≡ g → ended rs g ≡ good d → Decoded d
+  unfolding nodesOf
+  nodes-found l p k u (fault n q) e h = absurd (refused-not-good h)
+  nodes-found {d} {rs} l p k u (got x [] o) e h =
+      let (f, i) = nodes-read (c .entries) s (wordAt s 4) place p (record { value = x; rest = []; place = o; was = e }) in
+      record {
+        decodes = record { counted = l; long = p; few = k; fit = f };
+        same = good-same (sym h) ∙ rw (u, i) refl;
+      }
+  nodes-found l p k u (got x (y ∷ r) o) e h = absurd (refused-not-good h)
+
+  pub good-decoded : {d : Derivation} → readProof c s ≡ good d → Decoded d
+  good-decoded {d} h = opening (opens (proofOpening (c .form)) s) refl
     where
       refuses : {n q : ℕ} → readProof c s ≡ refused n q → ⊥
       refuses e = refused-not-good (sym e ∙ h)
 
-      count : (o : opens proofOpening s ≡ true) (l : 6 ≤ length s) (b : Bool) → in-range 1024 (wordAt s 4) ≡ b → Decoded (c .entries) s (d .nodes)
-      count o l true e =
-          let k = range-tells 1024 (wordAt s 4) .says e in
-          nodes-found l (k .1) (nodesOf (c .entries) (wordAt s 4) s) refl (sym (counted c s o l k) ∙ h)
+      rooted : (o : opens (proofOpening (c .form)) s ≡ true) (l : 6 ≤ length s) (k : Counts 1024 (wordAt s 4))
+          → (g : Got (List ℕ)) → rootsOf (c .form) goals (wordAt s 4) s ≡ g → Decoded d
+      rooted o l k (fault n q) e = absurd (refuses (roots-stop c s o l k e))
+      rooted o l k (got rs r z) e =
+          let roots = roots-found (c .form) goals (wordAt s 4) s l (record { value = rs; rest = r; place = z; was = e }) in
+          nodes-found l (roots .inside) (k .1) refl (nodesOf (c .entries) (wordAt s 4) s place) refl (sym (roots-read c s o l k place (roots .found)) ∙ h)
+
+      count : (o : opens (proofOpening (c .form)) s ≡ true) (l : 6 ≤ length s) (b : Bool) → in-range 1024 (wordAt s 4) ≡ b → Decoded d
+      count o l true e = rooted o l (range-tells 1024 (wordAt s 4) .says e) (rootsOf (c .form) goals (wordAt s 4) s) refl
       count o l false e = absurd (refuses (count-unfit c s o l (fails (range-tells 1024 (wordAt s 4)) e)))
 
-      room : opens proofOpening s ≡ true → Dec (length s < 6) → Decoded (c .entries) s (d .nodes)
+      room : opens (proofOpening (c .form)) s ≡ true → Dec (length s < 6) → Decoded d
       room o (yes l) = absurd (refuses (no-count c s o l))
       room o (no l) = count o (omega arith) (in-range 1024 (wordAt s 4)) refl
 
-      opening : (b : Bool) → opens proofOpening s ≡ b → Decoded (c .entries) s (d .nodes)
+      opening : (b : Bool) → opens (proofOpening (c .form)) s ≡ b → Decoded d
       opening true o = room o (decLt (length s) 6)
       opening false o = absurd (refuses (not-opened c s o))

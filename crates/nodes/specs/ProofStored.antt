@@ -42,13 +42,13 @@ pub record NodesStored (p : Proof) (rs₀ ls₀ ss₀ cs₀ rs ls ss cs : List �
 pub stored-proof : {p : Proof} {rs₀ ls₀ ss₀ cs₀ rs ls ss cs : List ℕ} → NodesStored p rs₀ ls₀ ss₀ cs₀ rs ls ss cs → proofOf rs ls ss cs (length p) ≡ p
 stored-proof {p} {rs₀} {ls₀} {ss₀} {cs₀} w = rw (w .rules, w .links, w .starts, w .codes) (proof-of-columns p rs₀ ls₀ ss₀ cs₀)
 
--- i nodes are stored, with so many codes; the others stand from the place at on
-pub record Storing (s rs₀ ls₀ ss₀ cs₀ rs ls ss cs : List ℕ) (at start i : ℕ) : Type 0 where
+-- of the nodes from a place on i are stored, with so many codes; the others stand from the place at on
+pub record Storing (s : List ℕ) (from : ℕ) (rs₀ ls₀ ss₀ cs₀ rs ls ss cs : List ℕ) (at start i : ℕ) : Type 0 where
   pub done : Proof
   pub many : length done ≡ i
-  pub whole : proofIn s ≡ done ++ nodesAt s at (wordAt s 4 - i)
+  pub whole : proofIn s from ≡ done ++ nodesAt s at (wordAt s 4 - i)
   pub fit : NodesFit s at (wordAt s 4 - i)
-  pub near : at ≤ 6 + 57 * i
+  pub near : at ≤ from + 57 * i
   pub counted : start ≡ length (allCodes done)
   pub few : start ≤ 24 * i
   pub rules : rs ≡ written (rulesOf done) rs₀
@@ -84,16 +84,16 @@ stored-on col more old {k = k} e n h a =
     ∙ written-on col more old (omega arith)
     ∙ ap (λ (l : List ℕ). written l old) (sym a)
 
-module _ {s rs₀ ls₀ ss₀ cs₀ : List ℕ} where
-  pub storing-begins : Decodes s → Storing s rs₀ ls₀ ss₀ cs₀ rs₀ ls₀ ss₀ cs₀ 6 0 0
+module _ {s : List ℕ} {from : ℕ} {rs₀ ls₀ ss₀ cs₀ : List ℕ} where
+  pub storing-begins : Decodes s from → Storing s from rs₀ ls₀ ss₀ cs₀ rs₀ ls₀ ss₀ cs₀ from 0 0
   unfolding spread startsFrom allCodes
   storing-begins d =
       let e : wordAt s 4 ≡ wordAt s 4 - 0 = omega arith in
       record {
         done = [];
         many = refl;
-        whole = ap (nodesAt s 6) e;
-        fit = subst (NodesFit s 6) e (d .fit);
+        whole = ap (nodesAt s from) e;
+        fit = subst (NodesFit s from) e (d .fit);
         near = omega arith;
         counted = refl;
         few = omega arith;
@@ -103,9 +103,9 @@ module _ {s rs₀ ls₀ ss₀ cs₀ : List ℕ} where
         codes = refl;
       }
 
-  module _ (d : Decodes s) (lent : Columns (length (proofIn s)) rs₀ ls₀ ss₀ cs₀) {rs ls ss cs : List ℕ} {at start i : ℕ} (w : Storing s rs₀ ls₀ ss₀ cs₀ rs ls ss cs at start i) where
+  module _ (d : Decodes s from) (lent : Columns (length (proofIn s from)) rs₀ ls₀ ss₀ cs₀) {rs ls ss cs : List ℕ} {at start i : ℕ} (w : Storing s from rs₀ ls₀ ss₀ cs₀ rs ls ss cs at start i) where
     pub room : Columns (wordAt s 4) rs₀ ls₀ ss₀ cs₀
-    room = subst (λ (n : ℕ). Columns n rs₀ ls₀ ss₀ cs₀) (nodesAt-length s 6 (wordAt s 4)) lent
+    room = subst (λ (n : ℕ). Columns n rs₀ ls₀ ss₀ cs₀) (nodesAt-length s from (wordAt s 4)) lent
 
     rules-long : length (rulesOf (w .done)) ≡ i
     rules-long = omega (arith, spread-length ruleOf 1 (λ _. refl) (w .done), w .many)
@@ -150,7 +150,7 @@ module _ {s rs₀ ls₀ ss₀ cs₀ : List ℕ} where
       all : Proof
       all = w .done ++ (here ∷ [])
 
-      split : proofIn s ≡ all ++ nodesAt s (nodeEnd s at) (wordAt s 4 - (i + 1))
+      split : proofIn s from ≡ all ++ nodesAt s (nodeEnd s at) (wordAt s 4 - (i + 1))
       unfolding nodesAt here all
       split = w .whole ∙ ap (λ (n : ℕ). w .done ++ nodesAt s at n) ahead ∙ sym (append-assoc (w .done) (nodeAt s at ∷ []) (nodesAt s (nodeEnd s at) (wordAt s 4 - (i + 1))))
 
@@ -168,7 +168,7 @@ module _ {s rs₀ ls₀ ss₀ cs₀ : List ℕ} where
       pub storing-steps : {rs' ls' ss' cs' : List ℕ} {at' start' : ℕ}
           → rs' ≡ set rs i (nodeAt s at .rule) → ls' ≡ setLinks ls i (nodeLinks s at) → ss' ≡ set ss i start → cs' ≡ sets cs start (nodeAt s at .codes)
           → at' ≡ nodeEnd s at → start' ≡ start + codeCount s at
-          → Storing s rs₀ ls₀ ss₀ cs₀ rs' ls' ss' cs' at' start' (i + 1)
+          → Storing s from rs₀ ls₀ ss₀ cs₀ rs' ls' ss' cs' at' start' (i + 1)
       unfolding here all
       storing-steps r l b k e c =
           let longer : length (allCodes (w .done ++ (nodeAt s at ∷ []))) ≡ start + codeCount s at =
@@ -189,13 +189,13 @@ module _ {s rs₀ ls₀ ss₀ cs₀ : List ℕ} where
 
     -- when all are stored, the number of all codes ends the starts
     module _ (last : i ≡ wordAt s 4) where
-      complete : w .done ≡ proofIn s
+      complete : w .done ≡ proofIn s from
       unfolding nodesAt
       complete =
           let e : wordAt s 4 - i ≡ 0 = omega arith in
           sym (w .whole ∙ ap (λ (n : ℕ). w .done ++ nodesAt s at n) e ∙ append-nil (w .done))
 
-      pub stored-nodes : NodesStored (proofIn s) rs₀ ls₀ ss₀ cs₀ rs ls (set ss i start) cs
+      pub stored-nodes : NodesStored (proofIn s from) rs₀ ls₀ ss₀ cs₀ rs ls (set ss i start) cs
       unfolding startsOf
       stored-nodes =
           let e : startsFrom 0 (w .done) ++ (length (allCodes (w .done)) ∷ []) ≡ startsFrom 0 (w .done) ++ (start ∷ []) = ap (λ (n : ℕ). startsFrom 0 (w .done) ++ (n ∷ [])) (sym (w .counted)) in

@@ -36,7 +36,7 @@ pub record PresentCall (s : State) (tag : ℕ) (claim proof : List ℕ) (es : Li
   pub answer : r ≡ packed (right s tag claim proof es vs cs .answer)
   pub state : s′ ≡ leftBy (right s tag claim proof es vs cs .answer) (right s tag claim proof es vs cs .gate) s
   pub lent : lentOf es′ vs′ cs′ ≡ right s tag claim proof es vs cs .lent
-  -- accepted: in every finite model every state has a member of the claim that is true there
+  -- accepted: in every finite model every state has, of each goal of the claim, a member that is true there
   pub sound : r ≡ 0 → Irrefutable claim
   -- "whenever presenting says so, the gate then holds the tag it was given"
   pub holds : r ≡ 0 → s′ ≡ record { phase = 2; tag = tag }

@@ -22,7 +22,7 @@ use Rattle.formula.specs.NodeColumns.{Columns}
 use Rattle.formula.specs.PlainNodes.{codesAt, plainNode, proofOf, proofOf-length, proofOf-node}
 use Rattle.written.specs.Canon.{key}
 use Rattle.written.specs.CanonLaws.{canon-formula}
-use Rattle.calculus.specs.Tree.{Tree, Child, first, second}
+use Rattle.calculus.specs.Tree.{Forest, Child, first, second}
 use Rattle.calculus.specs.View.{View, plain}
 use Rattle.calculus.specs.Judge.{ax1-kept, ax2-kept, or-kept, and-kept, box-kept, mu-kept, nu-kept, weaken-kept, focus-kept, discharge-kept, keys, of-kind, belongs, sides, clash, truth, step-kept, tests}
 use Rattle.calculus.specs.Steps.{keeps-ax1, keeps-ax2, keeps-or, keeps-and, keeps-box, keeps-mu, keeps-nu, keeps-w, keeps-f, keeps-u, keeps-d}
@@ -38,7 +38,7 @@ pub record Judged (ks xs ys ns : List ℕ) (n : ℕ) (rs ls ss cs : List ℕ) (m
   pub well : WellFormed (tableOf ks xs ys n)
   pub numbers : Numbers (tableOf ks xs ys n) ns
   pub members : (v : ℕ) → v < m → Formulas (tableOf ks xs ys n) (codesAt ss cs v)
-  pub tree : Tree (proofOf rs ls ss cs m)
+  pub tree : Forest (proofOf rs ls ss cs m)
 
 -- what the rule of a node with a principal looks at, where its second child has the codes k
 abbrev pub around : List ℕ → List ℕ → List ℕ → ℕ → List ℕ → View

@@ -3,29 +3,34 @@ use mathlib.Core.Path.{_≡_, refl, sym, ap}
 use mathlib.Core.Logic.{_↔_, _⊎_, inl, inr}
 use mathlib.Core.List.{List, [], _∷_, _++_}
 use mathlib.Core.Bool.{Bool, true, false}
-use Prim.Native.Nat.{ℕ, _+_, _≤_}
+use Prim.Native.Nat.{ℕ, _+_, _<_, _≤_}
 use native.Mathlib.Omega.{arith}
 use borrow.Author.Tests.{le-leb, lt-leb}
 use lib.Dec.{leb}
 use lib.ListN.{length}
 use Rattle.verdict.specs.Lists.{Each, none, Rising}
-use Rattle.verdict.specs.Tells.{Tells, and-tells, or-tells, leb-tells, eqb-tells}
+use Rattle.verdict.specs.Tells.{Tells, and-tells, or-tells, ltb-tells, leb-tells, eqb-tells}
 use Rattle.formula.specs.Rule
 use Rattle.formula.specs.Table.{Table}
 use Rattle.formula.specs.Codes.{entryOf}
-use Rattle.formula.specs.Claim.{Claim, Derivation}
+use Rattle.formula.specs.Nodes.{Proof}
+use Rattle.formula.specs.Claim.{Form, clm1, clm2, Claim, Derivation}
 use Rattle.bits.specs.IfSet.{ifSet, if-set-le}
 use Rattle.formula.specs.Fields.{hasPrincipal, hasFirst, hasSecond, hasBack, lowMap}
-use Rattle.encoding.specs.Encode.{Bytes, encodePart, Counts}
+use Rattle.encoding.specs.Encode.{Bytes, TwoBytes, encodeTwo, encodePart, encodeAll, Counts}
 use Rattle.encoding.specs.Parse.{part}
 use Rattle.encoding.specs.File.{good}
 use Rattle.encoding.specs.ParseLaws.{Exact, exact-as, seq-exact, via-exact, guard-exact, part-exact, byte-exact, bytes-exact, two-exact}
-use Rattle.encoding.specs.ListLaws.{count-exact, listed-exact, rising-exact}
+use Rattle.encoding.specs.ChainLaws.{each-as}
+use Rattle.encoding.specs.ListLaws as lists
+use Rattle.encoding.specs.ListLaws.{listed-exact, rising-exact}
 use Rattle.encoding.specs.FileLaws as File
+use Rattle.encoding.specs.Known.{known-exact}
 use Rattle.formula.specs.Members.{formula-tells}
 use Rattle.encoding.specs.FieldLaws.{field-exact}
-use Rattle.proof_files.specs.ProofFile.{proofOpening, encodeRule, encodeLinks, links, encodeCodes, full, encodeNode, encodeNodes, encodeBody, encodeProof, FitRule, Code, FitLinks, FitNode, FitNodes, FitProof, ProofFile}
-use Rattle.proof_files.specs.ReadProof.{early, rule-fits, ruleOf, ruleByte, fields, sequent, made, node, nodes, derivationOf, body, readProof}
+use Rattle.proof_files.specs.ProofFile.{proofOpening, encodeRule, encodeLinks, links, encodeCodes, full, encodeNode, encodeRoots, encodeBody, encodeProof}
+use Rattle.proof_files.specs.ProofFile.{FitRule, Code, FitLinks, FitNode, FitRoots, FitProof, ProofFile}
+use Rattle.proof_files.specs.ReadProof.{early, rule-fits, ruleOf, ruleByte, fields, sequent, made, node, nodeCount, isNode, roots, nodes, derivationOf, body, readProof}
 
 pub low-bits : (r : ℕ) → lowMap r ≤ 15
 low-bits r = omega (arith, if-set-le (hasPrincipal r) 1, if-set-le (hasFirst r) 2, if-set-le (hasSecond r) 4, if-set-le (hasBack r) 8)
@@ -75,7 +80,7 @@ pub sequent-exact : (t : Table) → Exact (sequent t) encodeCodes (FitCodes t)
 unfolding sequent
 sequent-exact t =
     exact-as (λ cs h. record { count = h .0 .1; rising = h .1; each = h .2 }) (λ cs f. ((omega (arith, f .count), f .count), f .rising, f .each))
-    (rising-exact (count-exact 24 32 (byte-exact early)) (two-exact early) (λ c. formula-tells t (entryOf c)) 34)
+    (rising-exact (lists.count-exact 24 32 (byte-exact early)) (two-exact early) (λ c. formula-tells t (entryOf c)) 34)
 
 pub codes-exact : (t : Table) (b : Bool) → Exact (part [] b (sequent t)) (encodePart b encodeCodes) (FitSequent t b)
 codes-exact t b = part-exact (FitSequent t) (sequent-exact t) refl (λ cs h. h) b
@@ -109,38 +114,72 @@ node-exact t =
       ap (λ (b : Bool). encodeRule (w .0 .0, b) ++ (encodeLinks (w .0 .0) (w .1 .0) ++ encodePart b encodeCodes cs)) (full-sequent t (w .0 .1) cs (h .1 .1)),
     ))
 
-pub nodes-exact : (t : Table) → Exact (nodes t) encodeNodes (FitNodes t)
-unfolding nodes
-nodes-exact t =
-    exact-as (λ p h. record { count = h .0 .1; each = h .1 }) (λ p f. ((omega (arith, f .count), f .count), f .each))
-    (listed-exact (count-exact 1024 32 (two-exact early)) (node-exact t))
+pub count-exact : Exact nodeCount encodeTwo (λ n. TwoBytes n × Counts 1024 n)
+count-exact = lists.count-exact 1024 32 (two-exact early)
 
-pub body-exact : (c : Claim) → Exact (body (c .entries)) encodeBody (FitProof c)
-unfolding body
-body-exact c = via-exact (nodes-exact (c .entries)) derivationOf (λ d. d .nodes) (λ d f. (f .nodes, refl, refl)) (λ p f. (record { nodes = f }, refl))
+pub node-tells : (n r : ℕ) → Tells (isNode n r) (r < n)
+node-tells n r = ltb-tells r n
+
+-- of so few nodes every number is one of two bytes
+pub roots-exact : (f : Form) (g n : ℕ) → n ≤ 1024 → Exact (roots f g n) (encodeRoots f) (FitRoots f g n)
+unfolding roots
+roots-exact clm1 g n few = known-exact (0 ∷ [])
+roots-exact clm2 g n few =
+    exact-as
+    (λ rs h. record { as-many = h .0; rising = h .1; each = each-as (λ r k. k .1) (h .2) })
+    (λ rs k. (k .as-many, k .rising, each-as (λ r l. (omega arith, l)) (k .each)))
+    (rising-exact (known-exact g) (two-exact early) (node-tells n) 34)
+
+pub nodes-exact : (t : Table) (n : ℕ) → Exact (nodes t n) (encodeAll encodeNode) (λ p. (length p ≡ n) × Each (FitNode t) p)
+unfolding nodes
+nodes-exact t n = listed-exact (known-exact n) (node-exact t)
+
+module _ (c : Claim) where
+  -- node count, roots and nodes as they are read
+  abbrev Counted : ℕ × (List ℕ × Proof) → Type 0
+  Counted w =
+      (TwoBytes (w .0) × Counts 1024 (w .0))
+      × (FitRoots (c .form) (length (c .goals)) (w .0) (w .1 .0) × ((length (w .1 .1) ≡ w .0) × Each (FitNode (c .entries)) (w .1 .1)))
+
+  pub body-exact : Exact (body c) (encodeBody (c .form)) (FitProof c)
+  unfolding body
+  body-exact =
+      via-exact
+      (seq-exact count-exact (λ n h. seq-exact (roots-exact (c .form) (length (c .goals)) n (h .1 .1)) (λ _ _. nodes-exact (c .entries) n)))
+      derivationOf
+      (λ d. (length (d .nodes), (d .roots, d .nodes)))
+      (λ d k. (((omega (arith, k .nodes .count), k .nodes .count), (k .roots, (refl, k .nodes .each))), refl, refl))
+      from
+    where
+      from : (w : ℕ × (List ℕ × Proof)) → Counted w
+          → FitProof c (derivationOf w) × (encodeTwo (w .0) ++ (encodeRoots (c .form) (w .1 .0) ++ encodeAll encodeNode (w .1 .1)) ≡ encodeBody (c .form) (derivationOf w))
+      from w (h, (k, (e, l))) = (
+        record { nodes = record { count = rw e (h .1); each = l }; roots = rw e k },
+        ap (λ (n : ℕ). encodeTwo n ++ (encodeRoots (c .form) (w .1 .0) ++ encodeAll encodeNode (w .1 .1))) (sym e),
+      )
 
 module _ {c : Claim} where
   -- a proof file is read, and decoded
   pub proof-good : {bytes : List ℕ} {d : Derivation} → ProofFile c bytes d → readProof c bytes ≡ good d
   unfolding readProof
-  proof-good f = File.file-good proofOpening 30 early (body (c .entries)) (body-exact c) f
+  proof-good f = File.file-good (proofOpening (c .form)) 30 early (body c) (body-exact c) f
 
   -- what is read is a proof file, of what was decoded
   pub good-proof : {bytes : List ℕ} {d : Derivation} → Bytes bytes → readProof c bytes ≡ good d → ProofFile c bytes d
   unfolding readProof
-  good-proof b h = File.good-file proofOpening 30 early (body (c .entries)) (body-exact c) b h
+  good-proof b h = File.good-file (proofOpening (c .form)) 30 early (body c) (body-exact c) b h
 
   pub proof-exact : {bytes : List ℕ} {d : Derivation} → Bytes bytes → ProofFile c bytes d ↔ (readProof c bytes ≡ good d)
   proof-exact b = (proof-good, good-proof b)
 
   -- one file, one decoding
   pub one-proof : {bytes : List ℕ} {d e : Derivation} → ProofFile c bytes d → ProofFile c bytes e → d ≡ e
-  one-proof f g = File.one-decoding proofOpening 30 early (body (c .entries)) (body-exact c) f g
+  one-proof f g = File.one-decoding (proofOpening (c .form)) 30 early (body c) (body-exact c) f g
 
   -- decoding what was encoded gives the records back
-  pub proof-decodes : {d : Derivation} → FitProof c d → readProof c (encodeProof d) ≡ good d
+  pub proof-decodes : {d : Derivation} → FitProof c d → readProof c (encodeProof (c .form) d) ≡ good d
   proof-decodes f = proof-good (record { encoded = refl; fits = f })
 
 -- encoding what was decoded gives the bytes back
-pub proof-encodes : (c : Claim) {bytes : List ℕ} {d : Derivation} → Bytes bytes → readProof c bytes ≡ good d → encodeProof d ≡ bytes
+pub proof-encodes : (c : Claim) {bytes : List ℕ} {d : Derivation} → Bytes bytes → readProof c bytes ≡ good d → encodeProof (c .form) d ≡ bytes
 proof-encodes c b h = sym (good-proof {c = c} b h .encoded)

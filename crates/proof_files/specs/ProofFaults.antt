@@ -1,169 +1,149 @@
 -- a proof file is refused with a number at a place just when its bytes earn that
 use mathlib.Core.Path.{_≡_, refl, sym, ap}
 use mathlib.Core.Logic.{_↔_, _⊎_, inl, inr}
-use mathlib.Core.List.{List, [], _++_, append-nil}
-use mathlib.Core.Bool.{true, false, false≢true}
-use Prim.Native.Nat.{ℕ, _+_, _≤_}
+use mathlib.Core.List.{List, append-nil}
+use mathlib.Core.Bool.{false}
+use Prim.Native.Nat.{ℕ, _<_, _≤_}
 use native.Mathlib.Omega.{arith}
+use lib.ListN.{length}
+use Rattle.verdict.specs.Lists.{Each, Rising}
 use Rattle.verdict.specs.Tells.{fails}
-use Rattle.formula.specs.Rule
 use Rattle.formula.specs.Table.{Table}
-use Rattle.formula.specs.Codes.{Formula, entryOf}
 use Rattle.formula.specs.Nodes.{Proof}
-use Rattle.formula.specs.Claim.{Claim, Derivation}
-use Rattle.bits.specs.IfSet.{ifSet}
-use Rattle.formula.specs.Fields.{hasPrincipal, hasFirst, hasSecond, hasBack}
-use Rattle.encoding.specs.Encode.{Bytes, OneByte, TwoBytes, PairOfBytes, encodeByte, encodePair, encodeTwo, encodeAll, Counts}
-use Rattle.encoding.specs.Stages.{Stages, raw, tested, present, followed, listing, climbing}
-use Rattle.encoding.specs.ParseLaws.{byte-exact, bytes-exact, two-exact}
-use Rattle.encoding.specs.ListLaws.{count-exact}
-use Rattle.encoding.specs.Widths.{Takes, seq-takes, byte-takes, bytes-take, two-takes}
-use Rattle.encoding.specs.FaultLaws.{Refuses, Stands, renames-each, refuses-as, raw-refuses, via-refuses, part-refuses, seq-refuses, tested-refuses}
-use Rattle.encoding.specs.ListFaults.{count-refuses, listed-refuses, rising-refuses}
+use Rattle.formula.specs.Claim.{Form, clm1, clm2, formNumber, Claim, Derivation}
+use Rattle.encoding.specs.Encode.{Bytes, TwoBytes, encodeTwo, encodeAll, Counts}
+use Rattle.encoding.specs.Stages.{Stages, raw, tested, after, followed, climbing}
+use Rattle.encoding.specs.ChainLaws.{each-as, chain-each, each-chain}
+use Rattle.encoding.specs.ParseLaws.{two-exact}
+use Rattle.encoding.specs.Widths.{two-takes}
+use Rattle.encoding.specs.FaultLaws.{Refuses, Stands, CutIn, WrongIn, renames-each, refuses-as, via-refuses, seq-refuses}
+use Rattle.encoding.specs.ListFaults.{count-refuses, times-refuses, rising-refuses}
 use Rattle.encoding.specs.File.{refused, no-opening}
 use Rattle.encoding.specs.FileLaws as File
 use Rattle.encoding.specs.Opening.{opens, opens-tells}
-use Rattle.formula.specs.Members.{formula-tells}
-use Rattle.encoding.specs.FieldLaws.{field-takes}
-use Rattle.proof_files.specs.ProofFile.{proofOpening, encodeRule, encodeLinks, encodeNode, FitRule, FitLinks, FitNode, ProofFile}
-use Rattle.proof_files.specs.ReadProof.{early, ruleOf, fields, sequent, made, node, nodes, derivationOf, body, readProof}
-use Rattle.proof_files.specs.ProofExact.{rule-tells, rule-exact, fields-exact, node-exact, body-exact}
-use Rattle.proof_files.specs.ProofDocument.{at-node-count, at-node, at-fields, at-code-count, at-code, SomeNodes, proofStages, ProofEarns}
+use Rattle.encoding.specs.Known.{nothing, known-exact, known-refuses}
+use Rattle.proof_files.specs.ProofFile.{proofOpening, encodeNode, encodeRoots, FitNode, FitRoots, ProofFile}
+use Rattle.proof_files.specs.ReadProof.{early, roots, nodes, derivationOf, body, readProof}
+use Rattle.proof_files.specs.ProofExact.{node-exact, count-exact, node-tells, roots-exact, body-exact}
+use Rattle.proof_files.specs.ProofDocument.{nodeStages, SomeRoots, rootStages, at-node-count, at-root, at-node, proofStages, ProofEarns}
+use Rattle.proof_files.specs.NodeFaults.{node-refuses}
 
 -- the stages as the parsers are joined
-abbrev CodesParts : Table → Stages
-CodesParts t = climbing encodeByte (λ n. OneByte n × Counts 24 n) (tested 1 encodeByte OneByte (Counts 24) 32) 2 encodeTwo TwoBytes (λ c. Formula t (entryOf c)) 34
+abbrev RootParts : ℕ → ℕ → Stages
+RootParts g n = climbing nothing (λ k. k ≡ g) (raw 0) 2 encodeTwo TwoBytes (λ r. r < n) 34
 
-abbrev LinksPart : ℕ → Stages
-LinksPart r = raw (ifSet (hasPrincipal r) 2 + (ifSet (hasFirst r) 2 + (ifSet (hasSecond r) 2 + ifSet (hasBack r) 2)))
+module _ (g n : ℕ) where
+  before : {k : ℕ} {rs : List ℕ} → k ≡ g → (length rs < k) × Rising rs × Each (λ (r : ℕ). TwoBytes r × (r < n)) rs → SomeRoots clm2 g n rs
+  before e (i, u, a) = record { several = refl; fewer = rw (← e) i; rising = u; each = each-as (λ r h. h .1) a }
 
-abbrev NodeParts : Table → Stages
-NodeParts t =
-    followed encodeRule (λ h. h .0 ≤ Rule.BACK) (tested 2 encodePair PairOfBytes FitRule 33)
-    (λ h. followed (encodeLinks (h .0)) (FitLinks (h .0)) (LinksPart (h .0)) (λ _. present (h .1) (CodesParts t)))
+  -- the count of the roots is known, and cannot stop the reading
+  parts-cut : (σ : RootParts g n .Stage) (t : List ℕ) → RootParts g n .Reached σ → length t < RootParts g n .width σ → CutIn (rootStages clm2 g n) (RootParts g n .done σ) t
+  parts-cut (inl σ) t r l = absurd (omega arith)
+  parts-cut (inr (k, (rs, σ))) t (e, (h, z)) l = (rs, before e h, sym (append-nil (encodeAll encodeTwo rs)), l)
 
-abbrev Parts : Table → Stages
-Parts t = listing encodeTwo (λ n. TwoBytes n × Counts 1024 n) (tested 2 encodeTwo TwoBytes (Counts 1024) 32) encodeNode (FitNode t) (NodeParts t)
+  parts-wrong : (σ : RootParts g n .Stage) (w : List ℕ) (m : ℕ) → RootParts g n .Reached σ → RootParts g n .Wrong σ w m → WrongIn (rootStages clm2 g n) (RootParts g n .done σ) w m
+  parts-wrong (inl σ) w m r u = absurd u
+  parts-wrong (inr (k, (rs, σ))) w m (e, (h, z)) u = (rs, before e h, sym (append-nil (encodeAll encodeTwo rs)), u)
 
-sequent-refuses : (t : Table) → Refuses early (sequent t) (CodesParts t)
-unfolding sequent
-sequent-refuses t =
-    rising-refuses (count-exact 24 32 (byte-exact early)) (count-refuses 24 32 (byte-takes early) (byte-exact early)) (two-exact early) (two-takes early)
-    (λ c. formula-tells t (entryOf c)) 34
+  -- of so few nodes every number is one of two bytes
+  stages-parts : n ≤ 1024 → Stands (rootStages clm2 g n) (RootParts g n)
+  stages-parts few rs r = record {
+    stage = inr (g, (rs, tt));
+    reached = (refl, ((r .fewer, r .rising, each-as (λ x h. (omega arith, h)) (r .each)), tt));
+    same = append-nil (encodeAll encodeTwo rs);
+    wide = refl;
+    wrongs = λ w m u. u;
+  }
 
-pub fields-take : (r : ℕ) → Takes early (fields r) (ifSet (hasPrincipal r) 2 + (ifSet (hasFirst r) 2 + (ifSet (hasSecond r) 2 + ifSet (hasBack r) 2)))
-fields-take r =
-    seq-takes (field-takes early (hasPrincipal r))
-    (λ _. seq-takes (field-takes early (hasFirst r)) (λ _. seq-takes (field-takes early (hasSecond r)) (λ _. field-takes early (hasBack r))))
+-- PRF1 writes no roots
+unwritten : {g n : ℕ} {rs : List ℕ} → SomeRoots clm1 g n rs → ⊥
+unwritten r = let z : _≡_ {A = ℕ} 1 2 = ap formNumber (r .several) in omega arith
 
-node-refuses : (t : Table) → Refuses early (node t) (NodeParts t)
-unfolding node
-node-refuses t =
-    via-refuses
-    (seq-refuses (via-refuses (tested-refuses (bytes-take early) (bytes-exact early) 33 rule-tells) ruleOf) rule-exact
-    (λ h _. seq-refuses (raw-refuses (fields-take (h .0))) (fields-exact (h .0)) (λ _ _. part-refuses [] (sequent-refuses t) (h .1))))
-    made
+roots-refuse : (f : Form) (g n : ℕ) → n ≤ 1024 → Refuses early (roots f g n) (rootStages f g n)
+unfolding roots
+roots-refuse clm1 g n few =
+    refuses-as
+    (record { cut = λ σ t r l. absurd (omega arith); wrong = λ σ w m r u. absurd u })
+    (renames-each (λ rs r. absurd (unwritten r)))
+    (known-refuses early _)
+roots-refuse clm2 g n few =
+    refuses-as (record { cut = parts-cut g n; wrong = parts-wrong g n }) (renames-each (stages-parts g n few))
+    (rising-refuses (known-exact g) (known-refuses early g) (two-exact early) (two-takes early) (node-tells n) 34)
 
-parts-refuse : (t : Table) → Refuses early (nodes t) (Parts t)
+-- nodes that do not look at each other
+abbrev NodesParts : Table → ℕ → Stages
+NodesParts t n = after (encodeAll encodeNode) (λ (p : Proof). (length p < n) × Each (FitNode t) p) (λ _. nodeStages t)
+
+nodes-refuse : (t : Table) (n : ℕ) → Refuses early (nodes t n) (NodesParts t n)
 unfolding nodes
-parts-refuse t = listed-refuses (count-exact 1024 32 (two-exact early)) (count-refuses 1024 32 (two-takes early) (two-exact early)) (node-exact t) (node-refuses t)
+nodes-refuse t n =
+    refuses-as
+    (renames-each (λ (p, σ) ((i, h), r). record { stage = (p, σ); reached = ((i, chain-each h), r); same = refl; wide = refl; wrongs = λ w m u. u }))
+    (renames-each (λ (p, σ) ((i, h), r). record { stage = (p, σ); reached = ((i, each-chain h), r); same = refl; wide = refl; wrongs = λ w m u. u }))
+    (times-refuses (λ _. node-exact t) (λ _. node-refuses t) n 0)
 
-module _ (t : Table) where
-  -- each part is a stage in document 01's words
-  parts-stages : Stands (Parts t) (proofStages t)
-  parts-stages (inl σ) r = record { stage = at-node-count; reached = tt; same = refl; wide = refl; wrongs = λ w n u. u }
-  parts-stages (inr (n, (p, inl σ))) (c, ((i, h), r)) = record {
-    stage = at-node n p;
-    reached = record { count = c .1; fewer = i; each = h };
-    same = ap (λ (s : List ℕ). encodeTwo n ++ s) (sym (append-nil (encodeAll encodeNode p)));
-    wide = refl;
-    wrongs = λ w n u. u;
-  }
-  parts-stages (inr (n, (p, inr ((r, b), inl σ)))) (c, ((i, h), (k, z))) = record {
-    stage = at-fields n p r b;
-    reached = (record { count = c .1; fewer = i; each = h }, k);
+module _ (c : Claim) where
+  abbrev Parts : Stages
+  Parts =
+      followed encodeTwo (λ n. TwoBytes n × Counts 1024 n) (tested 2 encodeTwo TwoBytes (Counts 1024) 32)
+      (λ n. followed (encodeRoots (c .form)) (FitRoots (c .form) (length (c .goals)) n) (rootStages (c .form) (length (c .goals)) n) (λ _. NodesParts (c .entries) n))
+
+  -- each part is a stage in the documents' words
+  parts-proof : Stands Parts (proofStages c)
+  parts-proof (inl σ) r = record { stage = at-node-count; reached = tt; same = refl; wide = refl; wrongs = λ w m u. u }
+  parts-proof (inr (n, inl rs)) (k, r) = record { stage = at-root n rs; reached = (k .1, r); same = refl; wide = refl; wrongs = λ w m u. u }
+  parts-proof (inr (n, inr (rs, (p, σ)))) (k, (h, ((i, a), r))) = record {
+    stage = at-node n rs p σ;
+    reached = (record { count = k .1; roots = h; fewer = i; each = a }, r);
     same = refl;
     wide = refl;
-    wrongs = λ w n u. u;
-  }
-  parts-stages (inr (n, (p, inr ((r, false), inr (v, σ))))) (c, ((i, h), (k, (f, (e, z))))) = absurd (false≢true e)
-  parts-stages (inr (n, (p, inr ((r, true), inr (v, inl σ))))) (c, ((i, h), (k, (f, (e, z))))) = record {
-    stage = at-code-count n p r v;
-    reached = (record { count = c .1; fewer = i; each = h }, k, f);
-    same = ap (λ (s : List ℕ). encodeTwo n ++ (encodeAll encodeNode p ++ (encodeRule (r, true) ++ s))) (sym (append-nil (encodeLinks r v)));
-    wide = refl;
-    wrongs = λ w n u. u;
-  }
-  parts-stages (inr (n, (p, inr ((r, true), inr (v, inr (m, (cs, σ))))))) (c, ((i, h), (k, (f, (e, (d, ((j, u, a), z))))))) = record {
-    stage = at-code n p r v m cs;
-    reached = (record { count = c .1; fewer = i; each = h }, k, f, record { count = d .1; fewer = j; rising = u; each = a });
-    same = ap (λ (s : List ℕ). encodeTwo n ++ (encodeAll encodeNode p ++ (encodeRule (r, true) ++ (encodeLinks r v ++ (encodeByte m ++ s))))) (sym (append-nil (encodeAll encodeTwo cs)));
-    wide = refl;
-    wrongs = λ w n u. u;
+    wrongs = λ w m u. u;
   }
 
-  some-nodes : {n : ℕ} {p : Proof} → SomeNodes t n p → TwoBytes n × Counts 1024 n
-  some-nodes r = (omega (arith, r .count), r .count)
-
-  stages-parts : Stands (proofStages t) (Parts t)
-  stages-parts at-node-count r = record { stage = inl tt; reached = tt; same = refl; wide = refl; wrongs = λ w n u. u }
-  stages-parts (at-node n p) r = record {
-    stage = inr (n, (p, inl tt));
-    reached = (some-nodes r, ((r .fewer, r .each), tt));
-    same = ap (λ (s : List ℕ). encodeTwo n ++ s) (append-nil (encodeAll encodeNode p));
-    wide = refl;
-    wrongs = λ w n u. u;
-  }
-  stages-parts (at-fields n p r b) (h, k) = record {
-    stage = inr (n, (p, inr ((r, b), inl tt)));
-    reached = (some-nodes h, ((h .fewer, h .each), (k, tt)));
+  proof-parts : Stands (proofStages c) Parts
+  proof-parts at-node-count r = record { stage = inl tt; reached = tt; same = refl; wide = refl; wrongs = λ w m u. u }
+  proof-parts (at-root n rs) (k, r) = record { stage = inr (n, inl rs); reached = ((omega arith, k), r); same = refl; wide = refl; wrongs = λ w m u. u }
+  proof-parts (at-node n rs p σ) (s, r) = record {
+    stage = inr (n, inr (rs, (p, σ)));
+    reached = ((omega (arith, s .count), s .count), (s .roots, ((s .fewer, s .each), r)));
     same = refl;
     wide = refl;
-    wrongs = λ w n u. u;
-  }
-  stages-parts (at-code-count n p r v) (h, k, f) = record {
-    stage = inr (n, (p, inr ((r, true), inr (v, inl tt))));
-    reached = (some-nodes h, ((h .fewer, h .each), (k, (f, (refl, tt)))));
-    same = ap (λ (s : List ℕ). encodeTwo n ++ (encodeAll encodeNode p ++ (encodeRule (r, true) ++ s))) (append-nil (encodeLinks r v));
-    wide = refl;
-    wrongs = λ w n u. u;
-  }
-  stages-parts (at-code n p r v m cs) (h, k, f, c) = record {
-    stage = inr (n, (p, inr ((r, true), inr (v, inr (m, (cs, tt))))));
-    reached = (some-nodes h, ((h .fewer, h .each), (k, (f, (refl, ((omega (arith, c .count), c .count), ((c .fewer, c .rising, c .each), tt)))))));
-    same = ap (λ (s : List ℕ). encodeTwo n ++ (encodeAll encodeNode p ++ (encodeRule (r, true) ++ (encodeLinks r v ++ (encodeByte m ++ s))))) (append-nil (encodeAll encodeTwo cs));
-    wide = refl;
-    wrongs = λ w n u. u;
+    wrongs = λ w m u. u;
   }
 
-pub body-refuses : (t : Table) → Refuses early (body t) (proofStages t)
-unfolding body
-body-refuses t = via-refuses (refuses-as (renames-each (parts-stages t)) (renames-each (stages-parts t)) (parts-refuse t)) derivationOf
+  pub body-refuses : Refuses early (body c) (proofStages c)
+  unfolding body
+  body-refuses =
+      via-refuses
+      (refuses-as (renames-each parts-proof) (renames-each proof-parts)
+      (seq-refuses (count-refuses 1024 32 (two-takes early) (two-exact early)) count-exact
+      (λ n k. seq-refuses (roots-refuse (c .form) (length (c .goals)) n (k .1 .1)) (roots-exact (c .form) (length (c .goals)) n (k .1 .1)) (λ _ _. nodes-refuse (c .entries) n))))
+      derivationOf
 
 module _ (c : Claim) where
   -- no number lies
   pub proof-earned : {bytes : List ℕ} {n q : ℕ} → Bytes bytes → readProof c bytes ≡ refused n q → ProofEarns c bytes n q
   unfolding readProof
-  proof-earned b h = File.refused-earned proofOpening 30 early (body (c .entries)) (body-exact c) (body-refuses (c .entries)) b h
+  proof-earned b h = File.refused-earned (proofOpening (c .form)) 30 early (body c) (body-exact c) (body-refuses c) b h
 
   -- and each is given where it is earned
   pub proof-refused : {bytes : List ℕ} {n q : ℕ} → ProofEarns c bytes n q → readProof c bytes ≡ refused n q
   unfolding readProof
-  proof-refused e = File.earned-refused proofOpening 30 early (body (c .entries)) (body-exact c) (body-refuses (c .entries)) e
+  proof-refused e = File.earned-refused (proofOpening (c .form)) 30 early (body c) (body-exact c) (body-refuses c) e
 
-  -- exactly what document 01 says is refused, with its number and place
+  -- exactly what the documents say is refused, with its number and place
   pub proof-refusal : {bytes : List ℕ} {n q : ℕ} → Bytes bytes → (readProof c bytes ≡ refused n q) ↔ ProofEarns c bytes n q
   proof-refusal b = (proof-earned b, proof-refused)
 
   pub one-proof-refusal : {bytes : List ℕ} {n q m r : ℕ} → ProofEarns c bytes n q → ProofEarns c bytes m r → (n ≡ m) × (q ≡ r)
-  one-proof-refusal f g = File.one-refusal proofOpening 30 early (body (c .entries)) (body-exact c) (body-refuses (c .entries)) f g
+  one-proof-refusal f g = File.one-refusal (proofOpening (c .form)) 30 early (body c) (body-exact c) (body-refuses c) f g
 
   pub proof-or-refusal : (bytes : List ℕ) → Bytes bytes → ((d : Derivation) × ProofFile c bytes d) ⊎ ((n : ℕ) × (q : ℕ) × ProofEarns c bytes n q)
-  proof-or-refusal bytes b = File.outcome proofOpening 30 early (body (c .entries)) (body-exact c) (body-refuses (c .entries)) bytes b
+  proof-or-refusal bytes b = File.outcome (proofOpening (c .form)) 30 early (body c) (body-exact c) (body-refuses c) bytes b
 
   pub proof-not-both : {bytes : List ℕ} {d : Derivation} {n q : ℕ} → ProofFile c bytes d → ProofEarns c bytes n q → ⊥
-  proof-not-both f g = File.not-both proofOpening 30 early (body (c .entries)) (body-exact c) (body-refuses (c .entries)) f g
+  proof-not-both f g = File.not-both (proofOpening (c .form)) 30 early (body c) (body-exact c) (body-refuses c) f g
 
   -- the program's test of the opening decides refusal 30
-  pub proof-closed : (bytes : List ℕ) → opens proofOpening bytes ≡ false → readProof c bytes ≡ refused 30 0
-  proof-closed bytes h = proof-refused (no-opening (λ r e. fails (opens-tells proofOpening bytes) h (r, e)))
+  pub proof-closed : (bytes : List ℕ) → opens (proofOpening (c .form)) bytes ≡ false → readProof c bytes ≡ refused 30 0
+  proof-closed bytes h = proof-refused (no-opening (λ r e. fails (opens-tells (proofOpening (c .form)) bytes) h (r, e)))

@@ -1,24 +1,25 @@
--- proof files as document 01 writes them: the encoding, and which nodes a file may hold over a table of entries
+-- proof files as the documents write them: the encoding beside a claim of either form, and which roots and nodes a file may hold there
 use mathlib.Core.Path.{_≡_}
 use mathlib.Core.Logic.{_⊎_}
 use mathlib.Core.List.{List, [], _∷_, _++_}
 use mathlib.Core.Bool.{Bool, true, false}
-use Prim.Native.Nat.{ℕ, _+_, _≤_}
+use Prim.Native.Nat.{ℕ, _+_, _<_, _≤_}
 use lib.ListN.{length}
 use Rattle.verdict.specs.Lists.{Each, Rising}
 use Rattle.formula.specs.Rule
 use Rattle.formula.specs.Table.{Table}
 use Rattle.formula.specs.Codes.{Formula, entryOf}
 use Rattle.formula.specs.Nodes.{Node, Proof}
-use Rattle.formula.specs.Claim.{Claim, Derivation}
+use Rattle.formula.specs.Claim.{Form, clm1, clm2, Claim, Derivation}
 use Rattle.bits.specs.IfSet.{ifSet}
 use Rattle.formula.specs.Fields.{hasPrincipal, hasFirst, hasSecond, hasBack, lowMap}
-use Rattle.encoding.specs.Encode.{FitField, TwoBytes, encodeByte, encodeTwo, encodePart, encodeField, encodeCounted, Counts}
+use Rattle.encoding.specs.Encode.{FitField, TwoBytes, encodeByte, encodeTwo, encodePart, encodeField, encodeAll, encodeCounted, Counts}
 use Rattle.encoding.specs.File.{Encodes}
 
--- the letters PRF1
-abbrev pub proofOpening : List ℕ
-proofOpening = 80 ∷ 82 ∷ 70 ∷ 49 ∷ []
+-- the letters PRF1 beside a claim for one goal, PRF2 beside one for several
+abbrev pub proofOpening : Form → List ℕ
+proofOpening clm1 = 80 ∷ 82 ∷ 70 ∷ 49 ∷ []
+proofOpening clm2 = 80 ∷ 82 ∷ 70 ∷ 50 ∷ []
 
 -- a bit map byte, a rule byte: the low four bits by rule, bit 4 where codes follow
 abbrev pub encodeRule : ℕ × Bool → List ℕ
@@ -48,15 +49,17 @@ full (c ∷ cs) = true
 abbrev pub encodeNode : Node → List ℕ
 encodeNode v = encodeRule (v .rule, full (v .codes)) ++ (encodeLinks (v .rule) (links v) ++ encodePart (full (v .codes)) encodeCodes (v .codes))
 
--- two bytes node count, the nodes
-abbrev pub encodeNodes : Proof → List ℕ
-encodeNodes p = encodeCounted encodeTwo encodeNode p
+-- two bytes for each root; PRF1 does not write its only one
+abbrev pub encodeRoots : Form → List ℕ → List ℕ
+encodeRoots clm1 rs = []
+encodeRoots clm2 rs = encodeAll encodeTwo rs
 
-abbrev pub encodeBody : Derivation → List ℕ
-encodeBody d = encodeNodes (d .nodes)
+-- two bytes node count, the roots, the nodes
+abbrev pub encodeBody : Form → Derivation → List ℕ
+encodeBody f d = encodeTwo (length (d .nodes)) ++ (encodeRoots f (d .roots) ++ encodeAll encodeNode (d .nodes))
 
-abbrev pub encodeProof : Derivation → List ℕ
-encodeProof d = proofOpening ++ encodeBody d
+abbrev pub encodeProof : Form → Derivation → List ℕ
+encodeProof f d = proofOpening f ++ encodeBody f d
 
 -- a map, and a rule that it fits; bits 5 to 7 are zero
 abbrev pub FitRule : ℕ × ℕ → Type 0
@@ -87,9 +90,23 @@ pub record FitNodes (t : Table) (p : Proof) : Type 0 where
   pub count : Counts 1024 (length p)
   pub each : Each (FitNode t) p
 
+-- the roots of n nodes that prove g goals
+pub record Rooted (g n : ℕ) (rs : List ℕ) : Type 0 where
+  -- as many root numbers as goals, strictly rising
+  pub as-many : length rs ≡ g
+  pub rising : Rising rs
+  -- each is a node
+  pub each : Each (λ (r : ℕ). r < n) rs
+
+-- in PRF1 the root is node 0
+abbrev pub FitRoots : Form → ℕ → ℕ → List ℕ → Type 0
+FitRoots clm1 g n rs = rs ≡ 0 ∷ []
+FitRoots clm2 g n rs = Rooted g n rs
+
 pub record FitProof (c : Claim) (d : Derivation) : Type 0 where
   pub nodes : FitNodes (c .entries) (d .nodes)
+  pub roots : FitRoots (c .form) (length (c .goals)) (length (d .nodes)) (d .roots)
 
--- the bytes are a proof file with these nodes, over this claim's table
+-- the bytes are a proof file with these roots and nodes, beside this claim
 abbrev pub ProofFile : Claim → List ℕ → Derivation → Type 0
-ProofFile c bytes d = Encodes proofOpening encodeBody (FitProof c) bytes d
+ProofFile c bytes d = Encodes (proofOpening (c .form)) (encodeBody (c .form)) (FitProof c) bytes d

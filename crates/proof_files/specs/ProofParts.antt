@@ -2,46 +2,54 @@
 use mathlib.Core.List.{List, []}
 use mathlib.Core.Bool.{Bool, true, false}
 use Prim.Native.Nat.{ℕ, suc, _+_}
-use lib.ListN.{drop}
+use lib.ListN.{drop, replicate}
 use Rattle.formula.specs.Table.{Table}
 use Rattle.formula.specs.Nodes.{Proof}
-use Rattle.formula.specs.Claim.{Claim}
+use Rattle.formula.specs.Claim.{Form, Claim}
 use Rattle.bits.specs.IfSet.{ifSet}
 use Rattle.formula.specs.Fields.{hasPrincipal, hasFirst, hasSecond, hasBack}
 use Rattle.formula.specs.Plain.{tableOf}
 use Rattle.encoding.specs.Parse.{Got, Parser, seq, guard, two, times, fits-from}
 use Rattle.encoding.specs.Places.{wordAt}
 use Rattle.proof_files.specs.ProofFile.{Links}
-use Rattle.proof_files.specs.ReadProof.{early, ruleByte, fields, isCode, node}
+use Rattle.proof_files.specs.ReadProof.{early, ruleByte, fields, isCode, node, roots}
 
 -- a table of which only the kinds are known
 abbrev pub kindTable : List ℕ → ℕ → Table
 kindTable ks n = tableOf ks [] [] n
 
--- all of a claim that the reading of a proof looks at
-abbrev pub kindClaim : List ℕ → ℕ → Claim
-kindClaim ks n = record { entries = kindTable ks n; members = [] }
+-- all of a claim that the reading of a proof looks at: its form, the kinds of its n entries, the number k of its goals
+abbrev pub kindClaim : Form → List ℕ → ℕ → ℕ → Claim
+kindClaim f ks n k = record { form = f; entries = kindTable ks n; goals = replicate k [] }
 
 -- map, rule and fields
 abbrev pub heading : Parser ((ℕ × Bool) × Links)
 heading s at = seq ruleByte (λ h. fields (h .0)) s at
 
--- a code that is at least c, its entry in range and no name
-abbrev pub oneCode : Table → ℕ → Parser ℕ
-oneCode t c s at = guard (fits-from (isCode t) c) 34 (two early) s at
+-- a number that is at least c and passes a test
+abbrev pub numberFrom : (ℕ → Bool) → ℕ → Parser ℕ
+numberFrom ok c s at = guard (fits-from ok c) 34 (two early) s at
 
-abbrev pub afterCode : ℕ → ℕ → ℕ
-afterCode c x = suc x
+abbrev pub afterNumber : ℕ → ℕ → ℕ
+afterNumber c x = suc x
 
--- n codes from a place of the file on
-unfoldable pub codesOf : Table → ℕ → List ℕ → ℕ → Got (List ℕ)
+-- n numbers from a place of the file on, strictly rising
+unfoldable pub numbersOf : (ℕ → Bool) → ℕ → List ℕ → ℕ → Got (List ℕ)
 unfolding times
-codesOf t n s at = times (oneCode t) afterCode n 0 (drop at s) at
+numbersOf ok n s at = times (numberFrom ok) afterNumber n 0 (drop at s) at
 
--- n nodes after the opening and the node count
-unfoldable pub nodesOf : Table → ℕ → List ℕ → Got Proof
+-- n codes: the entry of each in range and no name
+abbrev pub codesOf : Table → ℕ → List ℕ → ℕ → Got (List ℕ)
+codesOf t n s at = numbersOf (isCode t) n s at
+
+-- the roots of g goals among n nodes, after the opening and the node count
+abbrev pub rootsOf : Form → ℕ → ℕ → List ℕ → Got (List ℕ)
+rootsOf f g n s = roots f g n (drop 6 s) 6
+
+-- n nodes from a place of the file on
+unfoldable pub nodesOf : Table → ℕ → List ℕ → ℕ → Got Proof
 unfolding times
-nodesOf t n s = times (λ _. node t) (λ _ _. 0) n 0 (drop 6 s) 6
+nodesOf t n s at = times (λ _. node t) (λ _ _. 0) n 0 (drop at s) at
 
 -- a field at a place: 0 where it does not stand
 abbrev pub fieldAt : Bool → List ℕ → ℕ → ℕ

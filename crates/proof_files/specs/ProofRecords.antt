@@ -1,17 +1,26 @@
 -- what callers may rely on in the records of a proof file
-use mathlib.Core.Path.{refl}
+use mathlib.Core.Path.{_≡_, refl, sym}
 use mathlib.Core.List.{List, [], List·Memᴰ}
 use Prim.Native.Nat.{ℕ, _≤_}
 use native.Mathlib.Omega.{arith}
 use lib.ListN.{length}
-use Rattle.verdict.specs.Lists.{none, Rising}
+use Rattle.verdict.specs.Lists.{none, more, Rising}
 use Rattle.verdict.specs.EachLaws.{each-at, each-member}
 use Rattle.formula.specs.Rule
 use Rattle.formula.specs.Codes.{Formula, entryOf}
 use Rattle.formula.specs.Nodes.{node}
-use Rattle.formula.specs.Claim.{Claim, Derivation}
+use Rattle.formula.specs.Claim.{Form, clm1, clm2, Claim, Derivation}
 use Rattle.encoding.specs.Encode.{Counts}
-use Rattle.proof_files.specs.ProofFile.{FitNode, ProofFile}
+use Rattle.proof_files.specs.ProofFile.{FitNode, Rooted, FitRoots, FitProof, ProofFile}
+
+-- the root of PRF1 is that of one goal
+one-root : (f : Form) {g n : ℕ} {rs : List ℕ} → (f ≡ clm1 → g ≡ 1) → 1 ≤ n → FitRoots f g n rs → Rooted g n rs
+one-root clm1 one some e = rw e (record { as-many = sym (one refl); rising = λ i h. absurd (omega arith); each = more {x = 0} some none })
+one-root clm2 one some r = r
+
+-- each goal has its root, and each root is a node; a claim of the form for one goal has one
+pub rooted : {c : Claim} {d : Derivation} → (c .form ≡ clm1 → length (c .goals) ≡ 1) → FitProof c d → Rooted (length (c .goals)) (length (d .nodes)) (d .roots)
+rooted {c} one f = one-root (c .form) one (f .nodes .count .0) (f .roots)
 
 module _ {c : Claim} {bytes : List ℕ} {d : Derivation} (f : ProofFile c bytes d) where
   pub node-count : Counts 1024 (length (d .nodes))

@@ -1,16 +1,18 @@
--- the proof by bytes, over a table: the first fault in the order of the bytes (30 to 34), or the decoding
-use mathlib.Core.List.{List, []}
+-- the proof by bytes, beside a claim: the first fault in the order of the bytes (30 to 34), or the decoding
+use mathlib.Core.List.{List, [], _∷_}
 use mathlib.Core.Bool.{Bool, _&&_, _||_}
 use Prim.Native.Nat.{ℕ, _+_}
-use lib.Dec.{eqb, leb}
+use lib.Dec.{eqb, ltb, leb}
+use lib.ListN.{length}
 use Rattle.formula.specs.Rule
 use Rattle.formula.specs.Table.{Table}
 use Rattle.formula.specs.Codes.{entryOf}
 use Rattle.formula.specs.Nodes.{Node, Proof}
-use Rattle.formula.specs.Claim.{Claim, Derivation}
+use Rattle.formula.specs.Claim.{Form, clm1, clm2, Claim, Derivation}
 use Rattle.formula.specs.Fields.{hasPrincipal, hasFirst, hasSecond, hasBack, lowMap}
 use Rattle.encoding.specs.Parse.{Parser, seq, guard, via, part, byte, bytes, two, field, count, times, listed, rising}
 use Rattle.encoding.specs.File.{Reading, readFile}
+use Rattle.encoding.specs.Known.{known}
 use Rattle.formula.specs.Members.{isFormula}
 use Rattle.proof_files.specs.ProofFile.{proofOpening, Links}
 
@@ -50,17 +52,33 @@ unfoldable pub node : Table → Parser Node
 unfolding sequent
 node t s at = via made (seq ruleByte (λ h. seq (fields (h .0)) (λ _. part [] (h .1) (sequent t)))) s at
 
-unfoldable pub nodes : Table → Parser Proof
+-- two bytes, 1 to 1,024
+abbrev pub nodeCount : Parser ℕ
+nodeCount s at = count 1024 32 (two early) s at
+
+-- a number of one of n nodes
+abbrev pub isNode : ℕ → ℕ → Bool
+isNode n r = ltb r n
+
+-- the roots of g goals among n nodes
+unfoldable pub roots : Form → ℕ → ℕ → Parser (List ℕ)
+unfolding times
+roots clm1 g n s at = known (0 ∷ []) s at
+roots clm2 g n s at = rising (known g) (isNode n) 34 (two early) s at
+
+-- n nodes
+unfoldable pub nodes : Table → ℕ → Parser Proof
 unfolding times node
-nodes t s at = listed (count 1024 32 (two early)) (node t) s at
+nodes t n s at = listed (known n) (node t) s at
 
-abbrev pub derivationOf : Proof → Derivation
-derivationOf p = record { nodes = p }
+-- node count, roots, nodes
+abbrev pub derivationOf : ℕ × (List ℕ × Proof) → Derivation
+derivationOf w = record { roots = w .1 .0; nodes = w .1 .1 }
 
-unfoldable pub body : Table → Parser Derivation
-unfolding nodes
-body t s at = via derivationOf (nodes t) s at
+unfoldable pub body : Claim → Parser Derivation
+unfolding roots nodes
+body c s at = via derivationOf (seq nodeCount (λ n. seq (roots (c .form) (length (c .goals)) n) (λ _. nodes (c .entries) n))) s at
 
 unfoldable pub readProof : Claim → List ℕ → Reading Derivation
 unfolding readFile body
-readProof c s = readFile proofOpening 30 early (body (c .entries)) s
+readProof c s = readFile (proofOpening (c .form)) 30 early (body c) s

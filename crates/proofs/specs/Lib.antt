@@ -1,3 +1,4 @@
+pub mod NamedForm
 pub mod ProofHead
 pub mod ProofLaws
 pub mod ProofSteps

@@ -13,7 +13,7 @@ use Rattle.encoding.specs.Places.{bytes-at, bytes-end, two-at}
 use Rattle.encoding.specs.Walk.{guard-passes, guard-fails, guard-cut}
 use Rattle.proof_files.specs.ProofFile.{Links}
 use Rattle.proof_files.specs.ReadProof.{early, rule-fits, ruleOf, fields}
-use Rattle.proof_files.specs.ProofFaults.{fields-take}
+use Rattle.proof_files.specs.NodeFaults.{fields-take}
 use Rattle.proof_files.specs.ProofParts.{heading, fieldAt, firstPlace, secondPlace, backPlace, linksAt}
 
 -- a field that fits into the file, whether it stands or not

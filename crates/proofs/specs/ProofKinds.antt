@@ -1,21 +1,22 @@
--- of the table the reading of a proof takes only the kinds
+-- of the table the reading of a proof takes only the kinds, of the goals only their number
 use mathlib.Core.Path.{_≡_, refl, sym, ap, _∙_, fun-ext}
 use mathlib.Core.List.{List, []}
 use mathlib.Core.Bool.{Bool, true, false}
 use Prim.Native.Nat.{ℕ, _<_}
 use native.Mathlib.Omega.{arith}
-use lib.ListN.{length, getD}
+use lib.ListN.{length, getD, length-replicate}
 use Rattle.verdict.specs.Tells.{fails, fails-holds}
 use Rattle.formula.specs.Table.{Table, kind}
 use Rattle.formula.specs.Codes.{Formula, entryOf}
 use Rattle.formula.specs.Nodes.{Node}
-use Rattle.formula.specs.Claim.{Claim}
+use Rattle.formula.specs.Claim.{Claim, Derivation}
 use Rattle.formula.specs.Plain.{tableOf-length, tableOf-kind}
 use Rattle.encoding.specs.Parse.{Parser, seq, via, part, byte, two, count, listed, rising}
-use Rattle.encoding.specs.File.{readFile}
+use Rattle.encoding.specs.File.{Reading, readFile}
+use Rattle.encoding.specs.Known.{known}
 use Rattle.formula.specs.Members.{isFormula, formula-tells}
 use Rattle.proof_files.specs.ProofFile.{proofOpening}
-use Rattle.proof_files.specs.ReadProof.{early, ruleByte, fields, isCode, sequent, made, node, nodes, derivationOf, body, readProof}
+use Rattle.proof_files.specs.ReadProof.{early, ruleByte, fields, isCode, sequent, made, node, nodeCount, roots, nodes, derivationOf, body, readProof}
 use Rattle.proof_files.specs.ProofParts.{kindTable, kindClaim}
 
 -- the kinds of a table's entries stand in a list
@@ -56,7 +57,12 @@ module _ {t : Table} {ks : List ℕ} {n : ℕ} (k : Kinds t ks n) where
   unfolding node
   node-same = ap {B = Parser Node} (λ (q : Parser (List ℕ)) (s : List ℕ) (at : ℕ). via made (seq ruleByte (λ h. seq (fields (h .0)) (λ _. part [] (h .1) q))) s at) sequent-same
 
-pub by-kinds : (c : Claim) {ks : List ℕ} {n : ℕ} → Kinds (c .entries) ks n → (s : List ℕ) → readProof c s ≡ readProof (kindClaim ks n) s
+-- and of the goals only their number
+pub by-kinds : (c : Claim) {ks : List ℕ} {n : ℕ} → Kinds (c .entries) ks n → (s : List ℕ) → readProof c s ≡ readProof (kindClaim (c .form) ks n (length (c .goals))) s
 unfolding readProof body nodes
-by-kinds c k s =
-    ap (λ (q : Parser Node). readFile proofOpening 30 early (λ s at. via derivationOf (λ s at. listed (count 1024 32 (two early)) q s at) s at) s) (node-same k)
+by-kinds c {ks} {n} k s =
+    ap (λ (q : Parser Node). by q (length (c .goals))) (node-same k) ∙ ap (by (node (kindTable ks n))) (sym (length-replicate (length (c .goals)) []))
+  where
+    -- by a reading of nodes and a number of goals
+    by : Parser Node → ℕ → Reading Derivation
+    by q g = readFile (proofOpening (c .form)) 30 early (λ s at. via derivationOf (seq nodeCount (λ n. seq (roots (c .form) g n) (λ _ s at. listed (known n) q s at))) s at) s

@@ -1,10 +1,10 @@
--- codes, sequents, nodes and the node count at a place of a file that is indexed
+-- codes, sequents, nodes and roots at a place of a file that is indexed
 use mathlib.Core.Path.{_≡_, refl, ap, _∙_}
 use mathlib.Core.List.{List, [], _∷_}
 use mathlib.Core.Bool.{Bool, true, false, not}
 use Prim.Native.Nat.{ℕ, suc, _+_, _*_, _-_, _<_, _≤_}
 use native.Mathlib.Omega.{arith}
-use borrow.Author.Tests.{eqb-true, eqb-false, le-leb}
+use borrow.Author.Tests.{eqb-true, eqb-false, le-leb, lt-leb}
 use lib.Dec.{eqb}
 use lib.ListN.{length, getD, drop}
 use Rattle.verdict.specs.Tells.{fails-holds}
@@ -12,14 +12,15 @@ use Rattle.formula.specs.Kind
 use Rattle.formula.specs.Table.{Table}
 use Rattle.formula.specs.Codes.{entryOf}
 use Rattle.formula.specs.Nodes.{Node}
+use Rattle.formula.specs.Claim.{clm1, clm2}
 use Rattle.formula.specs.Plain.{tableOf-length, tableOf-kind}
 use Rattle.encoding.specs.Parse.{Parser, Got, fault, got, bind, seq, via, guard, part, byte, two, times, in-range, fits-from}
 use Rattle.encoding.specs.Places.{wordAt, byte-at, byte-end, two-at, two-end}
 use Rattle.formula.specs.Members.{isFormula, formula-tells}
 use Rattle.encoding.specs.Walk.{guard-passes, guard-fails, guard-cut, counted-starts, counted-cut}
 use Rattle.proof_files.specs.ProofFile.{Links}
-use Rattle.proof_files.specs.ReadProof.{early, ruleByte, fields, isCode, sequent, made, node, nodes}
-use Rattle.proof_files.specs.ProofParts.{kindTable, heading, oneCode, afterCode, codesOf}
+use Rattle.proof_files.specs.ReadProof.{early, ruleByte, fields, isCode, isNode, sequent, made, node, roots}
+use Rattle.proof_files.specs.ProofParts.{kindTable, heading, numberFrom, afterNumber, numbersOf, codesOf, rootsOf}
 
 -- three parsers, the third in sight of the first alone: the first two may be taken together
 module _ {A B C D : Type 0} (q : A → Parser B) (k : A → Parser C) (f : A × (B × C) → D) where
@@ -97,21 +98,26 @@ module _ (ks : List ℕ) (n c : ℕ) where
   unfolding isFormula
   code-outside h = fails-holds (formula-tells (kindTable ks n) (entryOf c)) (λ f. omega (arith, f .inside, tableOf-length ks [] [] n))
 
-module _ (t : Table) (s : List ℕ) (at : ℕ) where
-  pub code-cut : (c : ℕ) → at ≤ length s → length s < at + 2 → oneCode t c (drop at s) at ≡ fault early (length s)
-  code-cut c h k = guard-cut (fits-from (isCode t) c) 34 (two early) (drop at s) at (two-end early s at h k)
+-- a code or a root: a number of two bytes that is to rise and to pass a test
+module _ (ok : ℕ → Bool) (s : List ℕ) (at : ℕ) where
+  pub number-cut : (c : ℕ) → at ≤ length s → length s < at + 2 → numberFrom ok c (drop at s) at ≡ fault early (length s)
+  number-cut c h k = guard-cut (fits-from ok c) 34 (two early) (drop at s) at (two-end early s at h k)
 
   module _ (c : ℕ) (inside : at + 1 < length s) where
-    pub code-unfit : fits-from (isCode t) c (wordAt s at) ≡ false → oneCode t c (drop at s) at ≡ fault 34 at
-    code-unfit k = guard-fails (fits-from (isCode t) c) 34 (two early) (drop at s) at (two-at early s at inside) k
+    pub number-unfit : fits-from ok c (wordAt s at) ≡ false → numberFrom ok c (drop at s) at ≡ fault 34 at
+    number-unfit k = guard-fails (fits-from ok c) 34 (two early) (drop at s) at (two-at early s at inside) k
 
-    pub code-fits : fits-from (isCode t) c (wordAt s at) ≡ true → oneCode t c (drop at s) at ≡ got (wordAt s at) (drop (at + 2) s) (at + 2)
-    code-fits k = guard-passes (fits-from (isCode t) c) 34 (two early) (drop at s) at (two-at early s at inside) k
+    pub number-fits : fits-from ok c (wordAt s at) ≡ true → numberFrom ok c (drop at s) at ≡ got (wordAt s at) (drop (at + 2) s) (at + 2)
+    number-fits k = guard-passes (fits-from ok c) 34 (two early) (drop at s) at (two-at early s at inside) k
+
+    -- it is not one above the number before it
+    pub number-low : wordAt s at < c → numberFrom ok c (drop at s) at ≡ fault 34 at
+    number-low h = number-unfit (rw (lt-leb c (wordAt s at) h) refl)
 
 -- of n codes those from the i-th on are read, in sight of any number up to the least
 pub record CodesFrom (t : Table) (s : List ℕ) (at n i least : ℕ) : Type 0 where
   pub codes : List ℕ
-  pub read : (c : ℕ) → c ≤ least → times (oneCode t) afterCode (n - i) c (drop (at + 2 * i) s) (at + 2 * i) ≡ got codes (drop (at + 2 * n) s) (at + 2 * n)
+  pub read : (c : ℕ) → c ≤ least → times (numberFrom (isCode t)) afterNumber (n - i) c (drop (at + 2 * i) s) (at + 2 * i) ≡ got codes (drop (at + 2 * n) s) (at + 2 * n)
 
 module _ (t : Table) (s : List ℕ) (at n : ℕ) where
   pub codes-none : (least : ℕ) → CodesFrom t s at n n least
@@ -127,12 +133,12 @@ module _ (t : Table) (s : List ℕ) (at n : ℕ) where
     read = λ c h.
         let e : n - (i - 1) ≡ suc (n - i) = omega arith in
         let o : at + 2 * (i - 1) + 2 ≡ at + 2 * i = omega arith in
-        let fits = rw (o, ← is) at (code-fits t s (at + 2 * (i - 1)) c (omega arith) (rw (← is, le-leb c x h, code) refl)) in
+        let fits = rw (o, ← is) at (number-fits (isCode t) s (at + 2 * (i - 1)) c (omega arith) (rw (← is, le-leb c x h, code) refl)) in
         rw (e, fits, from .read (suc x) (omega arith)) refl;
   }
 
   pub codes-all : {least : ℕ} → CodesFrom t s at n 0 least → (l : List ℕ) × (codesOf t n s at ≡ got l (drop (at + 2 * n) s) (at + 2 * n))
-  unfolding codesOf times
+  unfolding numbersOf times
   codes-all from =
       let e : n - 0 ≡ n = omega arith in
       let o : at + 2 * 0 ≡ at = omega arith in
@@ -141,36 +147,26 @@ module _ (t : Table) (s : List ℕ) (at n : ℕ) where
 module _ (t : Table) (s : List ℕ) (at : ℕ) where
   pub sequent-cut : at ≡ length s → sequent t (drop at s) at ≡ fault early (length s)
   unfolding sequent
-  sequent-cut h = counted-cut (oneCode t) afterCode (guard (in-range 24) 32 (byte early)) (drop at s) at (guard-cut (in-range 24) 32 (byte early) (drop at s) at (byte-end early s at h))
+  sequent-cut h = counted-cut (numberFrom (isCode t)) afterNumber (guard (in-range 24) 32 (byte early)) (drop at s) at (guard-cut (in-range 24) 32 (byte early) (drop at s) at (byte-end early s at h))
 
   module _ (inside : at < length s) where
     pub sequent-unfit : in-range 24 (getD s at 0) ≡ false → sequent t (drop at s) at ≡ fault 32 at
     unfolding sequent
     sequent-unfit k =
-        counted-cut (oneCode t) afterCode (guard (in-range 24) 32 (byte early)) (drop at s) at
+        counted-cut (numberFrom (isCode t)) afterNumber (guard (in-range 24) 32 (byte early)) (drop at s) at
         (guard-fails (in-range 24) 32 (byte early) (drop at s) at (byte-at early s at inside) k)
 
     pub sequent-codes : in-range 24 (getD s at 0) ≡ true → sequent t (drop at s) at ≡ codesOf t (getD s at 0) s (at + 1)
-    unfolding sequent codesOf
+    unfolding sequent numbersOf
     sequent-codes k =
-        counted-starts (oneCode t) afterCode (guard (in-range 24) 32 (byte early)) (drop at s) at
+        counted-starts (numberFrom (isCode t)) afterNumber (guard (in-range 24) 32 (byte early)) (drop at s) at
         (guard-passes (in-range 24) 32 (byte early) (drop at s) at (byte-at early s at inside) k)
 
-  pub nodes-cut : at ≤ length s → length s < at + 2 → nodes t (drop at s) at ≡ fault early (length s)
-  unfolding nodes
-  nodes-cut h k =
-      counted-cut (λ _. node t) (λ _ _. 0) (guard (in-range 1024) 32 (two early)) (drop at s) at
-      (guard-cut (in-range 1024) 32 (two early) (drop at s) at (two-end early s at h k))
+-- the roots of PRF1 are known, those of PRF2 are numbers of nodes
+pub roots-known : (g n : ℕ) (s : List ℕ) → rootsOf clm1 g n s ≡ got (0 ∷ []) (drop 6 s) 6
+unfolding roots
+roots-known g n s = refl
 
-  module _ (inside : at + 1 < length s) where
-    pub nodes-unfit : in-range 1024 (wordAt s at) ≡ false → nodes t (drop at s) at ≡ fault 32 at
-    unfolding nodes
-    nodes-unfit k =
-        counted-cut (λ _. node t) (λ _ _. 0) (guard (in-range 1024) 32 (two early)) (drop at s) at
-        (guard-fails (in-range 1024) 32 (two early) (drop at s) at (two-at early s at inside) k)
-
-    pub nodes-counted : in-range 1024 (wordAt s at) ≡ true → nodes t (drop at s) at ≡ times (λ _. node t) (λ _ _. 0) (wordAt s at) 0 (drop (at + 2) s) (at + 2)
-    unfolding nodes
-    nodes-counted k =
-        counted-starts (λ _. node t) (λ _ _. 0) (guard (in-range 1024) 32 (two early)) (drop at s) at
-        (guard-passes (in-range 1024) 32 (two early) (drop at s) at (two-at early s at inside) k)
+pub roots-written : (g n : ℕ) (s : List ℕ) → rootsOf clm2 g n s ≡ numbersOf (isNode n) g s 6
+unfolding roots numbersOf times
+roots-written g n s = refl

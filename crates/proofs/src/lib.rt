@@ -1,20 +1,25 @@
 // Proof files: the first fault in the order of the bytes, and the nodes of a file that has none.
-// Places fit two bytes: a node takes at most 57 bytes, so none begins after 6 + 57 × 1,024 = 58,374.
+// Places fit two bytes: at most 16 roots take two bytes each and a node at most 57, so none begins after 6 + 2 × 16 + 57 × 1,024 = 58,406.
 ghost use mathlib.Core.Path.{_≡_};
 ghost use mathlib.Core.Bool.{true};
 ghost use Prim.Native.Nat.{_+_, _*_, _≤_, _<_};
 ghost use lib.ListN.{length, drop};
 ghost use Rattle.verdict.specs.Shown.{shown};
+ghost use Rattle.formula.specs.Claim.{Form, formNumber};
+ghost use Rattle.encoding.specs.File.{ending};
 ghost use Rattle.encoding.specs.Opening.{opens};
 ghost use Rattle.encoding.specs.Outcome.{verdictOf};
 ghost use Rattle.proof_files.specs.ProofFile.{proofOpening};
-ghost use Rattle.proof_files.specs.ReadProof.{rule-fits, isCode, sequent, node, readProof};
-ghost use Rattle.proof_files.specs.ProofParts.{kindTable, kindClaim, codesOf, nodesOf};
+ghost use Rattle.proof_files.specs.ReadProof.{early, rule-fits, isCode, isNode, sequent, node, readProof};
+ghost use Rattle.proof_files.specs.ProofParts.{kindTable, kindClaim, numbersOf, codesOf, rootsOf, nodesOf};
+ghost use Rattle.proofs.specs.NamedForm.{namedForm};
 ghost use Rattle.proofs.specs.ProofSteps.{Finds, FindsHead};
 use encoding::opens;
 use encoding::word_at;
 use formula::Kind;
 use formula::Rule;
+use proof_files::AFTER_COUNT;
+use proof_files::GOALS_OPENING;
 use proof_files::PROOF_OPENING;
 use proof_files::ProofFault;
 use verdict::Verdict;
@@ -25,10 +30,19 @@ enum Step {
     Stop { number: u16, place: u16 },
 }
 
-// Whether the bytes open as a proof file does.
-fn opens_proof(bytes: &[u8]) -> bool
-    ensures { λ r. ⌜ r ≡ opens proofOpening (now (bytes .entry)) ⌝ }
+// Whether the bytes open as a proof file beside a claim of the form does.
+fn opens_proof(bytes: &[u8], form: u8) -> bool
+    ensures { λ r. ⌜ r ≡ opens (proofOpening (namedForm form)) (now (bytes .entry)) ⌝ }
 {
+    if form == formula::Form::CLM2 {
+        return opens(
+            bytes,
+            GOALS_OPENING[0],
+            GOALS_OPENING[1],
+            GOALS_OPENING[2],
+            GOALS_OPENING[3],
+        );
+    }
     opens(
         bytes,
         PROOF_OPENING[0],
@@ -66,7 +80,7 @@ pub fn is_code(kinds: &[u8; 256], count: usize, code: u16) -> bool
 
 // The map, the rule and the fields of a node.
 fn head_step(bytes: &[u8], at: usize) -> Step
-    requires { ⌜ (at ≤ length (now bytes)) × (at ≤ 58374) ⌝ }
+    requires { ⌜ (at ≤ length (now bytes)) × (at ≤ 58406) ⌝ }
     ensures { λ r. ⌜ FindsHead (now (bytes .entry)) at r ⌝ }
 {
     if bytes.len() < at + 2 {
@@ -95,7 +109,7 @@ fn head_step(bytes: &[u8], at: usize) -> Step
 // Whether so many codes are there and fit, from the last down: each is below the one after it, so that only the last is compared with the
 // table's end. Where one does not fit, codes_walk finds the refusal.
 fn codes_fit(bytes: &[u8], start: usize, n: usize, kinds: &[u8; 256], count: usize) -> bool
-    requires { ⌜ (start ≤ 58383) × (n ≤ 24) × (count ≤ 256) ⌝ }
+    requires { ⌜ (start ≤ 58415) × (n ≤ 24) × (count ≤ 256) ⌝ }
     ensures { λ r. ⌜ (r ≡ true → Finds (now (bytes .entry)) (start + 48) (codesOf (kindTable (now (kinds .entry)) count) n (now (bytes .entry)) start) (Step.Next (start + 2 * n))) ⌝ }
 {
     if bytes.len() < start + 2 * n {
@@ -119,7 +133,7 @@ fn codes_fit(bytes: &[u8], start: usize, n: usize, kinds: &[u8; 256], count: usi
 
 // So many codes, each above the one before, its entry in range and no name.
 fn codes_walk(bytes: &[u8], start: usize, n: usize, kinds: &[u8; 256], count: usize) -> Step
-    requires { ⌜ (start ≤ length (now bytes)) × (start ≤ 58383) × (n ≤ 24) × (count ≤ 256) ⌝ }
+    requires { ⌜ (start ≤ length (now bytes)) × (start ≤ 58415) × (n ≤ 24) × (count ≤ 256) ⌝ }
     ensures { λ r. ⌜ Finds (now (bytes .entry)) (start + 48) (codesOf (kindTable (now (kinds .entry)) count) n (now (bytes .entry)) start) r ⌝ }
 {
     let mut at = start;
@@ -154,7 +168,7 @@ fn codes_walk(bytes: &[u8], start: usize, n: usize, kinds: &[u8; 256], count: us
 
 // A count from 1 to 24 and that many codes.
 fn sequent_step(bytes: &[u8], at: usize, kinds: &[u8; 256], count: usize) -> Step
-    requires { ⌜ (at ≤ length (now bytes)) × (at ≤ 58382) × (count ≤ 256) ⌝ }
+    requires { ⌜ (at ≤ length (now bytes)) × (at ≤ 58414) × (count ≤ 256) ⌝ }
     ensures { λ r. ⌜ Finds (now (bytes .entry)) (at + 49) (sequent (kindTable (now (kinds .entry)) count) (drop at (now (bytes .entry))) at) r ⌝ }
 {
     if bytes.len() <= at {
@@ -186,7 +200,7 @@ fn sequent_step(bytes: &[u8], at: usize, kinds: &[u8; 256], count: usize) -> Ste
 
 // A node: without bit 4 the sequent is empty.
 fn node_step(bytes: &[u8], at: usize, kinds: &[u8; 256], count: usize) -> Step
-    requires { ⌜ (at ≤ length (now bytes)) × (at ≤ 58374) × (count ≤ 256) ⌝ }
+    requires { ⌜ (at ≤ length (now bytes)) × (at ≤ 58406) × (count ≤ 256) ⌝ }
     ensures { λ r. ⌜ Finds (now (bytes .entry)) (at + 57) (node (kindTable (now (kinds .entry)) count) (drop at (now (bytes .entry))) at) r ⌝ }
 {
     match head_step(bytes, at) {
@@ -200,12 +214,12 @@ fn node_step(bytes: &[u8], at: usize, kinds: &[u8; 256], count: usize) -> Step
     }
 }
 
-// So many nodes, from the place after the node count on.
-fn nodes_walk(bytes: &[u8], n: usize, kinds: &[u8; 256], count: usize) -> Step
-    requires { ⌜ (6 ≤ length (now bytes)) × (n ≤ 1024) × (count ≤ 256) ⌝ }
-    ensures { λ r. ⌜ Finds (now (bytes .entry)) 58374 (nodesOf (kindTable (now (kinds .entry)) count) n (now (bytes .entry))) r ⌝ }
+// So many nodes, from a place on.
+fn nodes_walk(bytes: &[u8], start: usize, n: usize, kinds: &[u8; 256], count: usize) -> Step
+    requires { ⌜ (start ≤ length (now bytes)) × (start ≤ 38) × (n ≤ 1024) × (count ≤ 256) ⌝ }
+    ensures { λ r. ⌜ Finds (now (bytes .entry)) 58406 (nodesOf (kindTable (now (kinds .entry)) count) n (now (bytes .entry)) start) r ⌝ }
 {
-    let mut at: usize = 6;
+    let mut at = start;
     let mut i: usize = 0;
     while i < n {
         match node_step(bytes, at, kinds, count) {
@@ -217,18 +231,84 @@ fn nodes_walk(bytes: &[u8], n: usize, kinds: &[u8; 256], count: usize) -> Step
     Step::Next(at)
 }
 
-// The verdict on the bytes of a proof, by the kinds of the entries that its codes speak of. Nothing is written.
-pub fn judge_proof(bytes: &[u8], kinds: &[u8; 256], count: usize) -> Verdict
-    requires { ⌜ count ≤ 256 ⌝ }
-    ensures { λ r. ⌜ shown r ≡ verdictOf (readProof (kindClaim (now (kinds .entry)) count) (now (bytes .entry))) ⌝ }
+// So many roots, each above the one before and the number of a node.
+fn roots_walk(bytes: &[u8], goals: usize, nodes: usize) -> Step
+    requires { ⌜ (6 ≤ length (now bytes)) × (goals ≤ 16) × (nodes ≤ 1024) ⌝ }
+    ensures { λ r. ⌜ Finds (now (bytes .entry)) 38 (numbersOf (isNode nodes) goals (now (bytes .entry)) 6) r ⌝ }
 {
-    if !crate::opens_proof(bytes) {
+    let mut at = AFTER_COUNT;
+    let mut least: usize = 0;
+    let mut i: usize = 0;
+    while i < goals {
+        if bytes.len() < at + 2 {
+            return Step::Stop {
+                number: ProofFault::LENGTH,
+                place: bytes.len() as u16,
+            };
+        }
+        let root = word_at(bytes, at) as usize;
+        if root < least {
+            return Step::Stop {
+                number: ProofFault::CODE,
+                place: at as u16,
+            };
+        }
+        if nodes <= root {
+            return Step::Stop {
+                number: ProofFault::CODE,
+                place: at as u16,
+            };
+        }
+        least = root + 1;
+        at += 2;
+        i += 1;
+    }
+    Step::Next(at)
+}
+
+// The roots that the form writes: for one goal none.
+fn roots_step(bytes: &[u8], form: u8, goals: usize, nodes: usize) -> Step
+    requires { ⌜ (6 ≤ length (now bytes)) × (goals ≤ 16) × (nodes ≤ 1024) ⌝ }
+    ensures { λ r. ⌜ Finds (now (bytes .entry)) 38 (rootsOf (namedForm form) goals nodes (now (bytes .entry))) r ⌝ }
+{
+    if form == formula::Form::CLM2 {
+        return roots_walk(bytes, goals, nodes);
+    }
+    Step::Next(AFTER_COUNT)
+}
+
+// The verdict after the roots: so many nodes from a place on, and nothing after them.
+fn judge_nodes(bytes: &[u8], start: usize, n: usize, kinds: &[u8; 256], count: usize) -> Verdict
+    requires { ⌜ (start ≤ length (now bytes)) × (start ≤ 38) × (n ≤ 1024) × (count ≤ 256) ⌝ }
+    ensures { λ r. ⌜ shown r ≡ verdictOf (ending early (nodesOf (kindTable (now (kinds .entry)) count) n (now (bytes .entry)) start)) ⌝ }
+{
+    match nodes_walk(bytes, start, n, kinds, count) {
+        Step::Stop { number, place } => Verdict::Refused { number, place },
+        Step::Next(at) => {
+            if at < bytes.len() {
+                return Verdict::Refused {
+                    number: ProofFault::LENGTH,
+                    place: at as u16,
+                };
+            }
+            Verdict::Accepted
+        }
+    }
+}
+
+// The verdict on the bytes of a proof beside a claim of the form with so many goals, by the kinds of the entries that its codes speak of. Nothing
+// is written.
+pub fn judge_proof(bytes: &[u8], form: u8, goals: usize, kinds: &[u8; 256], count: usize) -> Verdict
+    requires { ⌜ (count ≤ 256) × (goals ≤ 16) ⌝ }
+    ensures { λ r. ⌜ ((f : Form) → form ≡ formNumber f → shown r ≡ verdictOf (readProof (kindClaim f (now (kinds .entry)) count goals) (now (bytes .entry)))) ⌝ }
+{
+    if !crate::opens_proof(bytes, form) {
         return Verdict::Refused {
             number: ProofFault::OPENING,
             place: 0,
         };
     }
-    if bytes.len() < 6 {
+    if bytes.len() < AFTER_COUNT {
         return Verdict::Refused {
             number: ProofFault::LENGTH,
             place: bytes.len() as u16,
@@ -247,16 +327,8 @@ pub fn judge_proof(bytes: &[u8], kinds: &[u8; 256], count: usize) -> Verdict
             place: 4,
         };
     }
-    match nodes_walk(bytes, n as usize, kinds, count) {
+    match roots_step(bytes, form, goals, n as usize) {
         Step::Stop { number, place } => Verdict::Refused { number, place },
-        Step::Next(at) => {
-            if at < bytes.len() {
-                return Verdict::Refused {
-                    number: ProofFault::LENGTH,
-                    place: at as u16,
-                };
-            }
-            Verdict::Accepted
-        }
+        Step::Next(at) => judge_nodes(bytes, at, n as usize, kinds, count),
     }
 }

@@ -7,7 +7,7 @@ use native.Mathlib.Decide.{ℕ-discrete}
 use native.Mathlib.Omega.{arith}
 use lib.ListN.{length, getD}
 use borrow.Author.Tests.{eq-eqb, ne-eqb}
-use Rattle.verdict.specs.Verdict.{Verdict, accepted, refused, pick, scan}
+use Rattle.verdict.specs.Verdict.{Verdict, accepted, refused, scan}
 use Rattle.verdict.specs.declared.Verdict.the-variants.{Accepted}
 use Rattle.verdict.specs.VerdictLaws.{scan-says}
 use Rattle.verdict.specs.Tests.{same, each}
@@ -19,19 +19,21 @@ use Rattle.formula.specs.NodeColumns.{Columns}
 use Rattle.formula.specs.PlainNodes.{codesAt, proofOf, proofOf-length, proofOf-rule, proofOf-back}
 use Rattle.conditions.specs.WellFormed.{WellFormed}
 use Rattle.written.specs.Canon.{key}
-use Rattle.calculus.specs.Tree.{Tree}
+use Rattle.calculus.specs.Tree.{Forest}
 use Rattle.calculus.specs.View.{plain}
-use Rattle.calculus.specs.Judge.{codes, keys, step-kept, keeps, rule-number, ancestor, back-kept, root, judge}
+use Rattle.calculus.specs.Judge.{codes, keys, step-kept, keeps, rule-number, ancestor, back-kept, claimed, judge}
 use Rattle.calculus.specs.Steps.{keeps-leaf, keeps-other}
-use Rattle.calculus.specs.JudgeExact.{judge-is, claim-stage, loops-stage}
+use Rattle.calculus.specs.JudgeExact.{judge-is, claim-stage, rules-stage, loops-stage}
 use Rattle.verdict.specs.ScanLaws.{Passed, scan-passes, scan-fails, after, scan-then}
 use Rattle.tree.specs.Owners.{Ownerless, OwnersFilled, tree-judged}
-use Rattle.tree.specs.TreeStages.{tree-then, accepted-tree}
+use Rattle.tree.specs.TreeStages.{tree-then, accepted-trees}
+use Rattle.spans.specs.Spans.{CountedOnce}
 use Rattle.spans.specs.Ancestors.{AncestorsTold}
 use Rattle.companions.specs.Companions.{Companion, companion-fits}
 use Rattle.companions.specs.CompanionLaws.{back-kept-is}
 use Rattle.loops.specs.Paths.{Linked, loops-judged}
 use Rattle.sequents.specs.Keys.{Numbers}
+use Rattle.goals.specs.Goals.{goals-judged}
 use Rattle.sequents.specs.Placed.{Formulas}
 use Rattle.principal_rules.specs.Judged.{Judged, codes-is}
 
@@ -44,15 +46,16 @@ abbrev pub nodes-judged : Claim → Proof → Verdict
 nodes-judged c p = after (rules-judged c p) (loops-judged p)
 
 -- 36, then those
-abbrev pub tree-rules-judged : Claim → Proof → Verdict
-tree-rules-judged c p = pick (root c (plain p)) (nodes-judged c p) (refused 36 0)
+abbrev pub tree-rules-judged : Claim → Derivation → Verdict
+tree-rules-judged c d = after (goals-judged c (d .roots) (d .nodes)) (nodes-judged c (d .nodes))
 
-pub judge-stages : (c : Claim) (d : Derivation) → judge c d ≡ after (tree-judged (d .nodes)) (tree-rules-judged c (d .nodes))
+pub judge-stages : (c : Claim) (d : Derivation) → judge c d ≡ after (tree-judged (d .roots) (d .nodes)) (tree-rules-judged c d)
 judge-stages c d =
     judge-is c d
-    ∙ tree-then (d .nodes) (claim-stage c d)
-    ∙ ap (λ (x : Verdict). after (tree-judged (d .nodes)) (pick (root c (plain (d .nodes))) x (refused 36 0)))
-    (scan-then (keeps c (plain (d .nodes))) (rule-number (plain (d .nodes))) (length (d .nodes)) 0 (loops-stage c d))
+    ∙ tree-then (d .roots) (d .nodes) (claim-stage c d)
+    ∙ ap (after (tree-judged (d .roots) (d .nodes)))
+    (scan-then (claimed (c .entries) (plain (d .nodes)) (c .goals) (d .roots)) (λ _. 36) (length (d .nodes)) 0 (rules-stage c d)
+    ∙ ap (after (goals-judged c (d .roots) (d .nodes))) (scan-then (keeps c (plain (d .nodes))) (rule-number (plain (d .nodes))) (length (d .nodes)) 0 (loops-stage c d)))
 
 -- tables that have passed 20 to 35, with the numbers that tell the ancestors
 pub record TreeReady (ks xs ys ns : List ℕ) (n : ℕ) (rs ls ss cs : List ℕ) (m : ℕ) (entries exits : List ℕ) : Type 0 where
@@ -101,7 +104,6 @@ module _ {ks xs ys ns : List ℕ} {n : ℕ} {rs ls ss cs : List ℕ} {m : ℕ} (
 -- what the reader and the table's judge have ensured before 35
 pub record Laid (ks xs ys : List ℕ) (n : ℕ) (rs ls ss cs : List ℕ) (m : ℕ) : Type 0 where
   pub entries : n ≤ 256
-  pub some : 1 ≤ m
   pub columns : Columns m rs ls ss cs
   pub rising : (v : ℕ) → v < m → (getD ss v 0 ≤ getD ss (v + 1) 0) × (getD ss (v + 1) 0 ≤ length cs)
   pub well : WellFormed (tableOf ks xs ys n)
@@ -109,13 +111,12 @@ pub record Laid (ks xs ys : List ℕ) (n : ℕ) (rs ls ss cs : List ℕ) (m : �
 
 -- tables of the judge's own, as they are before it begins
 pub record Fresh (m : ℕ) (owners entries exits : List ℕ) : Type 0 where
-  pub room : (m ≤ length owners) × (m ≤ length entries) × (m ≤ length exits)
+  pub room : m ≤ length owners
   pub ownerless : Ownerless owners m
-  pub first : getD entries 0 0 ≡ 0
-  pub ones : (w : ℕ) → w < m → getD exits w 0 ≡ 1
+  pub once : CountedOnce m entries exits
 
 pub laid-judged : {ks xs ys ns : List ℕ} {n : ℕ} {rs ls ss cs : List ℕ} {m : ℕ}
-    → Laid ks xs ys n rs ls ss cs m → Numbers (tableOf ks xs ys n) ns → Tree (proofOf rs ls ss cs m) → Judged ks xs ys ns n rs ls ss cs m
+    → Laid ks xs ys n rs ls ss cs m → Numbers (tableOf ks xs ys n) ns → Forest (proofOf rs ls ss cs m) → Judged ks xs ys ns n rs ls ss cs m
 laid-judged L N T = record { entries = L .entries; columns = L .columns; rising = L .rising; well = L .well; numbers = N; members = L .members; tree = T }
 
 module _ {ks xs ys ns : List ℕ} {n : ℕ} {rs ls ss cs : List ℕ} {m : ℕ} {entries exits : List ℕ} (R : TreeReady ks xs ys ns n rs ls ss cs m entries exits) (c : Claim) (v : ℕ) (real : v < m)
@@ -172,23 +173,23 @@ rules-linked c p h v real e =
 
 -- 36 to 39 by what each stage found
 module _ (c : Claim) (d : Derivation) where
-  pub other-root : root c (plain (d .nodes)) ≡ false → tree-rules-judged c (d .nodes) ≡ refused 36 0
-  other-root h = rw h refl
+  pub goals-bad : {k q : ℕ} → goals-judged c (d .roots) (d .nodes) ≡ refused k q → tree-rules-judged c d ≡ refused k q
+  goals-bad h = rw h refl
 
-  pub claim-root : root c (plain (d .nodes)) ≡ true → tree-rules-judged c (d .nodes) ≡ nodes-judged c (d .nodes)
-  claim-root h = rw h refl
+  pub goals-good : goals-judged c (d .roots) (d .nodes) ≡ accepted → tree-rules-judged c d ≡ nodes-judged c (d .nodes)
+  goals-good h = rw h refl
 
   -- 35 first
-  pub tree-bad : {k q : ℕ} → tree-judged (d .nodes) ≡ refused k q → judge c d ≡ refused k q
+  pub tree-bad : {k q : ℕ} → tree-judged (d .roots) (d .nodes) ≡ refused k q → judge c d ≡ refused k q
   tree-bad r = judge-stages c d ∙ rw r refl
 
-  pub tree-good : tree-judged (d .nodes) ≡ accepted → judge c d ≡ tree-rules-judged c (d .nodes)
+  pub tree-good : tree-judged (d .roots) (d .nodes) ≡ accepted → judge c d ≡ tree-rules-judged c d
   tree-good r = judge-stages c d ∙ rw r refl
 
--- what an accepted tree gives to the stages after it
-module _ {rs ls : List ℕ} {m : ℕ} {owners : List ℕ} (filled : OwnersFilled tree-judged rs ls m Accepted owners) where
-  pub filled-tree : (ss cs : List ℕ) → tree-judged (proofOf rs ls ss cs m) ≡ accepted
+-- what accepted trees give to the stages after them
+module _ {roots rs ls : List ℕ} {m : ℕ} {owners : List ℕ} (filled : OwnersFilled roots rs ls m Accepted owners) where
+  pub filled-tree : (ss cs : List ℕ) → tree-judged roots (proofOf rs ls ss cs m) ≡ accepted
   filled-tree ss cs = sym (filled .answers ss cs)
 
   pub filled-judged : {ks xs ys ns : List ℕ} {n : ℕ} {ss cs : List ℕ} → Laid ks xs ys n rs ls ss cs m → Numbers (tableOf ks xs ys n) ns → Judged ks xs ys ns n rs ls ss cs m
-  filled-judged {ss = ss} {cs = cs} L N = laid-judged L N (accepted-tree (proofOf rs ls ss cs m) (filled-tree ss cs))
+  filled-judged {ss = ss} {cs = cs} L N = laid-judged L N (accepted-trees roots (proofOf rs ls ss cs m) (filled-tree ss cs) .forest)

@@ -4,23 +4,24 @@ ghost use mathlib.Core.List.{List};
 ghost use Prim.Native.Nat.{ℕ, _<_, _≤_};
 ghost use Rattle.verdict.specs.Shown.{shown};
 ghost use Rattle.formula.specs.Rule.{BACK};
+ghost use Rattle.formula.specs.Claim.{Form};
 ghost use Rattle.formula.specs.Held.{heldClaim, heldProof};
 ghost use Rattle.formula.specs.Plain.{tableOf};
 ghost use Rattle.formula.specs.PlainNodes.{proofOf};
 ghost use Rattle.calculus.specs.View.{plain};
 ghost use Rattle.calculus.specs.Judge.{keeps, judge as judged};
 ghost use Rattle.sequents.specs.Keys.{Numbers};
-ghost use Rattle.sequents.specs.Placed.{Members};
+ghost use Rattle.goals.specs.Goals.{Goals};
 ghost use Rattle.principal_rules.specs.Judged.{Judged};
 ghost use Rattle.rules.specs.JudgeStages.{TreeReady, Laid, Fresh, rules-judged, nodes-judged, tree-rules-judged};
 ghost use Rattle.tree.specs.Owners.{OwnedBy};
-ghost use Rattle.spans.specs.Spans.{Upward, Counted};
+ghost use Rattle.spans.specs.Spans.{Upward, CountedOnce};
 use bits::wide;
 use companions::companion;
 use formula::Rule;
+use goals::judge_goals;
 use kept::kept::kept;
 use loops::judge_loops;
-use sequents::sets::root_is_claim;
 use sequents::sets::same_sequent;
 use spans::fill_spans;
 use tree::fill_owners;
@@ -44,7 +45,7 @@ fn node_keeps(
 ) -> bool
     requires { ⌜ TreeReady (now kinds) (now a) (now b) (now canon) count (now rules) (now links) (now starts) (now codes) nodes (now entries) (now exits) ×
         (v < nodes) ⌝ }
-    ensures { λ r. ⌜ ((ms : List ℕ) (k : ℕ) → r ≡ keeps (heldClaim (now (kinds .entry)) (now (a .entry)) (now (b .entry)) count ms k)
+    ensures { λ r. ⌜ ((f : Form) (gs ms : List ℕ) (k : ℕ) → r ≡ keeps (heldClaim f (now (kinds .entry)) (now (a .entry)) (now (b .entry)) count gs ms k)
         (plain (proofOf (now (rules .entry)) (now (links .entry)) (now (starts .entry)) (now (codes .entry)) nodes)) v) ⌝ }
 {
     if rules[v] != Rule::BACK {
@@ -94,7 +95,7 @@ fn judge_nodes(
     exits: &[u16],
 ) -> Verdict
     requires { ⌜ TreeReady (now kinds) (now a) (now b) (now canon) count (now rules) (now links) (now starts) (now codes) nodes (now entries) (now exits) ⌝ }
-    ensures { λ r. ⌜ ((ms : List ℕ) (k : ℕ) → shown r ≡ rules-judged (heldClaim (now (kinds .entry)) (now (a .entry)) (now (b .entry)) count ms k)
+    ensures { λ r. ⌜ ((f : Form) (gs ms : List ℕ) (k : ℕ) → shown r ≡ rules-judged (heldClaim f (now (kinds .entry)) (now (a .entry)) (now (b .entry)) count gs ms k)
         (proofOf (now (rules .entry)) (now (links .entry)) (now (starts .entry)) (now (codes .entry)) nodes)) ⌝ }
 {
     let mut v: usize = 0;
@@ -142,8 +143,8 @@ fn judge_rules(
     exits: &mut [u16],
 ) -> Verdict
     requires { ⌜ Judged (now kinds) (now a) (now b) (now canon) count (now rules) (now links) (now starts) (now codes) nodes × Upward (now owners) nodes ⌝ }
-    requires { ⌜ OwnedBy (now rules) (now links) nodes nodes (now owners) × Counted (now owners) nodes nodes (now entries) (now exits) ⌝ }
-    ensures { λ r. ⌜ ((ms : List ℕ) (k : ℕ) → shown r ≡ nodes-judged (heldClaim (now (kinds .entry)) (now (a .entry)) (now (b .entry)) count ms k)
+    requires { ⌜ OwnedBy (now rules) (now links) nodes nodes (now owners) × CountedOnce nodes (now entries) (now exits) ⌝ }
+    ensures { λ r. ⌜ ((f : Form) (gs ms : List ℕ) (k : ℕ) → shown r ≡ nodes-judged (heldClaim f (now (kinds .entry)) (now (a .entry)) (now (b .entry)) count gs ms k)
         (proofOf (now (rules .entry)) (now (links .entry)) (now (starts .entry)) (now (codes .entry)) nodes)) ⌝ }
 {
     fill_spans(owners, nodes, entries, exits);
@@ -182,43 +183,42 @@ fn judge_tree(
     b: &[u16; 256],
     canon: &[u16; 256],
     count: usize,
-    members: &[u16; 24],
-    listed: usize,
+    bounds: &[u16; 17],
+    members: &[u16; 384],
+    goals: usize,
     rules: &[u8],
     links: &[u16],
     starts: &[u16],
     codes: &[u16],
     nodes: usize,
+    roots: &[u16; 16],
     owners: &[u16],
     entries: &mut [u16],
     exits: &mut [u16],
 ) -> Verdict
-    requires { ⌜ Judged (now kinds) (now a) (now b) (now canon) count (now rules) (now links) (now starts) (now codes) nodes × Members count (now members) listed ⌝ }
-    requires { ⌜ Upward (now owners) nodes × OwnedBy (now rules) (now links) nodes nodes (now owners) × Counted (now owners) nodes nodes (now entries) (now exits) ⌝ }
-    ensures { λ r. ⌜ shown r ≡ tree-rules-judged (heldClaim (now (kinds .entry)) (now (a .entry)) (now (b .entry)) count (now (members .entry)) listed)
-        (proofOf (now (rules .entry)) (now (links .entry)) (now (starts .entry)) (now (codes .entry)) nodes) ⌝ }
+    requires { ⌜ Judged (now kinds) (now a) (now b) (now canon) count (now rules) (now links) (now starts) (now codes) nodes × Goals count (now bounds) (now members) goals (now roots) nodes ⌝ }
+    requires { ⌜ Upward (now owners) nodes × OwnedBy (now rules) (now links) nodes nodes (now owners) × CountedOnce nodes (now entries) (now exits) ⌝ }
+    ensures { λ r. ⌜ ((f : Form) → shown r ≡ tree-rules-judged (heldClaim f (now (kinds .entry)) (now (a .entry)) (now (b .entry)) count (now (bounds .entry)) (now (members .entry)) goals)
+        (heldProof (now (rules .entry)) (now (links .entry)) (now (starts .entry)) (now (codes .entry)) nodes (now (roots .entry)) goals)) ⌝ }
 {
-    if !root_is_claim(canon, members, listed, starts, codes) {
-        return Verdict::Refused {
-            number: 36,
-            place: 0,
-        };
+    match judge_goals(canon, bounds, members, goals, starts, codes, nodes, roots) {
+        Verdict::Accepted => judge_rules(
+            kinds,
+            a,
+            b,
+            canon,
+            count,
+            rules,
+            links,
+            starts,
+            codes,
+            nodes,
+            owners,
+            entries,
+            exits,
+        ),
+        Verdict::Refused { number, place } => Verdict::Refused { number, place },
     }
-    judge_rules(
-        kinds,
-        a,
-        b,
-        canon,
-        count,
-        rules,
-        links,
-        starts,
-        codes,
-        nodes,
-        owners,
-        entries,
-        exits,
-    )
 }
 
 // 35 to 39, in tables of its own that have room for the nodes: no node has an owner yet, and each counts for one.
@@ -228,36 +228,40 @@ fn judge_in(
     b: &[u16; 256],
     canon: &[u16; 256],
     count: usize,
-    members: &[u16; 24],
-    listed: usize,
+    bounds: &[u16; 17],
+    members: &[u16; 384],
+    goals: usize,
     rules: &[u8],
     links: &[u16],
     starts: &[u16],
     codes: &[u16],
     nodes: usize,
+    roots: &[u16; 16],
     owners: &mut [u16],
     entries: &mut [u16],
     exits: &mut [u16],
 ) -> Verdict
-    requires { ⌜ Laid (now kinds) (now a) (now b) count (now rules) (now links) (now starts) (now codes) nodes × Members count (now members) listed ×
+    requires { ⌜ Laid (now kinds) (now a) (now b) count (now rules) (now links) (now starts) (now codes) nodes × Goals count (now bounds) (now members) goals (now roots) nodes ×
         Fresh nodes (now owners) (now entries) (now exits) × Numbers (tableOf (now kinds) (now a) (now b) count) (now canon) ⌝ }
-    ensures { λ r. ⌜ shown r ≡ judged (heldClaim (now (kinds .entry)) (now (a .entry)) (now (b .entry)) count (now (members .entry)) listed)
-        (heldProof (now (rules .entry)) (now (links .entry)) (now (starts .entry)) (now (codes .entry)) nodes) ⌝ }
+    ensures { λ r. ⌜ ((f : Form) → shown r ≡ judged (heldClaim f (now (kinds .entry)) (now (a .entry)) (now (b .entry)) count (now (bounds .entry)) (now (members .entry)) goals)
+        (heldProof (now (rules .entry)) (now (links .entry)) (now (starts .entry)) (now (codes .entry)) nodes (now (roots .entry)) goals)) ⌝ }
 {
-    match fill_owners(rules, links, nodes, owners) {
+    match fill_owners(rules, links, nodes, roots, goals, owners) {
         Verdict::Accepted => judge_tree(
             kinds,
             a,
             b,
             canon,
             count,
+            bounds,
             members,
-            listed,
+            goals,
             rules,
             links,
             starts,
             codes,
             nodes,
+            roots,
             owners,
             entries,
             exits,
@@ -273,18 +277,20 @@ fn judge_few(
     b: &[u16; 256],
     canon: &[u16; 256],
     count: usize,
-    members: &[u16; 24],
-    listed: usize,
+    bounds: &[u16; 17],
+    members: &[u16; 384],
+    goals: usize,
     rules: &[u8],
     links: &[u16],
     starts: &[u16],
     codes: &[u16],
     nodes: usize,
+    roots: &[u16; 16],
 ) -> Verdict
-    requires { ⌜ Laid (now kinds) (now a) (now b) count (now rules) (now links) (now starts) (now codes) nodes × Members count (now members) listed ×
+    requires { ⌜ Laid (now kinds) (now a) (now b) count (now rules) (now links) (now starts) (now codes) nodes × Goals count (now bounds) (now members) goals (now roots) nodes ×
         (nodes ≤ 32) × Numbers (tableOf (now kinds) (now a) (now b) count) (now canon) ⌝ }
-    ensures { λ r. ⌜ shown r ≡ judged (heldClaim (now (kinds .entry)) (now (a .entry)) (now (b .entry)) count (now (members .entry)) listed)
-        (heldProof (now (rules .entry)) (now (links .entry)) (now (starts .entry)) (now (codes .entry)) nodes) ⌝ }
+    ensures { λ r. ⌜ ((f : Form) → shown r ≡ judged (heldClaim f (now (kinds .entry)) (now (a .entry)) (now (b .entry)) count (now (bounds .entry)) (now (members .entry)) goals)
+        (heldProof (now (rules .entry)) (now (links .entry)) (now (starts .entry)) (now (codes .entry)) nodes (now (roots .entry)) goals)) ⌝ }
 {
     let mut owners = [0u16; 32];
     let mut entries = [0u16; 32];
@@ -295,13 +301,15 @@ fn judge_few(
         b,
         canon,
         count,
+        bounds,
         members,
-        listed,
+        goals,
         rules,
         links,
         starts,
         codes,
         nodes,
+        roots,
         &mut owners,
         &mut entries,
         &mut exits,
@@ -315,18 +323,20 @@ fn judge_many(
     b: &[u16; 256],
     canon: &[u16; 256],
     count: usize,
-    members: &[u16; 24],
-    listed: usize,
+    bounds: &[u16; 17],
+    members: &[u16; 384],
+    goals: usize,
     rules: &[u8],
     links: &[u16],
     starts: &[u16],
     codes: &[u16],
     nodes: usize,
+    roots: &[u16; 16],
 ) -> Verdict
-    requires { ⌜ Laid (now kinds) (now a) (now b) count (now rules) (now links) (now starts) (now codes) nodes × Members count (now members) listed ×
+    requires { ⌜ Laid (now kinds) (now a) (now b) count (now rules) (now links) (now starts) (now codes) nodes × Goals count (now bounds) (now members) goals (now roots) nodes ×
         Numbers (tableOf (now kinds) (now a) (now b) count) (now canon) ⌝ }
-    ensures { λ r. ⌜ shown r ≡ judged (heldClaim (now (kinds .entry)) (now (a .entry)) (now (b .entry)) count (now (members .entry)) listed)
-        (heldProof (now (rules .entry)) (now (links .entry)) (now (starts .entry)) (now (codes .entry)) nodes) ⌝ }
+    ensures { λ r. ⌜ ((f : Form) → shown r ≡ judged (heldClaim f (now (kinds .entry)) (now (a .entry)) (now (b .entry)) count (now (bounds .entry)) (now (members .entry)) goals)
+        (heldProof (now (rules .entry)) (now (links .entry)) (now (starts .entry)) (now (codes .entry)) nodes (now (roots .entry)) goals)) ⌝ }
 {
     let mut owners = [0u16; 1024];
     let mut entries = [0u16; 1024];
@@ -337,13 +347,15 @@ fn judge_many(
         b,
         canon,
         count,
+        bounds,
         members,
-        listed,
+        goals,
         rules,
         links,
         starts,
         codes,
         nodes,
+        roots,
         &mut owners,
         &mut entries,
         &mut exits,
@@ -357,18 +369,20 @@ pub fn judge(
     b: &[u16; 256],
     canon: &[u16; 256],
     count: usize,
-    members: &[u16; 24],
-    listed: usize,
+    bounds: &[u16; 17],
+    members: &[u16; 384],
+    goals: usize,
     rules: &[u8],
     links: &[u16],
     starts: &[u16],
     codes: &[u16],
     nodes: usize,
+    roots: &[u16; 16],
 ) -> Verdict
     requires { ⌜ Laid (now kinds) (now a) (now b) count (now rules) (now links) (now starts) (now codes) nodes ⌝ }
-    requires { ⌜ Members count (now members) listed × Numbers (tableOf (now kinds) (now a) (now b) count) (now canon) ⌝ }
-    ensures { λ r. ⌜ shown r ≡ judged (heldClaim (now (kinds .entry)) (now (a .entry)) (now (b .entry)) count (now (members .entry)) listed)
-        (heldProof (now (rules .entry)) (now (links .entry)) (now (starts .entry)) (now (codes .entry)) nodes) ⌝ }
+    requires { ⌜ Goals count (now bounds) (now members) goals (now roots) nodes × Numbers (tableOf (now kinds) (now a) (now b) count) (now canon) ⌝ }
+    ensures { λ r. ⌜ ((f : Form) → shown r ≡ judged (heldClaim f (now (kinds .entry)) (now (a .entry)) (now (b .entry)) count (now (bounds .entry)) (now (members .entry)) goals)
+        (heldProof (now (rules .entry)) (now (links .entry)) (now (starts .entry)) (now (codes .entry)) nodes (now (roots .entry)) goals)) ⌝ }
 {
     if nodes <= 32 {
         return judge_few(
@@ -377,13 +391,15 @@ pub fn judge(
             b,
             canon,
             count,
+            bounds,
             members,
-            listed,
+            goals,
             rules,
             links,
             starts,
             codes,
             nodes,
+            roots,
         );
     }
     judge_many(
@@ -392,12 +408,14 @@ pub fn judge(
         b,
         canon,
         count,
+        bounds,
         members,
-        listed,
+        goals,
         rules,
         links,
         starts,
         codes,
         nodes,
+        roots,
     )
 }

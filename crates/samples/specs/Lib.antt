@@ -3,4 +3,5 @@ pub mod Files
 pub mod NearMisses
 pub mod Twins
 pub mod Actions
+pub mod Goals
 pub mod Samples

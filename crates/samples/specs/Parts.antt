@@ -18,6 +18,13 @@ claimOpening = 0x43 ∷ 0x4C ∷ 0x4D ∷ 0x31 ∷ []
 abbrev pub proofOpening : List ℕ
 proofOpening = 0x50 ∷ 0x52 ∷ 0x46 ∷ 0x31 ∷ []
 
+-- the forms for several goals
+abbrev pub goalsOpening : List ℕ
+goalsOpening = 0x43 ∷ 0x4C ∷ 0x4D ∷ 0x32 ∷ []
+
+abbrev pub treesOpening : List ℕ
+treesOpening = 0x50 ∷ 0x52 ∷ 0x46 ∷ 0x32 ∷ []
+
 abbrev pub modelOpening : List ℕ
 modelOpening = 0x4D ∷ 0x44 ∷ 0x4C ∷ 0x31 ∷ []
 
@@ -36,6 +43,14 @@ entryAB kind a b = 3 ∷ kind ∷ a ∷ 0 ∷ b ∷ 0 ∷ []
 
 abbrev pub claimOf : List (List ℕ) → List ℕ → List ℕ
 claimOf entries members = claimOpening ++ (length entries ∷ 0 ∷ joined entries) ++ (length members ∷ 0 ∷ twoBytes members)
+
+abbrev membersOf : List (List ℕ) → List ℕ
+membersOf [] = []
+membersOf (members ∷ l) = (length members ∷ 0 ∷ twoBytes members) ++ membersOf l
+
+-- the goal count, and each goal's members
+abbrev pub claimOfGoals : List (List ℕ) → List (List ℕ) → List ℕ
+claimOfGoals entries goals = goalsOpening ++ (length entries ∷ 0 ∷ joined entries) ++ (length goals ∷ 0 ∷ membersOf goals)
 
 abbrev pub sequent : List ℕ → List ℕ
 sequent codes = length codes ∷ twoBytes codes
@@ -61,3 +76,7 @@ axiom2 codes = 0x10 ∷ 1 ∷ sequent codes
 
 abbrev pub proofOf : List (List ℕ) → List ℕ
 proofOf nodes = proofOpening ++ (length nodes ∷ 0 ∷ joined nodes)
+
+-- the roots after the node count
+abbrev pub proofOfTrees : List ℕ → List (List ℕ) → List ℕ
+proofOfTrees roots nodes = treesOpening ++ (length nodes ∷ 0 ∷ twoBytes roots) ++ joined nodes

@@ -1,4 +1,4 @@
--- document 01's proved samples, then near misses, as one table computed from the definitions: files, models and the gate; formulas alike (T-03) and actions (T-04) among them
+-- document 01's proved samples, then near misses, as one table computed from the definitions: files, models and the gate; formulas alike (T-03), actions (T-04) and several goals (T-05) among them
 use mathlib.Core.Path.{_≡_, refl}
 use mathlib.Core.List.{List, [], _∷_, _++_}
 use Prim.Native.Nat.{ℕ}
@@ -22,6 +22,7 @@ use Rattle.samples.specs.NearMisses.{nameThroughFixpoint, fixpointUnderB
 use Rattle.samples.specs.Twins.{twoTrue, bothByAx2, letterTwice, allByAx1, twoOrs, orOfTwo, twoBoxes, boxOfTwo}
 use Rattle.samples.specs.Twins.{trueAndMuOfTrue, trueInEitherFocus, boxAndMuOfBox, boxInEitherFocus, nus, nestedNus, loopOfOther, leafOfOther, loopByTurns}
 use Rattle.samples.specs.Actions.{boxAndDiamond, boxThenAx1, actionThenBounds, actionAndBounds, unguardedThenAction, letterWithB, boxesOfLetter, twoWays, oneWay}
+use Rattle.samples.specs.Goals.{nuGoals, twice, twoLoops, oneForm, byTurns, trueGoals, leaves, firstSixteen, goalsOfTrue}
 use Rattle.samples.specs.NearMisses.{endsAtEntryCount, endsAtMemberCount, endsAtNodeCount, endsAtCodeCount, endsAtStateCount}
 
 -- what a sample asks, and what a definition answers
@@ -201,6 +202,33 @@ samples =
     -- each box looks at its own action; an old model has none but 0
     ∷ record { question = evaluate boxesOfLetter twoWays; answer = wordsAre accepted (2 ∷ 3 ∷ 2 ∷ []) }
     ∷ record { question = evaluate boxesOfLetter oneWay; answer = wordsAre accepted (2 ∷ 3 ∷ 3 ∷ []) }
+    -- T-05: two goals, one tree for each, the nodes one after the other and by turns
+    ∷ record { question = check twice (twoLoops (0 ∷ 4 ∷ []) 4); answer = verdictIs accepted }
+    ∷ record { question = check twice byTurns; answer = verdictIs accepted }
+    -- each goal's root is compared with it, and 36 gives the root's number: of the first goal alone: accepted
+    ∷ record { question = check (nuGoals ((2 ∷ []) ∷ (1 ∷ []) ∷ [])) (twoLoops (0 ∷ 4 ∷ []) 4); answer = verdictIs (refused 36 4) }
+    -- a root named as a child is a bad child number: where it may be one: 35 at 4, an orphan
+    ∷ record { question = check twice (twoLoops (0 ∷ 3 ∷ []) 4); answer = verdictIs (refused 35 2) }
+    -- a leaf of the second tree linked into the first: with a climb past the root: accepted
+    ∷ record { question = check twice (twoLoops (0 ∷ 4 ∷ []) 0); answer = verdictIs (refused 38 7) }
+    -- 16 goals pass; 17, and none, give 72 at the goal count
+    ∷ record { question = check (trueGoals 16) (leaves firstSixteen 16); answer = verdictIs accepted }
+    ∷ record { question = check (trueGoals 17) (leaves firstSixteen 16); answer = verdictIs (refused 72 8) }
+    ∷ record { question = check (trueGoals 0) (leaves [] 1); answer = verdictIs (refused 72 8) }
+    -- each goal has at least one member, judged at its own count, and its members rise for themselves
+    ∷ record { question = check (goalsOfTrue ((0 ∷ []) ∷ [] ∷ [])) (leaves (0 ∷ 1 ∷ []) 2); answer = verdictIs (refused 12 14) }
+    ∷ record { question = check (goalsOfTrue ((0 ∷ []) ∷ (0 ∷ 0 ∷ []) ∷ [])) (leaves (0 ∷ 1 ∷ []) 2); answer = verdictIs (refused 14 18) }
+    -- roots rise strictly and are nodes, each judged at its own place, before the nodes
+    ∷ record { question = check (trueGoals 2) (leaves (1 ∷ 0 ∷ []) 2); answer = verdictIs (refused 34 8) }
+    ∷ record { question = check (trueGoals 2) (leaves (0 ∷ 0 ∷ []) 2); answer = verdictIs (refused 34 8) }
+    ∷ record { question = check (trueGoals 2) (leaves (0 ∷ 2 ∷ []) 2); answer = verdictIs (refused 34 8) }
+    -- node 0 is a root or an orphan
+    ∷ record { question = check (trueGoals 1) (leaves (1 ∷ []) 2); answer = verdictIs (refused 35 0) }
+    -- a pair of unlike forms
+    ∷ record { question = check twice oneForm; answer = verdictIs (refused 30 0) }
+    ∷ record { question = check onlyTrue (leaves (0 ∷ []) 1); answer = verdictIs (refused 30 0) }
+    -- either form is evaluated
+    ∷ record { question = evaluate twice ownSuccessor; answer = wordsAre accepted (1 ∷ 1 ∷ 1 ∷ []) }
     -- bits 5 to 7 of a node's map are zero, and an entry's map has no bit but its kind's: unread bits: accepted
     ∷ record { question = check onlyTrue (mapOfAx2 0x30); answer = verdictIs (refused 33 6) }
     ∷ record { question = check onlyTrue (mapOfAx2 0x50); answer = verdictIs (refused 33 6) }

@@ -31,7 +31,7 @@ keyOf ns c = keyAt ns (entryOf c) (focusOf c)
 abbrev pub keysOf : List ℕ → List ℕ → List ℕ
 keysOf ns l = each (keyOf ns) l
 
--- a member of the claim, in focus
+-- a member of a goal, in focus
 abbrev pub inFocus : List ℕ → ℕ → ℕ
 inFocus ns e = keyAt ns e 1
 
@@ -61,7 +61,7 @@ module _ {t : Table} {ns : List ℕ} (N : Numbers t ns) where
   pub keys-of : (l : List ℕ) → ((c : ℕ) → elements l c → entryOf c < length t) → keysOf ns l ≡ each (key t) l
   keys-of l h = each-same l (λ c m. key-at (entryOf c) (focusOf c) (h c m))
 
--- what is asked of a table for the root's list cs and the claim's members ms: the column has its numbers, and both name its entries
+-- what is asked of a table for a root's list cs and its goal's members ms: the column has its numbers, and both name its entries
 pub record RootOver (t : Table) (ns ms cs : List ℕ) : Type 0 where
   pub numbers : Numbers t ns
   pub members : (e : ℕ) → elements ms e → e < length t

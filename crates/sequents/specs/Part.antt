@@ -33,9 +33,6 @@ part-before l i j p h k =
     let next : i - 1 + 1 ≡ i = omega arith in
     part-more l (i - 1) j (omega arith) k ∙ ap (λ (n : ℕ). getD l (i - 1) 0 ∷ part l n j) next
 
-pub part-all : (l : List ℕ) (j : ℕ) → part l 0 j ≡ take j l
-part-all l j = let whole : j - 0 ≡ j = omega arith in rw whole refl
-
 pub part-length : (l : List ℕ) (i j : ℕ) → j ≤ length l → length (part l i j) ≡ j - i
 part-length l i j h = simp (length-take, length-drop) (omega arith)
 

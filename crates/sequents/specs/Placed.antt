@@ -4,7 +4,7 @@ use mathlib.Core.Logic.{_≢_}
 use Prim.Native.Nat.{ℕ, _+_, _<_, _≤_}
 use mathlib.Core.List.{List, [], _∷_}
 use mathlib.Core.Bool.{true}
-use lib.ListN.{length, getD, take}
+use lib.ListN.{length, getD}
 use Rattle.verdict.specs.Sets.{elements}
 use Rattle.verdict.specs.Tests.{same, remove, each}
 use Rattle.formula.specs.Kind
@@ -14,7 +14,7 @@ use Rattle.formula.specs.Plain.{tableOf}
 use Rattle.conditions.specs.WellFormed.{WellFormed}
 use Rattle.formula.specs.Codes.{Formula, entryOf}
 use Rattle.formula.specs.Nodes.{Node, node}
-use Rattle.sequents.specs.Part.{Span}
+use Rattle.sequents.specs.Part.{part, Span}
 use Rattle.sequents.specs.CodeSet.{Holds}
 use Rattle.sequents.specs.Keys.{Numbers}
 use Rattle.written.specs.Canon.{key}
@@ -63,11 +63,12 @@ pub record Placed (ss cs : List ℕ) (v : ℕ) : Type 0 where
   pub room : v + 1 < length ss
   pub span : Span cs (getD ss v 0) (getD ss (v + 1) 0)
 
--- a claim's members: at most 24 entries of a table of n
-pub record Members (n : ℕ) (ms : List ℕ) (k : ℕ) : Type 0 where
-  pub few : k ≤ 24
-  pub long : k ≤ length ms
-  pub inside : (e : ℕ) → elements (take k ms) e → e < n
+-- a goal's members, from a place up to another: entries of a table of n
+pub record Members (n : ℕ) (ms : List ℕ) (i j : ℕ) : Type 0 where
+  pub order : i ≤ j
+  pub few : j ≤ 384
+  pub long : j ≤ length ms
+  pub inside : (e : ℕ) → elements (part ms i j) e → e < n
 
 -- each code is of an entry of a table of n
 abbrev pub Entries : ℕ → List ℕ → Type 0

@@ -4,7 +4,6 @@
 ghost use mathlib.Core.Path.{_≡_};
 ghost use mathlib.Core.List.{List, [], _∷_};
 ghost use Prim.Native.Nat.{ℕ, _<_};
-ghost use lib.ListN.{take};
 ghost use Rattle.verdict.specs.Tests.{member, same as sameSet, remove, each};
 ghost use Rattle.formula.specs.Codes.{code as codeOf, entryOf};
 ghost use Rattle.formula.specs.Table.{Table};
@@ -14,7 +13,7 @@ ghost use Rattle.sequents.specs.Part.{part, Span};
 ghost use Rattle.sequents.specs.Keys.{Narrow, keyAt, keyOf, keysOf, inFocus, RootOver};
 ghost use Rattle.sequents.specs.Placed.{Placed, Members};
 ghost use Rattle.calculus.specs.View.{plain};
-ghost use Rattle.calculus.specs.Judge.{root};
+ghost use Rattle.calculus.specs.Judge.{states};
 use bits::wide;
 
 // A code more, in place.
@@ -128,34 +127,35 @@ pub fn same_sequent(canon: &[u16; 256], starts: &[u16], codes: &[u16], v: usize,
     same(&here, &there)
 }
 
-// The claim's members, all in focus, into a set that has none.
-fn put_claim(set: &mut [u64; 8], canon: &[u16; 256], members: &[u16; 24], count: usize)
-    requires { ⌜ Narrow (now canon) × Members 256 (now members) count × Holds (now set) [] ⌝ }
-    ensures { λ _. ⌜ Holds (now (set .exit)) (each (inFocus (now (canon .entry))) (take count (now (members .entry)))) ⌝ }
+// A goal's members, from one place up to another, all in focus, into a set that has none.
+fn put_goal(set: &mut [u64; 8], canon: &[u16; 256], members: &[u16; 384], from: usize, to: usize)
+    requires { ⌜ Narrow (now canon) × Members 256 (now members) from to × Holds (now set) [] ⌝ }
+    ensures { λ _. ⌜ Holds (now (set .exit)) (each (inFocus (now (canon .entry))) (part (now (members .entry)) from to)) ⌝ }
 {
-    let mut i = count;
-    while 0 < i {
+    let mut i = to;
+    while from < i {
         i -= 1;
         put(set, key(canon, wide(members[i]), 1));
     }
 }
 
-// Whether the root's members are the claim's, all in focus (refusal 36).
-pub fn root_is_claim(
+// Whether a root's members are its goal's, all in focus (refusal 36).
+pub fn root_is_goal(
     canon: &[u16; 256],
-    members: &[u16; 24],
-    count: usize,
+    members: &[u16; 384],
+    from: usize,
+    to: usize,
     starts: &[u16],
     codes: &[u16],
+    root: usize,
 ) -> bool
-    requires { ⌜ Narrow (now canon) × Members 256 (now members) count × Placed (now starts) (now codes) 0 ⌝ }
-    ensures { λ r. ⌜ ((t : Table) → RootOver t (now (canon .entry)) (take count (now (members .entry))) (codesAt (now (starts .entry)) (now (codes .entry)) 0) →
-        (rs ls : List ℕ) (n : ℕ) → 0 < n → r ≡ root (record { entries = t; members = take count (now (members .entry)) })
-        (plain (proofOf rs ls (now (starts .entry)) (now (codes .entry)) n))) ⌝ }
+    requires { ⌜ Narrow (now canon) × Members 256 (now members) from to × Placed (now starts) (now codes) root ⌝ }
+    ensures { λ r. ⌜ ((t : Table) → RootOver t (now (canon .entry)) (part (now (members .entry)) from to) (codesAt (now (starts .entry)) (now (codes .entry)) root) →
+        (rs ls : List ℕ) (n : ℕ) → root < n → r ≡ states t (plain (proofOf rs ls (now (starts .entry)) (now (codes .entry)) n)) root (part (now (members .entry)) from to)) ⌝ }
 {
     let mut found = [0u64; 8];
-    put_sequent(&mut found, canon, starts, codes, 0);
+    put_sequent(&mut found, canon, starts, codes, root);
     let mut claimed = [0u64; 8];
-    put_claim(&mut claimed, canon, members, count);
+    put_goal(&mut claimed, canon, members, from, to);
     same(&found, &claimed)
 }

@@ -1,3 +1,4 @@
+pub mod Passing
 mod Terms
 mod Called
 mod Stored

@@ -5,7 +5,7 @@ use Prim.Native.Nat.{ℕ, _*_, _≤_}
 use lib.ListN.{length}
 use Rattle.verdict.specs.Verdict.{Verdict}
 use Rattle.verdict.specs.Lists.{written}
-use Rattle.formula.specs.Claim.{Claim, Derivation}
+use Rattle.formula.specs.Claim.{Form, Claim, Derivation}
 use Rattle.formula.specs.Nodes.{Proof}
 use Rattle.formula.specs.Records.{nodeRecords, allCodes}
 use Rattle.calculus.specs.Judge.{judge}
@@ -23,7 +23,7 @@ pub record ProofStored (p : Proof) (vs : List Node) (cs : List ℕ) (vs′ : Lis
   pub nodes : shownNodes vs′ ≡ written (nodeRecords p) (shownNodes vs)
   pub codes : cs′ ≡ written (allCodes p) cs
 
--- the verdict on a claim and a proof, whose nodes then stand in what was lent
-pub record JudgedStored (c : Claim) (d : Derivation) (vs : List Node) (cs : List ℕ) (v : Verdict) (vs′ : List Node) (cs′ : List ℕ) : Type 0 where
-  pub verdict : v ≡ judge c d
+-- the verdict on a claim, in whatever form it was written, and a proof, whose nodes then stand in what was lent
+pub record JudgedStored (c : Form → Claim) (d : Derivation) (vs : List Node) (cs : List ℕ) (v : Verdict) (vs′ : List Node) (cs′ : List ℕ) : Type 0 where
+  pub verdict : (f : Form) → v ≡ judge (c f) d
   pub stored : ProofStored (d .nodes) vs cs vs′ cs′

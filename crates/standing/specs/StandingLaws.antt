@@ -8,6 +8,7 @@ use lib.ListN.{length, getD, take, drop, length-drop, length-append}
 use lib.Seq.{take-at, take-all}
 use Rattle.verdict.specs.Verdict.{Verdict}
 use Rattle.verdict.specs.Lists.{written}
+use Rattle.formula.specs.Claim.{Form}
 use Rattle.formula.specs.Held.{heldClaim, heldProof}
 use Rattle.formula.specs.Nodes.{Proof, node}
 use Rattle.formula.specs.PlainNodes.{proofOf}
@@ -56,13 +57,14 @@ at-most (x ∷ q) h zero = omega (arith, length-append (x .codes) [], h 0)
 at-most (x ∷ q) h (suc v) =
     omega (arith, length-append (x .codes) (allCodes (take v q)), length-append (x .codes) (allCodes (take (suc v) q)), at-most q (λ u. h (suc u)) v)
 
-module _ {ks xs ys : List ℕ} {n : ℕ} {ms : List ℕ} {k : ℕ} {s : List ℕ} {m : ℕ} (r : Readable ks xs ys n ms k s m) {rs₀ ls₀ ss₀ cs₀ : List ℕ} (columns : Columns m rs₀ ls₀ ss₀ cs₀) where
+module _ {ks xs ys : List ℕ} {n : ℕ} {gs ms : List ℕ} {k : ℕ} {os s : List ℕ} {at m : ℕ} (r : Readable ks xs ys n gs ms k os s at m)
+    {rs₀ ls₀ ss₀ cs₀ : List ℕ} (columns : Columns m rs₀ ls₀ ss₀ cs₀) where
   abbrev p : Proof
-  p = proofIn s
+  p = proofIn s at
 
   -- what the decoder asks
-  pub may-decode : Decodes s × Columns (length p) rs₀ ls₀ ss₀ cs₀
-  may-decode = (r .decodes, subst (λ (i : ℕ). Columns i rs₀ ls₀ ss₀ cs₀) (r .nodes) columns)
+  pub may-decode : Decodes s at × (at ≤ 38) × Columns (length p) rs₀ ls₀ ss₀ cs₀
+  may-decode = (r .decodes, r .near, subst (λ (i : ℕ). Columns i rs₀ ls₀ ss₀ cs₀) (r .nodes) columns)
 
   module _ {rs ls ss cs : List ℕ} (w : NodesStored p rs₀ ls₀ ss₀ cs₀ rs ls ss cs) where
     node-room : NodeRoom rs ls ss m
@@ -142,5 +144,6 @@ module _ {ks xs ys : List ℕ} {n : ℕ} {ms : List ℕ} {k : ℕ} {s : List ℕ
         may-judge = laid r columns-long same starts-same
 
         -- and what it says is said of the proof in the file
-        pub judged-stored : {v : Verdict} → v ≡ judge (heldClaim ks xs ys n ms k) (heldProof rs′ ls′ ss′ cs m) → JudgedStored (heldClaim ks xs ys n ms k) (proofAt s) vs cs₀ v vs′ cs
-        judged-stored is = record { verdict = is ∙ sym (laid-judged r columns-long same starts-same); stored = stored }
+        pub judged-stored : {v : Verdict} → ((f : Form) → v ≡ judge (heldClaim f ks xs ys n gs ms k) (heldProof rs′ ls′ ss′ cs m os k))
+            → JudgedStored (λ f. heldClaim f ks xs ys n gs ms k) (proofAt s at os k) vs cs₀ v vs′ cs
+        judged-stored is = record { verdict = λ f. is f ∙ sym (laid-judged r columns-long same starts-same f); stored = stored }

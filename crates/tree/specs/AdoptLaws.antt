@@ -2,16 +2,14 @@
 use mathlib.Core.Path.{_≡_, sym, _∙_}
 use mathlib.Core.Bool.{Bool, true, false, false≢true}
 use mathlib.Core.List.{List}
-use Prim.Native.Nat.{ℕ, _+_, _*_, _<_, _≤_}
+use Prim.Native.Nat.{ℕ, _+_, _*_, _<_}
 use native.Mathlib.Omega.{arith}
-use lib.ListN.{length, getD, set}
+use lib.ListN.{getD, set}
 use Rattle.formula.specs.Fields.{hasFirst, hasSecond}
-use Rattle.formula.specs.PlainNodes.{proofOf, proofOf-length}
-use Rattle.calculus.specs.Steps.{owner-none}
-use Rattle.tree.specs.Owners.{unowned, Ownerless, OwnedBy, OneChild, OneParent}
+use Rattle.tree.specs.Owners.{unowned, TakenBy, OneChild, OneParent}
 use Rattle.tree.specs.OwnerLaws.{parent-of, none-fit, none-owned, first-unfit, one-fit, one-owned, two-fit, two-owned}
 
-module _ (rs ls owners : List ℕ) (n v : ℕ) (h : v < n) (O : OwnedBy rs ls n v owners) where
+module _ (roots rs ls owners : List ℕ) (n v : ℕ) (h : v < n) (O : TakenBy roots rs ls n v owners) where
   abbrev a : ℕ
   a = getD ls (4 * v + 1) 0
 
@@ -21,41 +19,34 @@ module _ (rs ls owners : List ℕ) (n v : ℕ) (h : v < n) (O : OwnedBy rs ls n 
   abbrev r : ℕ
   r = getD rs v 0
 
-  pub adopts-none : hasFirst r ≡ false → OneParent rs ls n v true owners
+  pub adopts-none : hasFirst r ≡ false → OneParent roots rs ls n v true owners
   adopts-none none = record {
-    answers = λ ss cs. sym (none-fit _ n v r a b owners (parent-of rs ls ss cs n v h) (O ss cs) none);
-    owned = λ _ ss cs. none-owned _ n v r a b owners (parent-of rs ls ss cs n v h) (O ss cs) none;
+    answers = λ ss cs. sym (none-fit roots _ n v r a b owners (parent-of rs ls ss cs n v h) (O ss cs) none);
+    taken = λ _ ss cs. none-owned roots _ n v r a b owners (parent-of rs ls ss cs n v h) (O ss cs) none;
   }
 
   module _ (one : hasFirst r ≡ true) {x : Bool} {left : List ℕ} (first : OneChild owners n v a x left) where
-    pub first-refused : x ≡ false → OneParent rs ls n v false left
+    pub first-refused : x ≡ false → OneParent roots rs ls n v false left
     first-refused bad = record {
-      answers = λ ss cs. sym (first-unfit _ n v r a b owners (parent-of rs ls ss cs n v h) (O ss cs) one (sym (first .answers) ∙ bad));
-      owned = λ e. absurd (false≢true e);
+      answers = λ ss cs. sym (first-unfit roots _ n v r a b owners (parent-of rs ls ss cs n v h) (O ss cs) one (sym (first .answers) ∙ bad));
+      taken = λ e. absurd (false≢true e);
     }
 
     module _ (good : x ≡ true) where
       abbrev fits : unowned owners n v a ≡ true
       fits = sym (first .answers) ∙ good
 
-      pub adopts-one : hasSecond r ≡ false → OneParent rs ls n v true left
+      pub adopts-one : hasSecond r ≡ false → OneParent roots rs ls n v true left
       adopts-one single = record {
-        answers = λ ss cs. sym (one-fit _ n v r a b owners (parent-of rs ls ss cs n v h) (O ss cs) one fits single);
-        owned = λ _ ss cs. rw (first .marked good) (one-owned _ n v r a b owners (parent-of rs ls ss cs n v h) (O ss cs) one fits single);
+        answers = λ ss cs. sym (one-fit roots _ n v r a b owners (parent-of rs ls ss cs n v h) (O ss cs) one fits single);
+        taken = λ _ ss cs. rw (first .marked good) (one-owned roots _ n v r a b owners (parent-of rs ls ss cs n v h) (O ss cs) one fits single);
       }
 
-      pub adopts-two : hasSecond r ≡ true → {y : Bool} {rest : List ℕ} → OneChild left n v b y rest → OneParent rs ls n v y rest
+      pub adopts-two : hasSecond r ≡ true → {y : Bool} {rest : List ℕ} → OneChild left n v b y rest → OneParent roots rs ls n v y rest
       adopts-two double {y} {rest} second = record {
-        answers = λ ss cs. unmarked ∙ sym (two-fit _ n v r a b owners (parent-of rs ls ss cs n v h) (O ss cs) one fits double);
-        owned = λ e ss cs. rw (second .marked e, first .marked good) (two-owned _ n v r a b owners (parent-of rs ls ss cs n v h) (O ss cs) one fits double (sym unmarked ∙ e));
+        answers = λ ss cs. unmarked ∙ sym (two-fit roots _ n v r a b owners (parent-of rs ls ss cs n v h) (O ss cs) one fits double);
+        taken = λ e ss cs. rw (second .marked e, first .marked good) (two-owned roots _ n v r a b owners (parent-of rs ls ss cs n v h) (O ss cs) one fits double (sym unmarked ∙ e));
       }
         where
           unmarked : y ≡ unowned (set owners a (v + 1)) n v b
           unmarked = rw (first .marked good) at (second .answers)
-
--- before the first parent
-pub none-yet : (rs ls owners : List ℕ) (n : ℕ) → n ≤ length owners → Ownerless owners n → OwnedBy rs ls n 0 owners
-none-yet rs ls owners n h e ss cs = record {
-  room = omega (arith, proofOf-length rs ls ss cs n);
-  each = λ w k. e w (omega (arith, proofOf-length rs ls ss cs n)) ∙ sym (owner-none (proofOf rs ls ss cs n) w);
-}

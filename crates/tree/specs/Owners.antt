@@ -7,6 +7,7 @@ use lib.Dec.{eqb, ltb}
 use lib.ListN.{length, getD, set}
 use Rattle.verdict.specs.Verdict.{accepted, scan}
 use Rattle.verdict.specs.Verdict as verdicts
+use Rattle.verdict.specs.Tests.{choose, member}
 use Rattle.verdict.specs.Shown.{shown}
 use Rattle.verdict.specs.declared.Verdict.{Verdict}
 use Rattle.verdict.specs.declared.Verdict.the-variants.{Accepted}
@@ -33,9 +34,21 @@ pub record Owned (p : Proof) (v : ℕ) (owners : List ℕ) : Type 0 where
   pub room : length p ≤ length owners
   pub each : (w : ℕ) → w < length p → getD owners w 0 ≡ owner p w v
 
+-- a number that no owner has stands for each root while the owners are looked for
+abbrev pub ROOT : ℕ
+ROOT = 65535
+
+-- the same with the roots marked
+pub record Taken (roots : List ℕ) (p : Proof) (v : ℕ) (owners : List ℕ) : Type 0 where
+  pub room : length p ≤ length owners
+  pub each : (w : ℕ) → w < length p → getD owners w 0 ≡ choose (member roots w) ROOT (owner p w v)
+
 -- rules and links alone say who owns whom: the sequents are any
 abbrev pub OwnedBy : List ℕ → List ℕ → ℕ → ℕ → List ℕ → Type 0
 OwnedBy rs ls n v owners = (ss cs : List ℕ) → Owned (proofOf rs ls ss cs n) v owners
+
+abbrev pub TakenBy : List ℕ → List ℕ → List ℕ → ℕ → ℕ → List ℕ → Type 0
+TakenBy roots rs ls n v owners = (ss cs : List ℕ) → Taken roots (proofOf rs ls ss cs n) v owners
 
 -- whether child w of v fits, and the table with it
 pub record OneChild (before : List ℕ) (n v w : ℕ) (answer : Bool) (after : List ℕ) : Type 0 where
@@ -43,25 +56,30 @@ pub record OneChild (before : List ℕ) (n v w : ℕ) (answer : Bool) (after : L
   pub marked : answer ≡ true → after ≡ set before w (v + 1)
 
 -- what one parent's step answers, and the table that it leaves
-pub record OneParent (rs ls : List ℕ) (n v : ℕ) (answer : Bool) (owners : List ℕ) : Type 0 where
-  pub answers : (ss cs : List ℕ) → answer ≡ children-fit (plain (proofOf rs ls ss cs n)) v
-  pub owned : answer ≡ true → OwnedBy rs ls n (v + 1) owners
+pub record OneParent (roots rs ls : List ℕ) (n v : ℕ) (answer : Bool) (owners : List ℕ) : Type 0 where
+  pub answers : (ss cs : List ℕ) → answer ≡ children-fit roots (plain (proofOf rs ls ss cs n)) v
+  pub taken : answer ≡ true → TakenBy roots rs ls n (v + 1) owners
 
 -- refusal 35: by rising parent, then by rising orphan
-abbrev pub children-judged : Proof → verdicts.Verdict
-children-judged p = scan (children-fit (plain p)) (λ _. 35) (length p) 0 accepted
+abbrev pub children-judged : List ℕ → Proof → verdicts.Verdict
+children-judged roots p = scan (children-fit roots (plain p)) (λ _. 35) (length p) 0 accepted
 
-abbrev pub orphans-judged : Proof → verdicts.Verdict
-orphans-judged p = scan (adopted (plain p)) (λ _. 35) (length p) 0 accepted
+abbrev pub orphans-judged : List ℕ → Proof → verdicts.Verdict
+orphans-judged roots p = scan (adopted roots (plain p)) (λ _. 35) (length p) 0 accepted
 
-abbrev pub tree-judged : Proof → verdicts.Verdict
-tree-judged p = scan (children-fit (plain p)) (λ _. 35) (length p) 0 (orphans-judged p)
+abbrev pub tree-judged : List ℕ → Proof → verdicts.Verdict
+tree-judged roots p = scan (children-fit roots (plain p)) (λ _. 35) (length p) 0 (orphans-judged roots p)
 
--- what a stage answers, and the table that it leaves
-pub record OwnersFilled (stage : Proof → verdicts.Verdict) (rs ls : List ℕ) (n : ℕ) (answer : Verdict) (owners : List ℕ) : Type 0 where
-  pub answers : (ss cs : List ℕ) → shown answer ≡ stage (proofOf rs ls ss cs n)
+-- what a stage answers, and the table that it leaves while the roots are marked
+pub record ChildrenTaken (stage : List ℕ → Proof → verdicts.Verdict) (roots rs ls : List ℕ) (n : ℕ) (answer : Verdict) (owners : List ℕ) : Type 0 where
+  pub answers : (ss cs : List ℕ) → shown answer ≡ stage roots (proofOf rs ls ss cs n)
+  pub taken : answer ≡ Accepted → TakenBy roots rs ls n n owners
+
+-- and of a table where roots have no owner
+pub record OwnersFilled (roots rs ls : List ℕ) (n : ℕ) (answer : Verdict) (owners : List ℕ) : Type 0 where
+  pub answers : (ss cs : List ℕ) → shown answer ≡ tree-judged roots (proofOf rs ls ss cs n)
   pub owned : answer ≡ Accepted → OwnedBy rs ls n n owners
 
--- every node below n but 0 has a parent, with a smaller number
+-- every parent of a node below n has a smaller number; a root has none
 abbrev pub Parented : List ℕ → ℕ → Type 0
-Parented owners n = (w : ℕ) → 0 < w → w < n → (0 < getD owners w 0) × (getD owners w 0 ≤ w)
+Parented owners n = (w : ℕ) → w < n → getD owners w 0 ≤ w

@@ -1,14 +1,19 @@
-// Refusal 35: every child is numbered above its parent; every node but 0 is a child once.
+// Refusal 35: every child is numbered above its parent; every node but a root is a child once, and no root is.
 ghost use mathlib.Core.Path.{_≡_};
+ghost use mathlib.Core.List.{List};
 ghost use mathlib.Core.Bool.{true};
-ghost use Prim.Native.Nat.{_+_, _<_, _≤_};
-ghost use lib.ListN.{length};
+ghost use Prim.Native.Nat.{ℕ, _<_, _≤_};
+ghost use lib.ListN.{length, take};
 ghost use Rattle.formula.specs.Nodes.{Proof};
-ghost use Rattle.tree.specs.Owners.{unowned, Columns, Ownerless, OwnedBy, OneChild, Owned, OneParent, children-judged, orphans-judged, tree-judged, OwnersFilled};
+ghost use Rattle.tree.specs.Owners.{unowned, Columns, Ownerless, OneChild, Taken, TakenBy, OneParent, children-judged, orphans-judged, tree-judged, ChildrenTaken, OwnersFilled};
+ghost use Rattle.tree.specs.Stamps.{RootsPlaced, Stamped};
 ghost use Rattle.verdict.specs.Shown.{shown};
 use bits::wide;
 use formula::Rule;
 use verdict::Verdict;
+
+// Stands for each root while the owners are looked for: no owner has this number.
+const ROOT: u16 = 65535;
 
 // Whether w is a node above v that no parent has yet.
 fn child_fits(owners: &[u16], nodes: usize, v: usize, w: usize) -> bool
@@ -38,8 +43,9 @@ fn take_child(owners: &mut [u16], nodes: usize, v: usize, w: usize) -> bool
 
 // Takes the children of v, the first before the second: a second that is the same node is used already.
 fn adopt(rules: &[u8], links: &[u16], nodes: usize, v: usize, owners: &mut [u16]) -> bool
-    requires { ⌜ Columns (now rules) (now links) nodes (now owners) × (v < nodes) × OwnedBy (now rules) (now links) nodes v (now owners) ⌝ }
-    ensures { λ r. ⌜ OneParent (now (rules .entry)) (now (links .entry)) nodes v r (now (owners .exit)) ⌝ }
+    requires { ⌜ Columns (now rules) (now links) nodes (now owners) × (v < nodes) ⌝ }
+    ensures { λ r. ⌜ ((roots : List ℕ) → TakenBy roots (now (rules .entry)) (now (links .entry)) nodes v (now (owners .entry))
+        → OneParent roots (now (rules .entry)) (now (links .entry)) nodes v r (now (owners .exit))) ⌝ }
 {
     let rule = rules[v];
     if !Rule::has_first(rule) {
@@ -56,8 +62,9 @@ fn adopt(rules: &[u8], links: &[u16], nodes: usize, v: usize, owners: &mut [u16]
 
 // The children of all nodes, by rising parent.
 fn adopt_all(rules: &[u8], links: &[u16], nodes: usize, owners: &mut [u16]) -> Verdict
-    requires { ⌜ Columns (now rules) (now links) nodes (now owners) × Ownerless (now owners) nodes ⌝ }
-    ensures { λ r. ⌜ OwnersFilled children-judged (now (rules .entry)) (now (links .entry)) nodes r (now (owners .exit)) ⌝ }
+    requires { ⌜ Columns (now rules) (now links) nodes (now owners) ⌝ }
+    ensures { λ r. ⌜ ((roots : List ℕ) → TakenBy roots (now (rules .entry)) (now (links .entry)) nodes 0 (now (owners .entry))
+        → ChildrenTaken children-judged roots (now (rules .entry)) (now (links .entry)) nodes r (now (owners .exit))) ⌝ }
 {
     let mut v: usize = 0;
     while v < nodes {
@@ -72,12 +79,12 @@ fn adopt_all(rules: &[u8], links: &[u16], nodes: usize, owners: &mut [u16]) -> V
     Verdict::Accepted
 }
 
-// Every node but 0 is a child: by rising orphan.
+// Every node is a root or a child: by rising orphan.
 fn find_orphan(owners: &[u16], nodes: usize) -> Verdict
-    requires { ⌜ (1 ≤ nodes) × (nodes ≤ 1024) × (nodes ≤ length (now owners)) ⌝ }
-    ensures { λ r. ⌜ ((p : Proof) → length p ≡ nodes → Owned p nodes (now (owners .entry)) → shown r ≡ orphans-judged p) ⌝ }
+    requires { ⌜ (nodes ≤ 1024) × (nodes ≤ length (now owners)) ⌝ }
+    ensures { λ r. ⌜ ((roots : List ℕ) (p : Proof) → length p ≡ nodes → Taken roots p nodes (now (owners .entry)) → shown r ≡ orphans-judged roots p) ⌝ }
 {
-    let mut node: usize = 1;
+    let mut node: usize = 0;
     while node < nodes {
         if owners[node] == 0 {
             return Verdict::Refused {
@@ -90,13 +97,44 @@ fn find_orphan(owners: &[u16], nodes: usize) -> Verdict
     Verdict::Accepted
 }
 
-// Refusal 35, and the table of owners, one more than the number of each node's parent, in a table of zeros.
-pub fn fill_owners(rules: &[u8], links: &[u16], nodes: usize, owners: &mut [u16]) -> Verdict
-    requires { ⌜ (1 ≤ nodes) × Columns (now rules) (now links) nodes (now owners) × Ownerless (now owners) nodes ⌝ }
-    ensures { λ r. ⌜ OwnersFilled tree-judged (now (rules .entry)) (now (links .entry)) nodes r (now (owners .exit)) ⌝ }
+// The children, then the orphans, in a table where the roots are marked.
+fn take_all(rules: &[u8], links: &[u16], nodes: usize, owners: &mut [u16]) -> Verdict
+    requires { ⌜ Columns (now rules) (now links) nodes (now owners) ⌝ }
+    ensures { λ r. ⌜ ((roots : List ℕ) → TakenBy roots (now (rules .entry)) (now (links .entry)) nodes 0 (now (owners .entry))
+        → ChildrenTaken tree-judged roots (now (rules .entry)) (now (links .entry)) nodes r (now (owners .exit))) ⌝ }
 {
     match adopt_all(rules, links, nodes, owners) {
         Verdict::Accepted => find_orphan(owners, nodes),
         Verdict::Refused { number, place } => Verdict::Refused { number, place },
     }
+}
+
+// Writes one number at each root.
+fn stamp(owners: &mut [u16], nodes: usize, roots: &[u16; 16], goals: usize, number: u16)
+    requires { ⌜ RootsPlaced (now roots) goals nodes × (nodes ≤ 1024) × (nodes ≤ length (now owners)) ⌝ }
+    ensures { λ r. ⌜ Stamped (now (roots .entry)) goals number (now (owners .entry)) (now (owners .exit)) ⌝ }
+{
+    let mut i: usize = 0;
+    while i < goals {
+        owners[wide(roots[i])] = number;
+        i += 1;
+    }
+}
+
+// Refusal 35, and the table of owners, one more than the number of each node's parent and 0 for a root, in a table of zeros.
+pub fn fill_owners(
+    rules: &[u8],
+    links: &[u16],
+    nodes: usize,
+    roots: &[u16; 16],
+    goals: usize,
+    owners: &mut [u16],
+) -> Verdict
+    requires { ⌜ Columns (now rules) (now links) nodes (now owners) × RootsPlaced (now roots) goals nodes × Ownerless (now owners) nodes ⌝ }
+    ensures { λ r. ⌜ OwnersFilled (take goals (now (roots .entry))) (now (rules .entry)) (now (links .entry)) nodes r (now (owners .exit)) ⌝ }
+{
+    stamp(owners, nodes, roots, goals, ROOT);
+    let found = take_all(rules, links, nodes, owners);
+    stamp(owners, nodes, roots, goals, 0);
+    found
 }

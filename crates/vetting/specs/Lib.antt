@@ -4,5 +4,7 @@ pub mod StepLaws
 pub mod WalkLaws
 pub mod CountLaws
 pub mod KindTests
+pub mod GoalWalk
 pub mod NodeWalk
+pub mod RootLaws
 pub mod Columns

@@ -23,16 +23,16 @@ abbrev pub codesFrom : List ℕ → List ℕ → ℕ → ℕ → List ℕ
 codesFrom ns cs v start = take (getD ns v 0) (drop start cs)
 
 -- the nodes from v on are left, their codes from a start on, at a place
-pub record NodesLeft (t : Table) (rs ls ns cs : List ℕ) (n v start at : ℕ) : Type 0 where
+pub record NodesLeft (t : Table) (rs ls ns cs : List ℕ) (n from v start at : ℕ) : Type 0 where
   pub few : start ≤ 24 * v
-  pub near : at ≤ 6 + 57 * v
-  pub left : nodesEnd t (recordsOf rs ls ns n) cs 6 ≡ nodesEnd t (valuesFrom (plainRecord rs ls ns) v (n - v)) (drop start cs) at
+  pub near : at ≤ from + 57 * v
+  pub left : nodesEnd t (recordsOf rs ls ns n) cs from ≡ nodesEnd t (valuesFrom (plainRecord rs ls ns) v (n - v)) (drop start cs) at
 
-pub nodes-begin : (t : Table) (rs ls ns cs : List ℕ) (n : ℕ) → NodesLeft t rs ls ns cs n 0 0 6
-nodes-begin t rs ls ns cs n = record { few = omega arith; near = omega arith; left = let z : n - 0 ≡ n = omega arith in rw z refl }
+pub nodes-begin : (t : Table) (rs ls ns cs : List ℕ) (n from : ℕ) → NodesLeft t rs ls ns cs n from 0 0 from
+nodes-begin t rs ls ns cs n from = record { few = omega arith; near = omega arith; left = let z : n - 0 ≡ n = omega arith in rw z refl }
 
-module _ {t : Table} {rs ls ns cs : List ℕ} {n v start at : ℕ} (h : NodesLeft t rs ls ns cs n v start at) where
-  pub nodes-end : n ≤ v → nodesEnd t (recordsOf rs ls ns n) cs 6 ≡ next at
+module _ {t : Table} {rs ls ns cs : List ℕ} {n from v start at : ℕ} (h : NodesLeft t rs ls ns cs n from v start at) where
+  pub nodes-end : n ≤ v → nodesEnd t (recordsOf rs ls ns n) cs from ≡ next at
   unfolding nodesEnd
   nodes-end k = h .left ∙ rw (values-none (plainRecord rs ls ns) v n k) refl
 
@@ -41,11 +41,11 @@ module _ {t : Table} {rs ls ns cs : List ℕ} {n v start at : ℕ} (h : NodesLef
   ends = nodeEnd t (plainRecord rs ls ns v) (codesFrom ns cs v start) at
 
   module _ (k : v < n) where
-    pub nodes-stop : {m q : ℕ} → ends ≡ stop m q → nodesEnd t (recordsOf rs ls ns n) cs 6 ≡ stop m q
+    pub nodes-stop : {m q : ℕ} → ends ≡ stop m q → nodesEnd t (recordsOf rs ls ns n) cs from ≡ stop m q
     unfolding nodesEnd
     nodes-stop e = h .left ∙ rw (values-cons (plainRecord rs ls ns) v n k, e) refl
 
-    pub nodes-on : {o : ℕ} → 24 * n ≤ length cs → ends ≡ next o → NodesLeft t rs ls ns cs n (v + 1) (start + getD ns v 0) o
+    pub nodes-on : {o : ℕ} → 24 * n ≤ length cs → ends ≡ next o → NodesLeft t rs ls ns cs n from (v + 1) (start + getD ns v 0) o
     unfolding nodesEnd
     nodes-on {o} room e =
         let (past, few, near) = node-past t (plainRecord rs ls ns v) (codesFrom ns cs v start) (λ f. part-long cs start (getD ns v 0) (omega (arith, h .few))) at o e in
@@ -56,11 +56,11 @@ module _ {t : Table} {rs ls ns cs : List ℕ} {n v start at : ℕ} (h : NodesLef
         }
 
     -- the rule and the links are judged before the sequent
-    pub rule-unfit : Rule.BACK < getD rs v 0 → nodesEnd t (recordsOf rs ls ns n) cs 6 ≡ stop 33 at
+    pub rule-unfit : Rule.BACK < getD rs v 0 → nodesEnd t (recordsOf rs ls ns n) cs from ≡ stop 33 at
     rule-unfit b = nodes-stop (rw (lt-leb (getD rs v 0) Rule.BACK b) refl)
 
     module _ (b : getD rs v 0 ≤ Rule.BACK) where
-      pub links-unfit : linksHeld (recordAt (getD rs v 0) ls v 0) ≡ false → nodesEnd t (recordsOf rs ls ns n) cs 6 ≡ stop 33 at
+      pub links-unfit : linksHeld (recordAt (getD rs v 0) ls v 0) ≡ false → nodesEnd t (recordsOf rs ls ns n) cs from ≡ stop 33 at
       links-unfit e = nodes-stop (rw (le-leb (getD rs v 0) Rule.BACK b, e) refl)
 
       pub node-fits : linksHeld (recordAt (getD rs v 0) ls v 0) ≡ true → ends ≡ sequentEnd t (getD ns v 0) (codesFrom ns cs v start) (at + 2 + linkWidth (getD rs v 0))

@@ -2,16 +2,18 @@
 use mathlib.Core.Path.{_≡_, refl, sym, _∙_}
 use mathlib.Core.List.{List, [], _∷_}
 use mathlib.Core.Bool.{Bool, true, false}
-use Prim.Native.Nat.{ℕ, suc, _+_, _*_, _-_, _<_, _≤_}
+use Prim.Native.Nat.{ℕ, zero, suc, _+_, _*_, _-_, _<_, _≤_}
 use native.Mathlib.Omega.{arith}
+use lib.Dec.{leb}
 use lib.ListN.{length, getD, take, drop, length-drop}
 use lib.Seq.{drop-cons, drop-length, length-take-le, getD-take, getD-drop}
 use Rattle.verdict.specs.Lists.{valuesFrom}
+use Rattle.verdict.specs.Tells.{tells-self, and-tells}
 use Rattle.formula.specs.Plain.{plainEntry, tableOf}
 use Rattle.encoding.specs.Parse.{fits-from}
-use Rattle.writing.specs.Ends.{next, stop, walk}
+use Rattle.writing.specs.Ends.{next, stop, walk, passed, went}
 use Rattle.writing.specs.FieldEnds.{risesEnd, risingEnd}
-use Rattle.writing.specs.ClaimEnds.{entryFits, entryWidth, entryEnd, entriesEnd}
+use Rattle.writing.specs.EntryEnds.{entryFits, entryWidth, entryEnd, entriesEnd}
 
 pub values-cons : {A : Type 0} (f : ℕ → A) (i n : ℕ) → i < n → valuesFrom f i (n - i) ≡ f i ∷ valuesFrom f (i + 1) (n - (i + 1))
 unfolding valuesFrom
@@ -70,6 +72,19 @@ module _ {ok : ℕ → Bool} {k : ℕ} {l : List ℕ} {at i floor : ℕ} (h : Ri
         let q : x + 1 ≡ suc x = omega arith in
         let o : at + 2 * suc i ≡ at + 2 * i + 2 = omega arith in
         record { left = h .left ∙ rw (p, q, o, drop-cons l i 0 b, ← read, f) refl }
+
+-- each of numbers that were walked over to the end passed the test
+pub rising-passed : (ok : ℕ → Bool) (k : ℕ) (l : List ℕ) (c at : ℕ) {o : ℕ} → walk (risesEnd ok k) (λ _ x. suc x) c l at ≡ next o → (i : ℕ) → i < length l → ok (getD l i 0) ≡ true
+unfolding walk
+rising-passed ok k [] c at h i b = absurd (omega arith)
+rising-passed ok k (x ∷ l) c at h i b =
+    let w = went (risesEnd ok k c x at) (λ u. walk (risesEnd ok k) (λ _ y. suc y) (suc x) l u) h in
+    let (fit, _) = passed (fits-from ok c x) (next (at + 2)) k at (w .first) in
+    go (and-tells (tells-self (leb c x)) (tells-self (ok x)) .says fit .1) (rising-passed ok k l (suc x) (w .place) (w .then)) i b
+  where
+    go : ok x ≡ true → ((j : ℕ) → j < length l → ok (getD l j 0) ≡ true) → (i : ℕ) → i < suc (length l) → ok (getD (x ∷ l) i 0) ≡ true
+    go here rest zero b = here
+    go here rest (suc j) b = rest j (omega arith)
 
 -- so many numbers of a list, from a start on
 module _ (l : List ℕ) (start n : ℕ) (room : start + n ≤ length l) where

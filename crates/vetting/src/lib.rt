@@ -1,23 +1,32 @@
-// Records in columns of plain numbers, judged as the reader would judge the file that they make: the first fault in the order of its bytes,
-// then 20, 71 and 21 to 23 of a claim, 35 of a proof. Nothing is written.
+// Records in columns of plain numbers, judged as the reader would judge the file of their form that they make: the first fault in the order of
+// its bytes, then 20, 71 and 21 to 23 of a claim, 35 of a proof. Nothing is written.
 ghost use mathlib.Core.Path.{_≡_};
 ghost use mathlib.Core.List.{List};
+ghost use mathlib.Core.Bool.{true};
 ghost use Prim.Native.Nat.{ℕ, _+_, _*_, _<_, _≤_};
 ghost use lib.ListN.{length, take, drop};
+ghost use lib.Seq.{paste};
 ghost use Rattle.verdict.specs.Shown.{shown};
 ghost use Rattle.formula.specs.Plain.{tableOf};
 ghost use Rattle.formula.specs.PlainNodes.{proofOf};
-ghost use Rattle.proof_files.specs.ReadProof.{isCode};
+ghost use Rattle.formula.specs.Claim.{Form, clm1, clm2, formNumber};
+ghost use Rattle.claim_files.specs.ClaimFile.{GoalCount};
+ghost use Rattle.proof_files.specs.ReadProof.{isCode, isNode};
 ghost use Rattle.proof_files.specs.ProofParts.{kindTable};
+ghost use Rattle.proofs.specs.NamedForm.{namedForm};
 ghost use Rattle.tree.specs.Owners.{tree-judged};
 ghost use Rattle.writing.specs.Ends as ends;
 ghost use Rattle.writing.specs.FieldEnds.{mayHold, risingEnd};
-ghost use Rattle.writing.specs.ClaimEnds.{entryFits, entryWidth, entriesEnd, membersEnd, listedEnd, claimEnd};
+ghost use Rattle.writing.specs.Goals.{total, rootsFit, rootsOf};
+ghost use Rattle.writing.specs.EntryEnds.{entryFits, entryWidth, entriesEnd};
+ghost use Rattle.writing.specs.GoalEnds.{membersEnd, listedEnd, listsEnd, goalsEnd};
+ghost use Rattle.writing.specs.ClaimEnds.{claimEnd};
 ghost use Rattle.writing.specs.NodeEnds.{linksHeld, sequentEnd};
-ghost use Rattle.writing.specs.ProofEnds.{nodesEnd};
+ghost use Rattle.writing.specs.ProofEnds.{nodesEnd, rootsEnd, proofEnd};
+ghost use Rattle.writing.specs.Encoded.{claimJudged, proofJudged};
 ghost use Rattle.writing.specs.Held.{recordsOf, NodesGiven};
 ghost use Rattle.vetting.specs.Steps.{shownStep, Finds, recordAt};
-ghost use Rattle.writing.specs.Encoded.{claimJudged, proofJudged};
+ghost use Rattle.vetting.specs.RootLaws.{RootsFound};
 use bits::wide;
 use claim_files::ClaimFault;
 use claim_members::may_follow;
@@ -107,47 +116,130 @@ fn judge_entries(kinds: &[u8; 256], a: &[u16; 256], b: &[u16; 256], count: usize
     Step::Next(at)
 }
 
-// Members rise strictly, lie in range and are no names.
-fn judge_members(kinds: &[u8; 256], count: usize, members: &[u16], at: usize) -> Step
-    requires { ⌜ (count ≤ 256) × (length (now members) ≤ 24) × (at ≤ 1544) ⌝ }
-    ensures { λ r. ⌜ Finds (membersEnd (kindTable (now (kinds .entry)) count) (now (members .entry)) at) 1592 r ⌝ }
+// So many members from a start on: they rise strictly, lie in range and are no names.
+fn judge_members(
+    kinds: &[u8; 256],
+    count: usize,
+    members: &[u16],
+    start: usize,
+    listed: usize,
+    at: usize,
+) -> Step
+    requires { ⌜ (count ≤ 256) × (start + listed ≤ length (now members)) × (listed ≤ 24) × (at ≤ 2296) ⌝ }
+    ensures { λ r. ⌜ Finds (membersEnd (kindTable (now (kinds .entry)) count) (take listed (drop start (now (members .entry)))) at) (at + 48) r ⌝ }
 {
     let mut floor: usize = 0;
     let mut i: usize = 0;
-    while i < members.len() {
-        let member = wide(members[i]);
+    while i < listed {
+        let member = wide(members[start + i]);
         if !may_follow(kinds, count, floor, member) {
             return stop(ClaimFault::MEMBER, at + 2 * i);
         }
         floor = member + 1;
         i += 1;
     }
-    Step::Next(at + 2 * members.len())
+    Step::Next(at + 2 * listed)
 }
 
-// The member count (1 to 24), then the members.
-fn judge_listed(kinds: &[u8; 256], count: usize, members: &[u16], at: usize) -> Step
-    requires { ⌜ (count ≤ 256) × (at ≤ 1542) ⌝ }
-    ensures { λ r. ⌜ Finds (listedEnd (kindTable (now (kinds .entry)) count) (now (members .entry)) at) 1592 r ⌝ }
+// The member count (1 to 24) of a goal, then its members.
+fn judge_listed(
+    kinds: &[u8; 256],
+    count: usize,
+    members: &[u16],
+    start: usize,
+    listed: usize,
+    at: usize,
+) -> Step
+    requires { ⌜ (count ≤ 256) × (start + listed ≤ length (now members)) × (at ≤ 2294) ⌝ }
+    ensures { λ r. ⌜ Finds (listedEnd (kindTable (now (kinds .entry)) count) listed (take listed (drop start (now (members .entry)))) at) (at + 50) r ⌝ }
 {
-    if members.len() < 1 {
+    if listed < 1 {
         return stop(ClaimFault::COUNT, at);
     }
-    if 24 < members.len() {
+    if 24 < listed {
         return stop(ClaimFault::COUNT, at);
     }
-    judge_members(kinds, count, members, at + 2)
+    judge_members(kinds, count, members, start, listed, at + 2)
 }
 
-// What the bytes of a claim would earn: its entry count (1 to 256), the entries, the members.
+// The goals one after another, by their sizes, which add up to the members.
+fn judge_lists(kinds: &[u8; 256], count: usize, sizes: &[u16], members: &[u16], from: usize) -> Step
+    requires { ⌜ (count ≤ 256) × (length (now sizes) ≤ 16) × (total (now sizes) ≤ length (now members)) × (from ≤ 1544) ⌝ }
+    ensures { λ r. ⌜ Finds (listsEnd (kindTable (now (kinds .entry)) count) (now (sizes .entry)) (now (members .entry)) from)
+        (from + 50 * length (now (sizes .entry))) r ⌝ }
+{
+    let mut at = from;
+    let mut start: usize = 0;
+    let mut i: usize = 0;
+    while i < sizes.len() {
+        let listed = wide(sizes[i]);
+        match judge_listed(kinds, count, members, start, listed, at) {
+            Step::Stop { number, place } => return Step::Stop { number, place },
+            Step::Next(next) => at = next,
+        }
+        start += listed;
+        i += 1;
+    }
+    Step::Next(at)
+}
+
+// What the sizes of at most 16 goals add up to: a sum of numbers, which two bytes may not hold.
+fn total(sizes: &[u16]) -> usize
+    requires { ⌜ length (now sizes) ≤ 16 ⌝ }
+    ensures { λ r. ⌜ r ≡ total (now (sizes .entry)) ⌝ }
+{
+    let mut sum: usize = 0;
+    let mut i: usize = 0;
+    while i < sizes.len() {
+        sum += wide(sizes[i]);
+        i += 1;
+    }
+    sum
+}
+
+// CLM1: one goal, whose size is the number of members. A refusal stands where CLM2 has its goal count.
+fn judge_goal(kinds: &[u8; 256], count: usize, sizes: &[u16], members: &[u16], at: usize) -> Step
+    requires { ⌜ (count ≤ 256) × (at ≤ 1542) ⌝ }
+    ensures { λ r. ⌜ Finds (goalsEnd clm1 (kindTable (now (kinds .entry)) count) (now (sizes .entry)) (now (members .entry)) at) 1592 r ⌝ }
+{
+    if sizes.len() != 1 {
+        return stop(ClaimFault::COUNT, at);
+    }
+    if wide(sizes[0]) != members.len() {
+        return stop(ClaimFault::COUNT, at);
+    }
+    judge_listed(kinds, count, members, 0, members.len(), at)
+}
+
+// CLM2: the goal count (1 to 16, 72), sizes that add up to the members (12), then the goals.
+fn judge_goals(kinds: &[u8; 256], count: usize, sizes: &[u16], members: &[u16], at: usize) -> Step
+    requires { ⌜ (count ≤ 256) × (at ≤ 1542) ⌝ }
+    ensures { λ r. ⌜ Finds (goalsEnd clm2 (kindTable (now (kinds .entry)) count) (now (sizes .entry)) (now (members .entry)) at) 2344 r ⌝ }
+{
+    if sizes.len() < 1 {
+        return stop(ClaimFault::GOALS, at);
+    }
+    if 16 < sizes.len() {
+        return stop(ClaimFault::GOALS, at);
+    }
+    if total(sizes) != members.len() {
+        return stop(ClaimFault::COUNT, at);
+    }
+    judge_lists(kinds, count, sizes, members, at + 2)
+}
+
+// What the bytes of a claim would earn: its entry count (1 to 256), the entries, the goals.
 fn judge_claim_bytes(
+    form: u8,
     kinds: &[u8; 256],
     a: &[u16; 256],
     b: &[u16; 256],
     count: usize,
+    sizes: &[u16],
     members: &[u16],
 ) -> Step
-    ensures { λ r. ⌜ Finds (claimEnd count (tableOf (now (kinds .entry)) (now (a .entry)) (now (b .entry)) count) (now (members .entry))) 1592 r ⌝ }
+    ensures { λ r. ⌜ Finds (claimEnd (namedForm form) count (tableOf (now (kinds .entry)) (now (a .entry)) (now (b .entry)) count) (now (sizes .entry))
+        (now (members .entry))) 2344 r ⌝ }
 {
     if count < 1 {
         return stop(ClaimFault::COUNT, 4);
@@ -157,21 +249,29 @@ fn judge_claim_bytes(
     }
     match judge_entries(kinds, a, b, count) {
         Step::Stop { number, place } => Step::Stop { number, place },
-        Step::Next(at) => judge_listed(kinds, count, members, at),
+        Step::Next(at) => {
+            if form == formula::Form::CLM2 {
+                return judge_goals(kinds, count, sizes, members, at);
+            }
+            judge_goal(kinds, count, sizes, members, at)
+        }
     }
 }
 
-// A claim's records: 12 to 14, then 20, 71 and 21 to 23 over the table.
+// A claim's records: 12 to 14 and 72, then 20, 71 and 21 to 23 over the table.
 pub fn judge_claim(
+    form: u8,
     kinds: &[u8; 256],
     a: &[u16; 256],
     b: &[u16; 256],
     count: usize,
+    sizes: &[u16],
     members: &[u16],
 ) -> Step
-    ensures { λ r. ⌜ Finds (claimJudged count (tableOf (now (kinds .entry)) (now (a .entry)) (now (b .entry)) count) (now (members .entry))) 1592 r ⌝ }
+    ensures { λ r. ⌜ ((f : Form) → form ≡ formNumber f → Finds (claimJudged f count (tableOf (now (kinds .entry)) (now (a .entry)) (now (b .entry)) count)
+        (now (sizes .entry)) (now (members .entry))) 2344 r) ⌝ }
 {
-    match judge_claim_bytes(kinds, a, b, count, members) {
+    match judge_claim_bytes(form, kinds, a, b, count, sizes, members) {
         Step::Stop { number, place } => Step::Stop { number, place },
         Step::Next(end) => {
             match judge(kinds, a, b, count) {
@@ -208,7 +308,7 @@ fn judge_codes(
     count: usize,
     at: usize,
 ) -> Step
-    requires { ⌜ (entries ≤ 256) × (start + count ≤ length (now codes)) × (count ≤ 24) × (at ≤ 58383) ⌝ }
+    requires { ⌜ (entries ≤ 256) × (start + count ≤ length (now codes)) × (count ≤ 24) × (at ≤ 58415) ⌝ }
     ensures { λ r. ⌜ Finds (risingEnd (isCode (kindTable (now (kinds .entry)) entries)) 34 (take count (drop start (now (codes .entry)))) at) (at + 48) r ⌝ }
 {
     let mut least: usize = 0;
@@ -237,7 +337,7 @@ fn judge_sequent(
     count: usize,
     at: usize,
 ) -> Step
-    requires { ⌜ (entries ≤ 256) × (start + 24 ≤ length (now codes)) × (at ≤ 58382) ⌝ }
+    requires { ⌜ (entries ≤ 256) × (start + 24 ≤ length (now codes)) × (at ≤ 58414) ⌝ }
     ensures { λ r. ⌜ Finds (sequentEnd (kindTable (now (kinds .entry)) entries) count (take count (drop start (now (codes .entry)))) at) (at + 49) r ⌝ }
 {
     if count < 1 {
@@ -249,8 +349,46 @@ fn judge_sequent(
     judge_codes(kinds, entries, codes, start, count, at + 1)
 }
 
-// From the place after the count on: an unfit node is refused where its map would stand. A node's codes follow those of the nodes before
-// it; a count is added up only once it is known to be at most 24.
+// Roots rise strictly, and each is a node.
+fn judge_roots(roots: &[u16], nodes: usize) -> Step
+    requires { ⌜ length (now roots) ≤ 16 ⌝ }
+    ensures { λ r. ⌜ Finds (risingEnd (isNode nodes) 34 (now (roots .entry)) 6) 38 r ⌝ }
+{
+    let mut least: usize = 0;
+    let mut i: usize = 0;
+    while i < roots.len() {
+        let root = wide(roots[i]);
+        if root < least {
+            return stop(ProofFault::CODE, 6 + 2 * i);
+        }
+        if nodes <= root {
+            return stop(ProofFault::CODE, 6 + 2 * i);
+        }
+        least = root + 1;
+        i += 1;
+    }
+    Step::Next(6 + 2 * i)
+}
+
+// As many roots as goals; PRF1 is given none. The place after them.
+fn judge_rooted(form: u8, goals: usize, roots: &[u16], nodes: usize) -> Step
+    requires { ⌜ goals ≤ 16 ⌝ }
+    ensures { λ r. ⌜ Finds (rootsEnd (namedForm form) goals nodes (now (roots .entry)) 6) 38 r ⌝ }
+{
+    if form == formula::Form::CLM2 {
+        if roots.len() != goals {
+            return stop(ProofFault::CODE, 6);
+        }
+        return judge_roots(roots, nodes);
+    }
+    if roots.len() != 0 {
+        return stop(ProofFault::CODE, 6);
+    }
+    Step::Next(6)
+}
+
+// From a place on: an unfit node is refused where its map would stand. A node's codes follow those of the nodes before it; a count is added
+// up only once it is known to be at most 24.
 fn judge_nodes(
     kinds: &[u8; 256],
     entries: usize,
@@ -259,12 +397,13 @@ fn judge_nodes(
     counts: &[u16],
     codes: &[u16],
     nodes: usize,
+    from: usize,
 ) -> Step
-    requires { ⌜ (entries ≤ 256) × NodesGiven (now rules) (now links) (now counts) (now codes) nodes ⌝ }
+    requires { ⌜ (entries ≤ 256) × NodesGiven (now rules) (now links) (now counts) (now codes) nodes × (from ≤ 38) ⌝ }
     ensures { λ r. ⌜ Finds (nodesEnd (kindTable (now (kinds .entry)) entries) (recordsOf (now (rules .entry)) (now (links .entry)) (now (counts .entry)) nodes)
-        (now (codes .entry)) 6) 58374 r ⌝ }
+        (now (codes .entry)) from) 58406 r ⌝ }
 {
-    let mut at: usize = 6;
+    let mut at = from;
     let mut start: usize = 0;
     let mut v: usize = 0;
     while v < nodes {
@@ -287,28 +426,22 @@ fn judge_nodes(
     Step::Next(at)
 }
 
-// 35, in a table of owners of its own.
-fn judge_tree(rules: &[u8], links: &[u16], nodes: usize) -> Verdict
-    requires { ⌜ (1 ≤ nodes) × (nodes ≤ 1024) × (nodes ≤ length (now rules)) × (4 * nodes ≤ length (now links)) ⌝ }
-    ensures { λ r. ⌜ ((ss cs : List ℕ) → shown r ≡ tree-judged (proofOf (now (rules .entry)) (now (links .entry)) ss cs nodes)) ⌝ }
-{
-    let mut owners = [0u16; 1024];
-    fill_owners(rules, links, nodes, &mut owners)
-}
-
-// A proof's records over a claim whose records have passed: 32 to 34, then 35.
-pub fn judge_proof(
+// What the bytes of a proof would earn: its node count (1 to 1,024), the roots, the nodes.
+fn judge_proof_bytes(
+    form: u8,
+    goals: usize,
     kinds: &[u8; 256],
     entries: usize,
+    roots: &[u16],
     rules: &[u8],
     links: &[u16],
     counts: &[u16],
     codes: &[u16],
     nodes: usize,
 ) -> Step
-    requires { ⌜ (entries ≤ 256) × (nodes ≤ 1024 → NodesGiven (now rules) (now links) (now counts) (now codes) nodes) × (24576 ≤ length (now codes)) ⌝ }
-    ensures { λ r. ⌜ Finds (proofJudged (kindTable (now (kinds .entry)) entries) nodes (recordsOf (now (rules .entry)) (now (links .entry))
-        (now (counts .entry)) nodes) (now (codes .entry))) 58374 r ⌝ }
+    requires { ⌜ (entries ≤ 256) × (goals ≤ 16) × (nodes ≤ 1024 → NodesGiven (now rules) (now links) (now counts) (now codes) nodes) ⌝ }
+    ensures { λ r. ⌜ Finds (proofEnd (namedForm form) goals (kindTable (now (kinds .entry)) entries) nodes (now (roots .entry))
+        (recordsOf (now (rules .entry)) (now (links .entry)) (now (counts .entry)) nodes) (now (codes .entry))) 58406 r ⌝ }
 {
     if nodes < 1 {
         return stop(ProofFault::COUNT, 4);
@@ -316,10 +449,69 @@ pub fn judge_proof(
     if 1024 < nodes {
         return stop(ProofFault::COUNT, 4);
     }
-    match judge_nodes(kinds, entries, rules, links, counts, codes, nodes) {
+    match judge_rooted(form, goals, roots, nodes) {
+        Step::Stop { number, place } => Step::Stop { number, place },
+        Step::Next(at) => judge_nodes(kinds, entries, rules, links, counts, codes, nodes, at),
+    }
+}
+
+// The roots, from the first place of an array on.
+fn copy_roots(roots: &[u16], into: &mut [u16; 16])
+    requires { ⌜ (length (now roots) ≤ 16) × (length (now into) ≡ 16) ⌝ }
+    ensures { λ r. ⌜ now (into .exit) ≡ paste (now (into .entry)) 0 (now (roots .entry)) (length (now (roots .entry))) ⌝ }
+{
+    let mut i: usize = 0;
+    while i < roots.len() {
+        into[i] = roots[i];
+        i += 1;
+    }
+}
+
+// 35, in a table of owners of its own. Where no roots are given, node 0 is the root of the one goal.
+fn judge_tree(rules: &[u8], links: &[u16], nodes: usize, goals: usize, roots: &[u16]) -> Verdict
+    requires { ⌜ (1 ≤ nodes) × (nodes ≤ 1024) × (nodes ≤ length (now rules)) × (4 * nodes ≤ length (now links)) × (goals ≤ 16) × RootsFound (now roots) nodes ⌝ }
+    ensures { λ r. ⌜ ((f : Form) → GoalCount f goals → rootsFit f goals (now (roots .entry)) ≡ true → (ss cs : List ℕ)
+        → shown r ≡ tree-judged (rootsOf f (now (roots .entry))) (proofOf (now (rules .entry)) (now (links .entry)) ss cs nodes)) ⌝ }
+{
+    let mut rooted = [0u16; 16];
+    copy_roots(roots, &mut rooted);
+    let mut owners = [0u16; 1024];
+    fill_owners(rules, links, nodes, &rooted, goals, &mut owners)
+}
+
+// A proof's records over a claim whose records have passed: 32 to 34, then 35.
+pub fn judge_proof(
+    form: u8,
+    goals: usize,
+    kinds: &[u8; 256],
+    entries: usize,
+    roots: &[u16],
+    rules: &[u8],
+    links: &[u16],
+    counts: &[u16],
+    codes: &[u16],
+    nodes: usize,
+) -> Step
+    requires { ⌜ (entries ≤ 256) × (goals ≤ 16) × ((f : Form) → form ≡ formNumber f → GoalCount f goals) ⌝ }
+    requires { ⌜ (nodes ≤ 1024 → NodesGiven (now rules) (now links) (now counts) (now codes) nodes) ⌝ }
+    ensures { λ r. ⌜ ((f : Form) → form ≡ formNumber f → Finds (proofJudged f goals (kindTable (now (kinds .entry)) entries) nodes (now (roots .entry))
+        (recordsOf (now (rules .entry)) (now (links .entry)) (now (counts .entry)) nodes) (now (codes .entry))) 58406 r) ⌝ }
+{
+    match judge_proof_bytes(
+        form,
+        goals,
+        kinds,
+        entries,
+        roots,
+        rules,
+        links,
+        counts,
+        codes,
+        nodes,
+    ) {
         Step::Stop { number, place } => Step::Stop { number, place },
         Step::Next(end) => {
-            match judge_tree(rules, links, nodes) {
+            match judge_tree(rules, links, nodes, goals, roots) {
                 Verdict::Refused { number, place } => Step::Stop { number, place },
                 Verdict::Accepted => Step::Next(end),
             }

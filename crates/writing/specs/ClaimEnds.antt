@@ -1,249 +1,117 @@
 -- the file that a claim's records make, read: where the walk over the records ends, or the refusal
 use mathlib.Core.Path.{_≡_, refl, sym, ap, _∙_}
-use mathlib.Core.List.{List, [], _++_, append-assoc, append-nil}
-use mathlib.Core.Bool.{Bool, true, false, not, _&&_, _||_, false≢true}
-use Prim.Native.Nat.{ℕ, suc, _+_, _≤_}
+use mathlib.Core.List.{List, [], _++_, append-nil}
+use mathlib.Core.Bool.{true}
+use Prim.Native.Nat.{ℕ, _+_, _*_, _≤_}
 use native.Mathlib.Omega.{arith}
-use lib.Dec.{eqb, leb}
 use lib.ListN.{length, length-append}
-use Rattle.verdict.specs.Tells.{Tells, and-tells}
-use Rattle.verdict.specs.Tests.{choose}
-use Rattle.bits.specs.IfSet.{ifSet}
-use Rattle.formula.specs.Kind
-use Rattle.formula.specs.Table.{Entry, Table}
-use Rattle.formula.specs.Spelled.{Spelled, aStands, bStands, recordsOf}
-use Rattle.formula.specs.Claim.{SpelledClaim}
-use Rattle.formula.specs.Fields.{hasA, hasB, isModal, mapOf}
-use Rattle.formula.specs.Members.{isFormula}
-use Rattle.encoding.specs.Encode.{encodeTwo, encodeField, encodeAll}
+use Rattle.verdict.specs.Lists.{Each}
+use Rattle.formula.specs.Table.{Table}
+use Rattle.formula.specs.Spelled.{Spelled}
+use Rattle.formula.specs.Claim.{Form, clm1, clm2, SpelledClaim}
+use Rattle.encoding.specs.Encode.{encodeAll}
 use Rattle.encoding.specs.File.{Reading, ending}
-use Rattle.encoding.specs.Parse.{Got, fault, got, pick, bind, guard, via, two, count, in-range, fits-from, times}
-use Rattle.encoding.specs.Opening.{opens}
-use Rattle.encoding.specs.Walk.{file-opens}
-use Rattle.claim_files.specs.ClaimFile.{claimOpening, encodeEntry}
-use Rattle.claim_files.specs.ReadClaim.{early, kind-fits, fields, made, entry, entries, members, claimOf, body, readClaim}
-use Rattle.writing.specs.RecordBytes.{stands, clipped, entryBytes, claimBytes}
-use Rattle.writing.specs.Spelling.{mapFor, spelledAs, spellingOf, spelledClaim, modal-fields, bits-stand, records-spelled}
-use Rattle.writing.specs.Ends.{End, next, stop, goOn, walk, gotBy, readBy, stop-not-next, passed, went, next-same, Meets, times-walk, walk-past}
-use Rattle.writing.specs.FieldEnds.{field-meets, field-long, mayHold, held-stands, stands-held, itself, countEnd, in-range-tells, count-meets, risingEnd, rising-met, rising-past}
+use Rattle.encoding.specs.Parse.{Got, got, pick, bind}
+use Rattle.claim_files.specs.ClaimFile.{claimOpening, encodeGoalCount, GoalCount}
+use Rattle.claim_files.specs.ReadClaim.{early, goals, claimOf, body, readForm, readClaim}
+use Rattle.claim_files.specs.ClaimExact.{form-opens, read-in}
+use Rattle.writing.specs.RecordBytes.{clipped, tableBytes, memberBytes, goalBytes, claimBytes, claimHead, split}
+use Rattle.writing.specs.Goals.{goalsFit, goals-fit}
+use Rattle.writing.specs.Spelling.{spellingOf, spelledClaim, records-spelled}
+use Rattle.writing.specs.Ends.{End, next, stop, goOn, walk, gotBy, readBy, after-opening, passed, went}
+use Rattle.writing.specs.EntryEnds.{tableEnd, table-read, table-past, entries-near}
+use Rattle.writing.specs.GoalEnds.{listsEnd, goalCountEnd, goalsEnd, lists-past, goals-read, goals-cut, goal-count-past}
 
--- a field that the kind lacks holds 0; B of a box or diamond is its action
-abbrev pub entryFits : Entry → Bool
-entryFits e = leb (e .kind) Kind.NAME && (mayHold (hasA (e .kind)) (e .a) && mayHold (hasB (e .kind) || isModal (e .kind)) (e .b))
+-- 12 to 14 and 72: where the claim ends
+abbrev pub claimEnd : Form → ℕ → Table → List ℕ → List ℕ → End
+claimEnd f n es gs ms = goOn (tableEnd n es 4) (λ o. goalsEnd f es gs ms o)
 
--- map and kind, and two bytes for each field whose bit stands
-abbrev pub entryWidth : ℕ → ℕ → ℕ
-entryWidth k b = 2 + (ifSet (aStands (mapFor k b)) 2 + ifSet (bStands (mapFor k b)) 2)
+opening-long : (f : Form) → length (claimOpening f) ≡ 4
+opening-long clm1 = refl
+opening-long clm2 = refl
 
-abbrev pub entryEnd : ℕ → Entry → ℕ → End
-entryEnd c e at = pick (entryFits e) (next (at + entryWidth (e .kind) (e .b))) (stop 13 at)
+opened : (f : Form) (s : List ℕ) → readClaim (claimOpening f ++ s) ≡ ending early (body f s 4)
+unfolding readForm
+opened f s = read-in f (claimOpening f ++ s) (form-opens f (claimOpening f ++ s) (s, refl)) ∙ after-opening (claimOpening f) 10 early (body f) s (opening-long f)
 
-pub fields-held : (e : Entry) → entryFits e ≡ true → (mayHold (hasA (e .kind)) (e .a) ≡ true) × (mayHold (hasB (e .kind) || isModal (e .kind)) (e .b) ≡ true)
-fields-held e h =
-    and-tells (itself (leb (e .kind) Kind.NAME)) (and-tells (itself (mayHold (hasA (e .kind)) (e .a))) (itself (mayHold (hasB (e .kind) || isModal (e .kind)) (e .b)))) .says h .1
-
--- an entry is read as the writer spells its record, or refused at its map
-module _ (e : Entry) where
-  abbrev aBit : Bool
-  aBit = stands (hasA (e .kind)) (e .a)
-
-  abbrev bBit : Bool
-  bBit = stands (hasB (e .kind)) (e .b)
-
-  abbrev bits : ℕ
-  bits = ifSet aBit 1 + ifSet bBit 2
-
-  -- the map fits just where no lacking field holds a value
-  map-held : eqb bits (mapOf (e .kind)) || (isModal (e .kind) && eqb bits 3) ≡ mayHold (hasA (e .kind)) (e .a) && mayHold (hasB (e .kind) || isModal (e .kind)) (e .b)
-  map-held = by (isModal (e .kind)) refl
-    where
-      -- has A, its value is 0; has B, its value is 0
-      go : (p w q z : Bool) → eqb (ifSet (p || not w) 1 + ifSet (q || not z) 2) (ifSet p 1 + ifSet q 2) || false ≡ (p || w) && ((q || false) || z)
-      go true w true z = refl
-      go true w false true = refl
-      go true w false false = refl
-      go false true true z = refl
-      go false true false true = refl
-      go false true false false = refl
-      go false false true z = refl
-      go false false false true = refl
-      go false false false false = refl
-
-      acting : (z : Bool) → eqb (1 + ifSet (not z) 2) 1 || eqb (1 + ifSet (not z) 2) 3 ≡ true
-      acting true = refl
-      acting false = refl
-
-      by : (m : Bool) → isModal (e .kind) ≡ m → eqb bits (mapOf (e .kind)) || (m && eqb bits 3) ≡ mayHold (hasA (e .kind)) (e .a) && mayHold (hasB (e .kind) || m) (e .b)
-      by false h = go (hasA (e .kind)) (eqb (e .a) 0) (hasB (e .kind)) (eqb (e .b) 0)
-      by true h = let (p, q) = modal-fields (e .kind) h in rw (p, q) (acting (eqb (e .b) 0))
-
-  -- then it is the map that the writer gives
-  map-for : entryFits e ≡ true → bits ≡ mapFor (e .kind) (e .b)
-  map-for h =
-      let (p, q) = fields-held e h in
-      ap (λ (b : Bool). ifSet b 1 + ifSet bBit 2) (held-stands (hasA (e .kind)) (e .a) p) ∙ by (isModal (e .kind)) refl q
-    where
-      go : (p q z : Bool) → (q || false) || z ≡ true → ifSet p 1 + ifSet (q || not z) 2 ≡ ifSet p 1 + ifSet q 2
-      go p true z h = refl
-      go p false true h = refl
-      go p false false h = absurd (false≢true h)
-
-      acting : (z : Bool) → 1 + ifSet (not z) 2 ≡ choose (not z) 3 1
-      acting true = refl
-      acting false = refl
-
-      by : (m : Bool) → isModal (e .kind) ≡ m → mayHold (hasB (e .kind) || m) (e .b) ≡ true → ifSet (hasA (e .kind)) 1 + ifSet bBit 2 ≡ choose (m && not (eqb (e .b) 0)) 3 (mapOf (e .kind))
-      by false h k = go (hasA (e .kind)) (hasB (e .kind)) (eqb (e .b) 0) k
-      by true h k = let (p, q) = modal-fields (e .kind) h in rw (p, q) (acting (eqb (e .b) 0))
-
-  -- a record that fits has the bytes of a claim file's entry
-  pub entry-encoded : entryFits e ≡ true → entryBytes e ≡ encodeEntry (spelledAs e)
-  entry-encoded h =
-      let (p, q) = bits-stand aBit bBit in
-      rw (← (map-for h), p, q) refl
-
-  width-is : (at : ℕ) → entryFits e ≡ true → at + entryWidth (e .kind) (e .b) ≡ suc (suc at) + ifSet aBit 2 + ifSet bBit 2
-  width-is at h =
-      let (p, q) = bits-stand aBit bBit in
-      rw (← (map-for h), p, q) (omega arith)
-
-  module _ (rest : List ℕ) (at : ℕ) where
-    abbrev left : List ℕ
-    left = encodeField aBit (e .a) ++ encodeField bBit (e .b)
-
-    after-kind : Got (ℕ × ℕ) → Got Spelled
-    after-kind g = via made (λ _ _. bind g (λ p r o. bind (fields (p .0) r o) (λ v t z. got (p, v) t z))) [] 0
-
-    fields-read : fields bits (left ++ rest) (suc (suc at)) ≡ got (e .a, e .b) rest (suc (suc at) + ifSet aBit 2 + ifSet bBit 2)
-    fields-read =
-        let (p, q) = bits-stand aBit bBit in
-        rw (
-          p,
-          q,
-          append-assoc (encodeField aBit (e .a)) (encodeField bBit (e .b)) rest,
-          field-meets early aBit (e .a) (stands-held (hasA (e .kind)) (e .a)) (encodeField bBit (e .b) ++ rest) (suc (suc at)),
-          field-meets early bBit (e .b) (stands-held (hasB (e .kind)) (e .b)) rest (suc (suc at) + ifSet aBit 2),
-        ) refl
-
-    by-kind : (b : Bool) → entryFits e ≡ b → entry (entryBytes e ++ rest) at ≡ after-kind (pick b (got (bits, e .kind) (left ++ rest) (suc (suc at))) (fault 13 at))
-    unfolding after-kind
-    by-kind b h =
-        let i : kind-fits (bits, e .kind) ≡ b = ap (λ (c : Bool). leb (e .kind) Kind.NAME && c) map-held ∙ h in
-        ap (λ (c : Bool). after-kind (pick c (got (bits, e .kind) (left ++ rest) (suc (suc at))) (fault 13 at))) i
-
-    entry-read : (b : Bool) → entryFits e ≡ b → entry (entryBytes e ++ rest) at ≡ gotBy (spelledAs e) rest (pick b (next (at + entryWidth (e .kind) (e .b))) (stop 13 at))
-    unfolding after-kind
-    entry-read false h = by-kind false h
-    entry-read true h = by-kind true h ∙ rw (fields-read, width-is at h) (ap (λ (m : ℕ). got (made ((m, e .kind), (e .a, e .b))) rest (suc (suc at) + ifSet aBit 2 + ifSet bBit 2)) (map-for h))
-
-  entry-past : (at o : ℕ) (b : Bool) → entryFits e ≡ b → pick b (next (at + entryWidth (e .kind) (e .b))) (stop 13 at) ≡ next o → o ≡ at + length (entryBytes e)
-  entry-past at o false h k = absurd (stop-not-next k)
-  entry-past at o true h k =
-      let i : at + entryWidth (e .kind) (e .b) ≡ o = cc k in
-      omega (arith, width-is at h, length-append (encodeField aBit (e .a)) (encodeField bBit (e .b)), field-long aBit (e .a), field-long bBit (e .b))
-
-pub entry-meets : (c : ℕ) (e : Entry) → Meets entry entryBytes spelledAs (entryEnd c) e
-entry-meets c e = record { reads = λ rest at. entry-read e rest at (entryFits e) refl; past = λ at o h. entry-past e at o (entryFits e) refl h }
-
-abbrev pub entriesEnd : Table → ℕ → End
-entriesEnd es at = walk entryEnd (λ _ _. 0) 0 es at
-
-abbrev pub tableEnd : ℕ → Table → ℕ → End
-tableEnd n es at = goOn (countEnd 256 12 n at) (λ o. entriesEnd es o)
-
-abbrev pub membersEnd : Table → List ℕ → ℕ → End
-membersEnd es ms at = risingEnd (isFormula es) 14 ms at
-
-abbrev pub listedEnd : Table → List ℕ → ℕ → End
-listedEnd es ms at = goOn (countEnd 24 12 (length ms) at) (λ o. membersEnd es ms o)
-
--- 12 to 14: where the claim ends
-abbrev pub claimEnd : ℕ → Table → List ℕ → End
-claimEnd n es ms = goOn (tableEnd n es 4) (λ o. listedEnd es ms o)
-
-module _ (es : Table) (rest : List ℕ) where
-  entries-walked : (at : ℕ) → times (λ _. entry) (λ _ _. 0) (length es) 0 (encodeAll entryBytes es ++ rest) at ≡ gotBy (spellingOf es) rest (entriesEnd es at)
-  unfolding walk
-  entries-walked at = times-walk (λ _. entry) (λ _ _. 0) entryBytes spelledAs entryEnd (λ _ _. 0) (λ c x. refl) entry-meets es 0 rest at
-
-  table-read : (n at : ℕ) → (n ≤ 256 → length es ≡ n) → entries ((encodeTwo (clipped n) ++ encodeAll entryBytes es) ++ rest) at ≡ gotBy (spellingOf es) rest (tableEnd n es at)
-  unfolding entries walk times
-  table-read n at long =
-      ap (λ (g : Got ℕ). bind g (λ n r o. times (λ _. entry) (λ _ _. 0) n 0 r o)) (count-meets early 256 12 (omega arith) n (encodeAll entryBytes es ++ rest) at)
-      ∙ go (in-range 256 n) (in-range-tells 256 n)
-    where
-      go : (b : Bool) → Tells b ((1 ≤ n) × (n ≤ 256)) → bind (gotBy n (encodeAll entryBytes es ++ rest) (pick b (next (at + 2)) (stop 12 at))) (λ n r o. times (λ _. entry) (λ _ _. 0) n 0 r o)
-          ≡ gotBy (spellingOf es) rest (goOn (pick b (next (at + 2)) (stop 12 at)) (λ o. entriesEnd es o))
-      go false t = refl
-      go true t = ap (λ (m : ℕ). times (λ _. entry) (λ _ _. 0) m 0 (encodeAll entryBytes es ++ rest) (at + 2)) (sym (long (t .says refl .1))) ∙ entries-walked (at + 2)
-
--- members are judged by the records of what was spelled
-module _ (ss : List Spelled) (es : Table) (same : recordsOf ss ≡ es) where
-  members-read : (ms rest : List ℕ) (at : ℕ) → members ss ((encodeTwo (clipped (length ms)) ++ encodeAll encodeTwo ms) ++ rest) at ≡ gotBy ms rest (listedEnd es ms at)
-  unfolding members walk times
-  members-read ms rest at =
-      ap (λ (t : Table). bind (count 24 12 (two early) ((encodeTwo (clipped (length ms)) ++ encodeAll encodeTwo ms) ++ rest) at) (then-members t)) same
-      ∙ ap (λ (g : Got ℕ). bind g (then-members es)) (count-meets early 24 12 (omega arith) (length ms) (encodeAll encodeTwo ms ++ rest) at)
-      ∙ go (in-range 24 (length ms))
-    where
-      then-members : Table → ℕ → List ℕ → ℕ → Got (List ℕ)
-      then-members t n r o = times (λ c. guard (fits-from (isFormula t) c) 14 (two early)) (λ _ x. suc x) n 0 r o
-
-      go : (b : Bool) → bind (gotBy (length ms) (encodeAll encodeTwo ms ++ rest) (pick b (next (at + 2)) (stop 12 at))) (then-members es)
-          ≡ gotBy ms rest (goOn (pick b (next (at + 2)) (stop 12 at)) (λ o. membersEnd es ms o))
-      go false = refl
-      go true = rising-met early (isFormula es) 14 ms rest (at + 2)
-
--- the claim's records are read as they are spelled, or refused where the walk stops
-module _ (n : ℕ) (es : Table) (ms : List ℕ) (long : n ≤ 256 → length es ≡ n) where
-  abbrev memberBytes : List ℕ
-  memberBytes = encodeTwo (clipped (length ms)) ++ encodeAll encodeTwo ms
-
-  after-members : List Spelled → Got (List ℕ) → Reading SpelledClaim
-  after-members ss g = ending early (bind (bind g (λ y r o. got (ss, y) r o)) (λ p r o. got (claimOf p) r o))
+-- the claim's records are read as they are spelled, or refused where the walk stops: whatever follows the table
+module _ (f : Form) (n : ℕ) (es : Table) (long : n ≤ 256 → length es ≡ n) where
+  after-goals : List Spelled → Got (List (List ℕ)) → Reading SpelledClaim
+  after-goals ss g = ending early (bind (bind g (λ y r o. got (ss, y) r o)) (λ p r o. got (claimOf f p) r o))
 
   after-table : Got (List Spelled) → Reading SpelledClaim
-  unfolding members
-  after-table g = ending early (bind (bind g (λ ss r o. bind (members ss r o) (λ y u z. got (ss, y) u z))) (λ p r o. got (claimOf p) r o))
+  unfolding goals
+  after-table g = ending early (bind (bind g (λ ss r o. bind (goals f ss r o) (λ y u z. got (ss, y) u z))) (λ p r o. got (claimOf f p) r o))
 
-  listed-end : (e : End) → after-members (spellingOf es) (gotBy ms [] e) ≡ readBy (spelledClaim es ms) e
-  unfolding after-members
-  listed-end (next o) = refl
-  listed-end (stop m q) = refl
+  module _ (bytes : List ℕ) (x : List (List ℕ)) (rest : ℕ → End) (met : (o : ℕ) → goals f (spellingOf es) bytes o ≡ gotBy x [] (rest o)) where
+    goals-end : (e : End) → after-goals (spellingOf es) (gotBy x [] e) ≡ readBy (spelledClaim f es x) e
+    unfolding after-goals
+    goals-end (next o) = refl
+    goals-end (stop m q) = refl
 
-  table-end : (e : End) → after-table (gotBy (spellingOf es) memberBytes e) ≡ readBy (spelledClaim es ms) (goOn e (λ o. listedEnd es ms o))
-  unfolding after-table after-members walk
-  table-end (stop m q) = refl
-  table-end (next o) =
-      ap (λ (s : List ℕ). after-members (spellingOf es) (members (spellingOf es) s o)) (sym (append-nil memberBytes))
-      ∙ ap (after-members (spellingOf es)) (members-read (spellingOf es) es (records-spelled es) ms [] o)
-      ∙ listed-end (listedEnd es ms o)
+    table-end : (e : End) → after-table (gotBy (spellingOf es) bytes e) ≡ readBy (spelledClaim f es x) (goOn e rest)
+    unfolding after-table after-goals
+    table-end (stop m q) = refl
+    table-end (next o) = ap (after-goals (spellingOf es)) (met o) ∙ goals-end (rest o)
 
-  pub claim-ends : readClaim (claimBytes n es ms) ≡ readBy (spelledClaim es ms) (claimEnd n es ms)
-  unfolding readClaim body walk after-table opens
-  claim-ends =
-      file-opens claimOpening 10 early body (claimBytes n es ms) refl
-      ∙ ap after-table (table-read es memberBytes n 4 long)
-      ∙ table-end (tableEnd n es 4)
+    follows : readClaim (claimOpening f ++ (tableBytes n es ++ bytes)) ≡ readBy (spelledClaim f es x) (goOn (tableEnd n es 4) rest)
+    unfolding body walk after-table
+    follows = opened f (tableBytes n es ++ bytes) ∙ ap after-table (table-read es bytes n 4 long) ∙ table-end (tableEnd n es 4)
 
--- what a walk to the end tells: the counts are in range, and it ends where the file does
-pub record ClaimPassed (n : ℕ) (es : Table) (ms : List ℕ) (o : ℕ) : Type 0 where
+  pub claim-ends : (gs ms : List ℕ) → goalsFit f gs ms ≡ true → readClaim (claimBytes f n es (split gs ms)) ≡ readBy (spelledClaim f es (split gs ms)) (claimEnd f n es gs ms)
+  unfolding listsEnd
+  claim-ends gs ms fit =
+      follows (goalBytes f (split gs ms)) (split gs ms) (goalsEnd f es gs ms)
+      (λ o. ap (λ (s : List ℕ). goals f (spellingOf es) s o) (sym (append-nil (goalBytes f (split gs ms)))) ∙ goals-read (spellingOf es) es (records-spelled es) f gs ms [] o fit)
+
+  -- a file that stops after the goal count
+  pub claim-cut : (k : ℕ) → readClaim (claimHead f n es k) ≡ readBy (spelledClaim f es []) (goOn (tableEnd n es 4) (λ o. goOn (goalCountEnd f k o) (λ u. stop early u)))
+  unfolding walk
+  claim-cut k = follows (encodeGoalCount f (clipped k)) [] (λ o. goOn (goalCountEnd f k o) (λ u. stop early u)) (goals-cut (spellingOf es) es (records-spelled es) f k)
+
+-- so no claim is longer
+abbrev pub longestClaim : Form → ℕ
+longestClaim clm1 = 1592
+longestClaim clm2 = 2344
+
+-- what a walk to the end tells: the counts are in range and fit, and it ends where the file does
+pub record ClaimPassed (f : Form) (n : ℕ) (es : Table) (gs ms : List ℕ) (o : ℕ) : Type 0 where
   pub entries : (1 ≤ n) × (n ≤ 256)
-  pub members : (1 ≤ length ms) × (length ms ≤ 24)
-  pub end : o ≡ length (claimBytes n es ms)
+  pub goals : GoalCount f (length gs)
+  pub fit : goalsFit f gs ms ≡ true
+  pub few : Each (λ (k : ℕ). k ≤ 24) gs
+  pub end : o ≡ length (claimBytes f n es (split gs ms))
+  pub near : length es ≡ n → o ≤ longestClaim f
 
-pub claim-passed : (n : ℕ) (es : Table) (ms : List ℕ) (o : ℕ) → claimEnd n es ms ≡ next o → ClaimPassed n es ms o
-unfolding walk
-claim-passed n es ms o h =
-    let table = went (tableEnd n es 4) (λ o. listedEnd es ms o) h in
-    let some = went (countEnd 256 12 n 4) (λ o. entriesEnd es o) (table .first) in
-    let (a, six) = passed (in-range 256 n) (next 6) 12 4 (some .first) in
-    let listed = went (countEnd 24 12 (length ms) (table .place)) (λ o. membersEnd es ms o) (table .then) in
-    let (b, two) = passed (in-range 24 (length ms)) (next (table .place + 2)) 12 (table .place) (listed .first) in
-    let es-end = walk-past (λ _. entry) (λ _ _. 0) entryBytes spelledAs entryEnd (λ _ _. 0) (λ c x. refl) entry-meets es 0 (some .place) (table .place) (some .then) in
-    let ms-end = rising-past early (isFormula es) 14 ms (listed .place) o (listed .then) in
+goals-near : (f : Form) (k m at o : ℕ) → GoalCount f k → at ≤ 1542 → o ≤ at + length (encodeGoalCount f m) + 50 * k → o ≤ longestClaim f
+goals-near clm1 k m at o one h l = omega arith
+goals-near clm2 k m at o few h l = omega (arith, few .1)
+
+pub claim-passed : (f : Form) (n : ℕ) (es : Table) (gs ms : List ℕ) (o : ℕ) → claimEnd f n es gs ms ≡ next o → ClaimPassed f n es gs ms o
+unfolding listsEnd walk
+claim-passed f n es gs ms o h =
+    let table = went (tableEnd n es 4) (λ o. goalsEnd f es gs ms o) h in
+    let (low, high, there) = table-past n es (table .place) (table .first) in
+    let counted = went (goalCountEnd f (length gs) (table .place)) (λ o. pick (goalsFit f gs ms) (listsEnd es gs ms o) (stop 12 (table .place))) (table .then) in
+    let (fit, listed) = passed (goalsFit f gs ms) (listsEnd es gs ms (counted .place)) 12 (table .place) (counted .then) in
+    let (may, sum) = goals-fit f gs ms fit in
+    let m = clipped (length (split gs ms)) in
+    let (many, on) = goal-count-past f (length gs) m (table .place) (counted .place) may (counted .first) in
+    let (each, end, near) = lists-past es gs ms (counted .place) o (omega arith) listed in
     record {
-      entries = in-range-tells 256 n .says a;
-      members = in-range-tells 24 (length ms) .says b;
-      end = omega (arith, next-same six, next-same two, es-end, ms-end, length-append (encodeTwo (clipped n) ++ encodeAll entryBytes es) (encodeTwo (clipped (length ms)) ++ encodeAll encodeTwo ms));
+      entries = (low, high);
+      goals = many;
+      fit = fit;
+      few = each;
+      end = omega (
+        arith,
+        there,
+        on,
+        end,
+        opening-long f,
+        length-append (claimOpening f) (tableBytes n es ++ goalBytes f (split gs ms)),
+        length-append (tableBytes n es) (goalBytes f (split gs ms)),
+        length-append (encodeGoalCount f m) (encodeAll memberBytes (split gs ms)),
+      );
+      near = λ same. goals-near f (length gs) m (table .place) o many (omega (arith, there, entries-near es)) (omega (arith, on, near));
     }

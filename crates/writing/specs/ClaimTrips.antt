@@ -1,47 +1,50 @@
 -- what is written of a claim's records reads back to them, and the records of a claim that passes are written as its bytes
 use mathlib.Core.Path.{_≡_, refl, sym, ap, subst, _∙_}
 use mathlib.Core.Logic.{inl, inr}
-use mathlib.Core.List.{List, [], _∷_, _++_}
+use mathlib.Core.List.{List, _++_}
 use mathlib.Core.Bool.{Bool, true, false, _||_}
-use Prim.Native.Nat.{ℕ, suc, _*_, _≤_}
+use Prim.Native.Nat.{ℕ, suc, _≤_}
 use native.Mathlib.Omega.{arith}
 use borrow.Author.Tests.{ltb-false, le-ltb, eq-eqb, le-leb}
 use lib.Dec.{eqb, leb, ltb}
-use lib.ListN.{length, take, length-append}
+use lib.ListN.{length, take, length-map}
 use lib.Seq.{length-take-le}
 use Rattle.verdict.specs.Verdict as verdicts
 use Rattle.verdict.specs.Verdict.{Verdict, accepted}
 use Rattle.verdict.specs.Lists.{Each, none, more}
 use Rattle.verdict.specs.Tests.{choose}
-use Rattle.verdict.specs.Tells.{and-tells, leb-tells}
-use Rattle.bits.specs.IfSet.{if-set-le}
+use Rattle.verdict.specs.Tells.{tells-self, and-tells, leb-tells, eqb-tells}
 use Rattle.formula.specs.Kind
-use Rattle.formula.specs.Table.{Entry, Table}
+use Rattle.formula.specs.Table.{Table}
 use Rattle.formula.specs.Spelled.{Spelled, aStands, bStands, recordOf, recordsOf, tableBy, by-length, zeros}
 use Rattle.formula.specs.Claim as claims
-use Rattle.formula.specs.Claim.{Claim, SpelledClaim}
+use Rattle.formula.specs.Claim.{Form, clm1, clm2, formNumber, Claim, SpelledClaim}
 use Rattle.formula.specs.Fields.{hasA, hasB, isModal}
 use Rattle.conditions.specs.Judge.{plainly, judgeTable}
 use Rattle.conditions.specs.Formed.{Unwritten}
 use Rattle.conditions.specs.JudgeExact.{judge-accepts}
-use Rattle.encoding.specs.Encode.{Bytes, FitField, encodeTwo, encodeField, encodeAll}
+use Rattle.encoding.specs.Encode.{Bytes, FitField, encodeAll}
+use Rattle.encoding.specs.ChainLaws.{each-as}
 use Rattle.encoding.specs.File.{Reading, refused, good}
 use Rattle.encoding.specs.FileLaws.{good-same, refused-not-good}
 use Rattle.encoding.specs.Parse.{pick}
-use Rattle.claim_files.specs.ClaimFile.{encodeEntry, FitMap, FitEntry, ClaimFile}
+use Rattle.claim_files.specs.ClaimFile.{encodeEntry, encodeMembers, encodeGoalCount, encodeGoals, FitMap, FitEntry, GoalCount, ClaimFile}
 use Rattle.claim_files.specs.ReadClaim.{readClaim}
 use Rattle.claim_files.specs.ClaimExact.{good-claim}
 use Rattle.reader.specs.Files.{firstly, andThen, formed, readFormed}
-use Rattle.writing.specs.RecordBytes.{stands, clipped, entryBytes, claimBytes}
+use Rattle.writing.specs.RecordBytes.{clipped, entryBytes, memberBytes, goalBytes, claimBytes, claimHead, split}
+use Rattle.writing.specs.Goals.{total, mayHave, goalsFit, joined, lengths, goals-fit, split-joined, total-lengths, lengths-split, joined-split}
 use Rattle.writing.specs.Spelling.{spelledClaim, modal-fields, bits-stand, claim-spelled, spelled-judged, spelled-so}
-use Rattle.writing.specs.Writing.{ClaimRecords, claimFile, shortClaim, ifRoom, ifLong, writingClaim}
-use Rattle.writing.specs.Ends.{End, next, stop, walk, readBy}
-use Rattle.writing.specs.FieldEnds.{mayHold, numbers-long, field-long, itself}
-use Rattle.writing.specs.ClaimEnds.{entryFits, entry-encoded, claimEnd, claim-ends, claim-passed}
+use Rattle.writing.specs.Writing.{ClaimRecords, claimFile, shortClaim, ifForm, ifRoom, ifLong, stopped, goalPlace, claimReading, writingClaim}
+use Rattle.writing.specs.Ends.{End, next, stop, readBy}
+use Rattle.writing.specs.FieldEnds.{mayHold}
+use Rattle.writing.specs.EntryEnds.{entryFits, entry-encoded}
+use Rattle.writing.specs.GoalEnds.{listsEnd}
+use Rattle.writing.specs.ClaimEnds.{claimEnd, claim-ends, longestClaim, claim-passed}
 
--- the claim that records stand for
-abbrev pub claimOf : ClaimRecords → Claim
-claimOf c = record { entries = take (c .count) (c .entries); members = c .members }
+-- the claim that records stand for, in a form
+abbrev pub claimOf : Form → ClaimRecords → Claim
+claimOf f c = record { form = f; entries = take (c .count) (c .entries); goals = split (c .counts) (c .members) }
 
 -- whatever a reading was, it is good only if its first part was
 pub and-good : {A B : Type 0} (r : Reading A) (f : A → Reading B) {y : B} → andThen r f ≡ good y → (x : A) × (r ≡ good x) × (f x ≡ good y)
@@ -55,70 +58,92 @@ first-good (verdicts.refused n q) r h = absurd (refused-not-good h)
 pub long-enough : (c : ClaimRecords) → shortClaim c ≡ false → c .count ≤ 256 → length (take (c .count) (c .entries)) ≡ c .count
 long-enough c h few = length-take-le (c .count) (c .entries) (omega (arith, ltb-false (length (c .entries)) 256 h))
 
--- an entry takes at most six bytes
-entry-near : (e : Entry) → length (entryBytes e) ≤ 6
-entry-near e =
-    let a = stands (hasA (e .kind)) (e .a) in
-    let b = stands (hasB (e .kind)) (e .b) in
-    omega (arith, length-append (encodeField a (e .a)) (encodeField b (e .b)), field-long a (e .a), field-long b (e .b), if-set-le a 2, if-set-le b 2)
+-- a reading of a file that stops is never good
+stopped-refuses : {A B : Type 0} (early n q : ℕ) (r : Reading A) {y : B} → stopped early n q r ≡ good y → ⊥
+stopped-refuses early n q (good x) h = refused-not-good h
+stopped-refuses early n q (refused m p) {y} h = go (eqb m early) h
+  where
+    go : (b : Bool) → pick b (refused n q) (refused m p) ≡ good y → ⊥
+    go true h = refused-not-good h
+    go false h = refused-not-good h
 
-entries-near : (es : Table) → length (encodeAll entryBytes es) ≤ 6 * length es
-unfolding encodeAll
-entries-near [] = omega arith
-entries-near (e ∷ es) = omega (arith, length-append (entryBytes e) (encodeAll entryBytes es), entry-near e, entries-near es)
+-- so what is read of records is read of a file that they fit
+pub fit-good : {A B : Type 0} (fit : Bool) (r : Reading A) (early n q : ℕ) (s : Reading B) {y : A} → pick fit r (stopped early n q s) ≡ good y → (fit ≡ true) × (r ≡ good y)
+fit-good true r early n q s h = (refl, h)
+fit-good false r early n q s h = absurd (stopped-refuses early n q s h)
 
 -- the records' claim, as it is spelled, is judged by its records
-pub formed-spelled : (es : Table) (ms : List ℕ) → formed (spelledClaim es ms) ≡ firstly (judgeTable plainly es) (good (record { entries = es; members = ms }))
-formed-spelled es ms =
-    ap (λ (v : Verdict). firstly v (good (claims.claimOf (spelledClaim es ms)))) (spelled-judged es)
-    ∙ ap (λ (c : Claim). firstly (judgeTable plainly es) (good c)) (claim-spelled es ms)
-
--- what holds of records whose file passes 10 to 14, 20, 71 and 21 to 23
-pub record ClaimWritable (c : ClaimRecords) : Type 0 where
-  pub back : readFormed (claimFile c) ≡ good (claimOf c)
-  pub end : claimEnd (c .count) (take (c .count) (c .entries)) (c .members) ≡ next (length (claimFile c))
-  pub near : length (claimFile c) ≤ 1592
-
-module _ (c : ClaimRecords) (long : shortClaim c ≡ false) where
-  abbrev es : Table
-  es = take (c .count) (c .entries)
-
-  pub claim-writable : (k : Claim) → readFormed (claimFile c) ≡ good k → ClaimWritable c
-  unfolding readFormed walk
-  claim-writable k h =
-      let (x, was, table) = and-good (readClaim (claimFile c)) formed h in
-      go (claimEnd (c .count) es (c .members)) refl x was table
-    where
-      ends : {e : End} → claimEnd (c .count) (take (c .count) (c .entries)) (c .members) ≡ e → readClaim (claimFile c) ≡ readBy (spelledClaim (take (c .count) (c .entries)) (c .members)) e
-      ends e = claim-ends (c .count) (take (c .count) (c .entries)) (c .members) (long-enough c long) ∙ ap (readBy (spelledClaim (take (c .count) (c .entries)) (c .members))) e
-
-      go : (e : End) → claimEnd (c .count) (take (c .count) (c .entries)) (c .members) ≡ e → (x : SpelledClaim) → readClaim (claimFile c) ≡ good x → formed x ≡ good k → ClaimWritable c
-      go (stop n q) e x was table = absurd (refused-not-good (sym (ends e) ∙ was))
-      go (next o) e x was table =
-          let same : spelledClaim (take (c .count) (c .entries)) (c .members) ≡ x = good-same (sym (ends e) ∙ was) in
-          let p = claim-passed (c .count) (take (c .count) (c .entries)) (c .members) o e in
-          let (_, is) =
-          first-good (judgeTable plainly (take (c .count) (c .entries))) (good (claimOf c)) (sym (formed-spelled (take (c .count) (c .entries)) (c .members)) ∙ ap formed same ∙ table) in
-          record {
-            back = h ∙ sym is;
-            end = e ∙ ap next (p .end);
-            near = omega (
-              arith,
-              p .end,
-              p .entries .1,
-              p .members .1,
-              long-enough c long (p .entries .1),
-              entries-near (take (c .count) (c .entries)),
-              numbers-long (c .members),
-              length-append (encodeTwo (clipped (c .count)) ++ encodeAll entryBytes (take (c .count) (c .entries))) (encodeTwo (clipped (length (c .members))) ++ encodeAll encodeTwo (c .members)),
-            );
-          }
+pub formed-spelled : (f : Form) (es : Table) (goals : List (List ℕ))
+    → formed (spelledClaim f es goals) ≡ firstly (judgeTable plainly es) (good (record { form = f; entries = es; goals = goals }))
+formed-spelled f es goals =
+    ap (λ (v : Verdict). firstly v (good (claims.claimOf (spelledClaim f es goals)))) (spelled-judged es)
+    ∙ ap (λ (c : Claim). firstly (judgeTable plainly es) (good c)) (claim-spelled f es goals)
 
 -- the records hold a claim: what stands in the slices once it was decoded there
 pub record ClaimGiven (c : ClaimRecords) (k : Claim) : Type 0 where
+  pub form : c .form ≡ formNumber (k .form)
   pub count : c .count ≡ length (k .entries)
   pub entries : take (c .count) (c .entries) ≡ k .entries
-  pub members : c .members ≡ k .members
+  pub counts : c .counts ≡ lengths (k .goals)
+  pub members : c .members ≡ joined (k .goals)
+
+-- what holds of records whose file passes 10 to 14, 72, 20, 71 and 21 to 23
+pub record ClaimWritable (f : Form) (c : ClaimRecords) : Type 0 where
+  pub fit : goalsFit f (c .counts) (c .members) ≡ true
+  pub goals : GoalCount f (length (c .counts))
+  pub back : readFormed (claimFile f c) ≡ good (claimOf f c)
+  pub given : c .form ≡ formNumber f → ClaimGiven c (claimOf f c)
+  pub near : length (claimFile f c) ≤ longestClaim f
+
+module _ (f : Form) (c : ClaimRecords) (long : shortClaim c ≡ false) where
+  abbrev es : Table
+  es = take (c .count) (c .entries)
+
+  abbrev goals : List (List ℕ)
+  goals = split (c .counts) (c .members)
+
+  -- what is read of a file that the records fit
+  read-writable : goalsFit f (c .counts) (c .members) ≡ true → (k : Claim) → readFormed (claimFile f c) ≡ good k → ClaimWritable f c
+  unfolding readFormed listsEnd
+  read-writable fit k h =
+      let (x, was, table) = and-good (readClaim (claimFile f c)) formed h in
+      go (claimEnd f (c .count) es (c .counts) (c .members)) refl x was table
+    where
+      ends : {e : End} → claimEnd f (c .count) es (c .counts) (c .members) ≡ e → readClaim (claimFile f c) ≡ readBy (spelledClaim f es goals) e
+      ends e = claim-ends f (c .count) es (long-enough c long) (c .counts) (c .members) fit ∙ ap (readBy (spelledClaim f es goals)) e
+
+      go : (e : End) → claimEnd f (c .count) es (c .counts) (c .members) ≡ e → (x : SpelledClaim) → readClaim (claimFile f c) ≡ good x → formed x ≡ good k → ClaimWritable f c
+      go (stop n q) e x was table = absurd (refused-not-good (sym (ends e) ∙ was))
+      go (next o) e x was table =
+          let same : spelledClaim f es goals ≡ x = good-same (sym (ends e) ∙ was) in
+          let p = claim-passed f (c .count) es (c .counts) (c .members) o e in
+          let many = long-enough c long (p .entries .1) in
+          let (_, sum) = goals-fit f (c .counts) (c .members) fit in
+          let (_, is) = first-good (judgeTable plainly es) (good (claimOf f c)) (sym (formed-spelled f es goals) ∙ ap formed same ∙ table) in
+          record {
+            fit = fit;
+            goals = p .goals;
+            back = h ∙ sym is;
+            given = λ named. record {
+              form = named;
+              count = sym many;
+              entries = refl;
+              counts = sym (lengths-split (c .counts) (c .members) (omega arith));
+              members = sym (joined-split (c .counts) (c .members) sum);
+            };
+            near = omega (arith, p .end, p .near many);
+          }
+
+  pub claim-writable : (k : Claim) → claimReading f c ≡ good k → ClaimWritable f c
+  unfolding claimReading
+  claim-writable k h =
+      let head = readFormed (claimHead f (c .count) es (length (c .counts))) in
+      let (fit, reads) = fit-good (goalsFit f (c .counts) (c .members)) (readFormed (claimFile f c)) 11 12 (goalPlace c) head h in
+      read-writable fit k reads
+
+pub claim-read : (f : Form) (c : ClaimRecords) → ClaimWritable f c → claimReading f c ≡ good (claimOf f c)
+unfolding claimReading
+claim-read f c w = rw (w .fit) (w .back)
 
 -- a field of a file holds what its kind or rule lets it
 pub fit-held : (has : Bool) (x : ℕ) → FitField has x → mayHold has x ≡ true
@@ -145,7 +170,7 @@ module _ (s : Spelled) (f : FitEntry s) where
 
   fit-entry : entryFits (recordOf s) ≡ true
   fit-entry =
-      and-tells (itself (leb (s .kind) Kind.NAME)) (and-tells (itself (mayHold (hasA (s .kind)) (s .a))) (itself (mayHold (hasB (s .kind) || isModal (s .kind)) (s .b))))
+      and-tells (tells-self (leb (s .kind) Kind.NAME)) (and-tells (tells-self (mayHold (hasA (s .kind)) (s .a))) (tells-self (mayHold (hasB (s .kind) || isModal (s .kind)) (s .b))))
       .holds (le-leb (s .kind) Kind.NAME (f .known), fields-fit (f .fits))
 
 -- entries of a file that write no 0 out are written again as they were spelled
@@ -159,16 +184,45 @@ entries-again (more {x = s} {l = ss} f fs) u =
 pub clipped-same : (n : ℕ) → n ≤ 65535 → clipped n ≡ n
 clipped-same n h = ap (λ (b : Bool). choose b n 65535) (le-leb n 65535 h)
 
+-- goals that a file may hold are written as they are encoded
+members-encoded : {goals : List (List ℕ)} → Each (λ (g : List ℕ). length g ≤ 24) goals → encodeAll memberBytes goals ≡ encodeAll encodeMembers goals
+unfolding encodeAll
+members-encoded none = refl
+members-encoded (more {x = g} few fs) = rw (clipped-same (length g) (omega arith), members-encoded fs) refl
+
+pub goals-encoded : (f : Form) (goals : List (List ℕ)) → GoalCount f (length goals) → Each (λ (g : List ℕ). length g ≤ 24) goals → goalBytes f goals ≡ encodeGoals f goals
+goals-encoded f goals many few =
+    ap (λ (n : ℕ). encodeGoalCount f n ++ encodeAll memberBytes goals) (clipped-same (length goals) (in-two f many))
+    ∙ ap (λ (l : List ℕ). encodeGoalCount f (length goals) ++ l) (members-encoded few)
+  where
+    in-two : (f : Form) → GoalCount f (length goals) → length goals ≤ 65535
+    in-two clm1 h = omega arith
+    in-two clm2 h = omega (arith, h .1)
+
 claim-again : (x : SpelledClaim) {bytes : List ℕ} → ClaimFile bytes x → Unwritten (zeros (x .spelling)) (recordsOf (x .spelling))
-    → claimBytes (length (recordsOf (x .spelling))) (recordsOf (x .spelling)) (x .members) ≡ bytes
+    → claimBytes (x .form) (length (recordsOf (x .spelling))) (recordsOf (x .spelling)) (x .goals) ≡ bytes
 claim-again x f u =
     let n : length (x .spelling) ≤ 65535 = omega (arith, f .fits .entries .count) in
-    let m : length (x .members) ≤ 65535 = omega (arith, f .fits .members .count) in
-    rw (by-length recordOf (x .spelling), clipped-same (length (x .spelling)) n, clipped-same (length (x .members)) m, entries-again (f .fits .entries .each) u) (sym (f .encoded))
+    rw (
+      by-length recordOf (x .spelling),
+      clipped-same (length (x .spelling)) n,
+      entries-again (f .fits .entries .each) u,
+      goals-encoded (x .form) (x .goals) (f .fits .goals .count) (each-as (λ g h. h .count .1) (f .fits .goals .each)),
+    ) (sym (f .encoded))
+
+-- the goals of a file fit as they are given
+goals-again : (f : Form) (goals : List (List ℕ)) → GoalCount f (length goals) → goalsFit f (lengths goals) (joined goals) ≡ true
+goals-again f goals many =
+    and-tells (tells-self (mayHave f (length (lengths goals)))) (eqb-tells (total (lengths goals)) (length (joined goals)))
+    .holds (ap (mayHave f) (length-map goals length) ∙ may f many, total-lengths goals)
+  where
+    may : (f : Form) → GoalCount f (length goals) → mayHave f (length goals) ≡ true
+    may clm1 h = eq-eqb (length goals) 1 h
+    may clm2 h = refl
 
 module _ (c : ClaimRecords) (k : Claim) (given : ClaimGiven c k) {bytes : List ℕ} (bs : Bytes bytes) (reads : readFormed bytes ≡ good k) where
-  -- the records of a claim that passes make its bytes
-  pub claim-bytes-again : claimFile c ≡ bytes
+  -- the records of a claim that passes make its bytes, and fit
+  pub claim-bytes-again : (claimFile (k .form) c ≡ bytes) × (goalsFit (k .form) (c .counts) (c .members) ≡ true)
   unfolding readFormed
   claim-bytes-again =
       let (x, was, table) = and-good (readClaim bytes) formed reads in
@@ -176,13 +230,21 @@ module _ (c : ClaimRecords) (k : Claim) (given : ClaimGiven c k) {bytes : List �
       let t = recordsOf (x .spelling) in
       let (ok, same) = first-good (judgeTable z t) (good (claims.claimOf x)) table in
       let is : claims.claimOf x ≡ k = good-same same in
-      rw (given .entries, given .count, given .members, ← is) (claim-again x (good-claim bs was) (judge-accepts z t .0 ok .1))
+      let file = good-claim bs was in (
+        rw (given .entries, given .count, given .counts, given .members, split-joined (k .goals), ← is) (claim-again x file (judge-accepts z t .0 ok .1)),
+        rw (given .counts, given .members, ← is) (goals-again (x .form) (x .goals) (file .fits .goals .count)),
+      )
 
--- a file that is written
-pub record ClaimLaid (c : ClaimRecords) (room : ℕ) (file : List ℕ) : Type 0 where
+-- a form that is named
+pub form-named : (f : Form) {n : ℕ} (g : Form → Reading (List ℕ)) → n ≡ formNumber f → ifForm n g ≡ g f
+form-named clm1 g e = rw e refl
+form-named clm2 g e = rw e refl
+
+-- a file that is written, in a form
+pub record ClaimLaid (f : Form) (c : ClaimRecords) (room : ℕ) (file : List ℕ) : Type 0 where
   pub long : shortClaim c ≡ false
-  pub is : file ≡ claimFile c
-  pub writable : ClaimWritable c
+  pub is : file ≡ claimFile f c
+  pub writable : ClaimWritable f c
   pub fits : length file ≤ room
 
 pub room-good : (room : ℕ) (file : List ℕ) {l : List ℕ} → ifRoom room file ≡ good l → (length file ≤ room) × (file ≡ l)
@@ -200,26 +262,32 @@ long-good true r h = absurd (refused-not-good h)
 long-good false r h = (refl, h)
 
 module _ (c : ClaimRecords) (room : ℕ) where
-  pub claim-laid : (file : List ℕ) → writingClaim c room ≡ good file → ClaimLaid c room file
-  unfolding writingClaim
-  claim-laid file h =
-      let (long, read) = long-good (shortClaim c) (andThen (readFormed (claimFile c)) (λ _. ifRoom room (claimFile c))) h in
-      let (k, was, fits) = and-good (readFormed (claimFile c)) (λ _. ifRoom room (claimFile c)) read in
-      let (less, is) = room-good room (claimFile c) fits in
-      record { long = long; is = sym is; writable = claim-writable c long k was; fits = rw (← is) less }
+  abbrev rest : Form → Reading (List ℕ)
+  rest f = andThen (claimReading f c) (λ _. ifRoom room (claimFile f c))
 
-  pub claim-lays : shortClaim c ≡ false → ClaimWritable c → length (claimFile c) ≤ room → writingClaim c room ≡ good (claimFile c)
-  unfolding writingClaim
-  claim-lays long w fits = rw (long, w .back) (good-room room (claimFile c) fits)
+  module _ (f : Form) (named : c .form ≡ formNumber f) where
+    pub claim-laid : (file : List ℕ) → writingClaim c room ≡ good file → ClaimLaid f c room file
+    unfolding writingClaim
+    claim-laid file h =
+        let (long, formed) = long-good (shortClaim c) (ifForm (c .form) rest) h in
+        let (k, was, fits) = and-good (claimReading f c) (λ _. ifRoom room (claimFile f c)) (sym (form-named f rest named) ∙ formed) in
+        let (less, is) = room-good room (claimFile f c) fits in
+        record { long = long; is = sym is; writable = claim-writable f c long k was; fits = rw (← is) less }
 
-  -- long enough a slice never earns 70
-  pub claim-roomy : shortClaim c ≡ false → (k : Claim) → readFormed (claimFile c) ≡ good k → 1592 ≤ room → writingClaim c room ≡ good (claimFile c)
-  claim-roomy long k h far = let w = claim-writable c long k h in claim-lays long w (omega (arith, w .near))
+    module _ (long : shortClaim c ≡ false) where
+      pub claim-lays : ClaimWritable f c → length (claimFile f c) ≤ room → writingClaim c room ≡ good (claimFile f c)
+      unfolding writingClaim
+      claim-lays w fits = rw (long, form-named f rest named, w .fit, w .back) (good-room room (claimFile f c) fits)
+
+      -- long enough a slice never earns 70
+      pub claim-roomy : (k : Claim) → claimReading f c ≡ good k → longestClaim f ≤ room → writingClaim c room ≡ good (claimFile f c)
+      claim-roomy k h far = let w = claim-writable f c long k h in claim-lays w (omega (arith, w .near))
 
   -- the records of a claim that passes are written as its bytes
   pub claim-writes-again : (k : Claim) {claim : List ℕ} → Bytes claim → readFormed claim ≡ good k → ClaimGiven c k → 256 ≤ length (c .entries) → length claim ≤ room
       → writingClaim c room ≡ good claim
   claim-writes-again k {claim} bytes reads given long fits =
-      let same : claimFile c ≡ claim = claim-bytes-again c k given bytes reads in
+      let (same, fit) = claim-bytes-again c k given bytes reads in
       let enough : shortClaim c ≡ false = le-ltb (length (c .entries)) 256 long in
-      claim-lays enough (claim-writable c enough k (ap readFormed same ∙ reads)) (omega (arith, ap length same)) ∙ ap good same
+      let w = read-writable (k .form) c enough fit k (ap readFormed same ∙ reads) in
+      claim-lays (k .form) (given .form) enough w (omega (arith, ap length same)) ∙ ap good same

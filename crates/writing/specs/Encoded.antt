@@ -1,7 +1,7 @@
--- records that pass are encoded as the files of what they stand for, and what the reader makes of them, 20, 71, 21 to 23 and 35 included
+-- records that every judge lets pass, 20, 71, 21 to 23 and 35 included, are encoded as the files of what they stand for
 use mathlib.Core.Path.{_≡_, refl, ap, _∙_}
 use mathlib.Core.List.{List, [], _∷_, _++_}
-use mathlib.Core.Bool.{false}
+use mathlib.Core.Bool.{true}
 use Prim.Native.Nat.{ℕ, _+_, _*_, _≤_}
 use native.Mathlib.Omega.{arith}
 use lib.ListN.{length, take, drop, length-drop, length-map}
@@ -9,25 +9,26 @@ use Rattle.verdict.specs.Verdict as verdicts
 use Rattle.verdict.specs.Verdict.{Verdict, accepted}
 use Rattle.verdict.specs.Lists.{Each, none, more}
 use Rattle.formula.specs.Table.{Table}
-use Rattle.formula.specs.Claim.{Claim, SpelledClaim}
+use Rattle.formula.specs.Claim.{Form, clm1, clm2}
 use Rattle.formula.specs.Records.{NodeRecord}
 use Rattle.formula.specs.Fields.{linkWidth}
 use Rattle.conditions.specs.Judge.{plainly, judgeTable}
 use Rattle.encoding.specs.Encode.{encodeAll}
-use Rattle.encoding.specs.File.{Reading, refused, good}
-use Rattle.claim_files.specs.ClaimFile.{encodeEntry, encodeClaim}
-use Rattle.proof_files.specs.ProofFile.{encodeNode, encodeProof}
+use Rattle.encoding.specs.File.{refused}
+use Rattle.claim_files.specs.ClaimFile.{encodeEntry, GoalCount, encodeClaim}
+use Rattle.proof_files.specs.ProofFile.{encodeNode, encodeRoots, encodeProof}
 use Rattle.tree.specs.Owners.{tree-judged}
-use Rattle.reader.specs.Files.{firstly, andThen, formed, readFormed}
-use Rattle.writing.specs.RecordBytes.{entryBytes, claimBytes, nodesBytes, proofBytes}
+use Rattle.writing.specs.RecordBytes.{entryBytes, claimBytes, split, nodesBytes, rootBytes, proofBytes}
+use Rattle.writing.specs.Goals.{goalsFit, rootsFit, rootsOf, split-count, split-few}
 use Rattle.writing.specs.Spelling.{spelledAs, spellingOf, spelledClaim}
-use Rattle.writing.specs.Writing.{ClaimRecords, claimFile, shortClaim}
-use Rattle.writing.specs.Ends.{End, next, stop, goOn, walk, readBy, stop-not-next, passed, went}
+use Rattle.writing.specs.Ends.{End, next, stop, goOn, walk, stop-not-next, passed, went}
 use Rattle.writing.specs.FieldEnds.{countEnd}
-use Rattle.writing.specs.ClaimEnds.{entryFits, entryWidth, entry-encoded, entryEnd, entriesEnd, tableEnd, listedEnd, claimEnd, claim-passed, claim-ends}
+use Rattle.writing.specs.EntryEnds.{entryFits, entryWidth, entry-encoded, entryEnd, entriesEnd, tableEnd}
+use Rattle.writing.specs.GoalEnds.{goalsEnd}
+use Rattle.writing.specs.ClaimEnds.{claimEnd, claim-passed}
 use Rattle.writing.specs.NodeEnds.{nodeOf, nodeFits, sequentEnd, nodeEnd, node-encoded, node-past}
 use Rattle.writing.specs.ProofEnds.{nodesOver, nodesEnd, enough, proofEnd, proof-passed}
-use Rattle.writing.specs.ClaimTrips.{claimOf, long-enough, formed-spelled, clipped-same}
+use Rattle.writing.specs.ClaimTrips.{clipped-same, goals-encoded}
 use Rattle.writing.specs.ProofTrips.{over-records}
 
 -- a judge after the walk: it refuses, or the walk's end stands
@@ -35,13 +36,13 @@ abbrev pub judged : Verdict → ℕ → End
 judged accepted o = next o
 judged (verdicts.refused n q) o = stop n q
 
--- 12 to 14, then 20, 71 and 21 to 23
-abbrev pub claimJudged : ℕ → Table → List ℕ → End
-claimJudged n t ms = goOn (claimEnd n t ms) (judged (judgeTable plainly t))
+-- 12 to 14 and 72, then 20, 71 and 21 to 23
+abbrev pub claimJudged : Form → ℕ → Table → List ℕ → List ℕ → End
+claimJudged f n t gs ms = goOn (claimEnd f n t gs ms) (judged (judgeTable plainly t))
 
--- 32 to 34, then 35
-abbrev pub proofJudged : Table → ℕ → List NodeRecord → List ℕ → End
-proofJudged t n vs cs = goOn (proofEnd t n vs cs) (judged (tree-judged (nodesOver vs cs)))
+-- 32 to 34, then 35, beside a claim of the form with so many goals
+abbrev pub proofJudged : Form → ℕ → Table → ℕ → List ℕ → List NodeRecord → List ℕ → End
+proofJudged f k t n os vs cs = goOn (proofEnd f k t n os vs cs) (judged (tree-judged (rootsOf f os) (nodesOver vs cs)))
 
 -- entries that pass have the bytes of entries, as the writer spells them
 pub entries-encoded : (es : Table) (at o : ℕ) → entriesEnd es at ≡ next o → encodeAll entryBytes es ≡ encodeAll encodeEntry (spellingOf es)
@@ -52,15 +53,22 @@ entries-encoded (e ∷ es) at o h =
     let (fits, _) = passed (entryFits e) (next (at + entryWidth (e .kind) (e .b))) 13 at (w .first) in
     ap (λ (l : List ℕ). l ++ encodeAll entryBytes es) (entry-encoded e fits) ∙ ap (λ (l : List ℕ). encodeEntry (spelledAs e) ++ l) (entries-encoded es (w .place) o (w .then))
 
-pub claim-encoded : (n : ℕ) (es : Table) (ms : List ℕ) (o : ℕ) → length es ≡ n → claimEnd n es ms ≡ next o → claimBytes n es ms ≡ encodeClaim (spelledClaim es ms)
+pub claim-encoded : (f : Form) (n : ℕ) (es : Table) (gs ms : List ℕ) (o : ℕ) → length es ≡ n → claimEnd f n es gs ms ≡ next o
+    → claimBytes f n es (split gs ms) ≡ encodeClaim (spelledClaim f es (split gs ms))
 unfolding walk
-claim-encoded n es ms o long h =
-    let p = claim-passed n es ms o h in
-    let table = went (tableEnd n es 4) (λ o. listedEnd es ms o) h in
+claim-encoded f n es gs ms o long h =
+    let p = claim-passed f n es gs ms o h in
+    let table = went (tableEnd n es 4) (λ o. goalsEnd f es gs ms o) h in
     let some = went (countEnd 256 12 n 4) (λ o. entriesEnd es o) (table .first) in
     let i : n ≤ 65535 = omega (arith, p .entries .1) in
-    let j : length ms ≤ 65535 = omega (arith, p .members .1) in
-    rw (clipped-same n i, clipped-same (length ms) j, entries-encoded es (some .place) (table .place) (some .then), length-map es spelledAs, long) refl
+    let many : GoalCount f (length (split gs ms)) = rw (split-count gs ms) (p .goals) in
+    rw (
+      clipped-same n i,
+      entries-encoded es (some .place) (table .place) (some .then),
+      goals-encoded f (split gs ms) many (split-few (p .few) ms),
+      length-map es spelledAs,
+      long,
+    ) refl
 
 module _ (t : Table) where
   pub nodes-encoded : (vs : List NodeRecord) (cs : List ℕ) (at o : ℕ) → 24 * length vs ≤ length cs → nodesEnd t vs cs at ≡ next o → nodesBytes vs cs ≡ encodeAll encodeNode (nodesOver vs cs)
@@ -86,38 +94,19 @@ module _ (t : Table) where
       let (_, few, _) = node-past t v here (enough t v vs cs long) at (w .place) (w .first) in
       more few (nodes-few vs left (w .place) o (omega (arith, length-drop (v .count) cs)) (w .then))
 
-module _ (k : Claim) (n : ℕ) (vs : List NodeRecord) (cs : List ℕ) (same : n ≤ 1024 → length vs ≡ n) (codes : 24576 ≤ length cs) where
-  nodes-walked : (o : ℕ) → proofEnd (k .entries) n vs cs ≡ next o → (at : ℕ) × (24 * length vs ≤ length cs) × (nodesEnd (k .entries) vs cs at ≡ next o)
-  nodes-walked o h =
-      let p = proof-passed k n vs cs same codes o h in
-      let w = went (countEnd 1024 32 n 4) (λ o. nodesEnd (k .entries) vs cs o) h in
-      (w .place, omega (arith, same (p .nodes .1), p .nodes .1), w .then)
+-- the roots of the trees are encoded as those that are given
+roots-encoded : (f : Form) (os : List ℕ) → rootBytes f os ≡ encodeRoots f (rootsOf f os)
+roots-encoded clm1 os = refl
+roots-encoded clm2 os = refl
 
-  pub proof-encoded : (o : ℕ) → proofEnd (k .entries) n vs cs ≡ next o → proofBytes n vs cs ≡ encodeProof (record { nodes = nodesOver vs cs })
+module _ (f : Form) (k : ℕ) (t : Table) (n : ℕ) (os : List ℕ) (vs : List NodeRecord) (cs : List ℕ) (same : n ≤ 1024 → length vs ≡ n) (codes : 24576 ≤ length cs) where
+  proof-encoded : (o : ℕ) → proofEnd f k t n os vs cs ≡ next o → proofBytes f n os vs cs ≡ encodeProof f (record { roots = rootsOf f os; nodes = nodesOver vs cs })
   proof-encoded o h =
-      let p = proof-passed k n vs cs same codes o h in
-      let (at, long, walked) = nodes-walked o h in
+      let p = proof-passed f k t n os vs cs same codes o h in
+      let long : 24 * length vs ≤ length cs = omega (arith, same (p .nodes .1), p .nodes .1) in
       let i : n ≤ 65535 = omega (arith, p .nodes .1) in
-      let many : length (nodesOver vs cs) ≡ n = over-records (k .entries) vs cs at o long walked .1 ∙ same (p .nodes .1) in
-      rw (clipped-same n i, nodes-encoded (k .entries) vs cs at o long walked, many) refl
-
-  pub proof-few : (o : ℕ) → proofEnd (k .entries) n vs cs ≡ next o → Each (λ v. v .count ≤ 24) vs
-  proof-few o h = let (at, long, walked) = nodes-walked o h in nodes-few (k .entries) vs cs at o long walked
-
--- the reading of a claim's records, 20, 71 and 21 to 23 included
-then-table : (t : Table) (ms : List ℕ) (e : End) → andThen (readBy (spelledClaim t ms) e) formed ≡ readBy (record { entries = t; members = ms }) (goOn e (judged (judgeTable plainly t)))
-then-table t ms (stop n q) = refl
-then-table t ms (next o) = formed-spelled t ms ∙ go (record { entries = t; members = ms }) (judgeTable plainly t)
-  where
-    go : (c : Claim) (v : Verdict) → firstly v (good c) ≡ readBy c (judged v o)
-    go c accepted = refl
-    go c (verdicts.refused n q) = refl
-
-pub claim-reading : (c : ClaimRecords) → shortClaim c ≡ false → readFormed (claimFile c) ≡ readBy (claimOf c) (claimJudged (c .count) (take (c .count) (c .entries)) (c .members))
-unfolding readFormed
-claim-reading c long =
-    ap (λ (r : Reading SpelledClaim). andThen r formed) (claim-ends (c .count) (take (c .count) (c .entries)) (c .members) (long-enough c long))
-    ∙ then-table (take (c .count) (c .entries)) (c .members) (claimEnd (c .count) (take (c .count) (c .entries)) (c .members))
+      let (_, many, _) = over-records t vs cs (6 + 2 * length os) o long (p .walked) in
+      rw (clipped-same n i, many, same (p .nodes .1), nodes-encoded t vs cs (6 + 2 * length os) o long (p .walked), roots-encoded f os) refl
 
 -- a walk that a judge let pass
 pub judged-next : (e : End) (v : Verdict) {o : ℕ} → goOn e (judged v) ≡ next o → (e ≡ next o) × (v ≡ accepted)
@@ -126,31 +115,42 @@ judged-next (next u) accepted h = (h, refl)
 judged-next (next u) (verdicts.refused n q) h = absurd (stop-not-next h)
 
 -- records that every judge let pass: the walk ends where the file does, which is that of what they stand for
-pub record ClaimPasses (n : ℕ) (t : Table) (ms : List ℕ) (o : ℕ) : Type 0 where
+pub record ClaimPasses (f : Form) (n : ℕ) (t : Table) (gs ms : List ℕ) (o : ℕ) : Type 0 where
   pub entries : n ≤ 256
-  pub members : length ms ≤ 24
-  pub encoded : claimBytes n t ms ≡ encodeClaim (spelledClaim t ms)
-  pub end : o ≡ length (encodeClaim (spelledClaim t ms))
+  pub goals : GoalCount f (length gs)
+  pub fit : goalsFit f gs ms ≡ true
+  pub few : Each (λ (k : ℕ). k ≤ 24) gs
+  pub encoded : claimBytes f n t (split gs ms) ≡ encodeClaim (spelledClaim f t (split gs ms))
+  pub end : o ≡ length (encodeClaim (spelledClaim f t (split gs ms)))
 
-pub claim-passes : (n : ℕ) (t : Table) (ms : List ℕ) {o : ℕ} → length t ≡ n → claimJudged n t ms ≡ next o → ClaimPasses n t ms o
-claim-passes n t ms {o} long h =
-    let (walked, _) = judged-next (claimEnd n t ms) (judgeTable plainly t) h in
-    let p = claim-passed n t ms o walked in
-    let same = claim-encoded n t ms o long walked in
-    record { entries = p .entries .1; members = p .members .1; encoded = same; end = p .end ∙ ap length same }
+pub claim-passes : (f : Form) (n : ℕ) (t : Table) (gs ms : List ℕ) {o : ℕ} → length t ≡ n → claimJudged f n t gs ms ≡ next o → ClaimPasses f n t gs ms o
+claim-passes f n t gs ms {o} long h =
+    let (walked, _) = judged-next (claimEnd f n t gs ms) (judgeTable plainly t) h in
+    let p = claim-passed f n t gs ms o walked in
+    let same = claim-encoded f n t gs ms o long walked in
+    record { entries = p .entries .1; goals = p .goals; fit = p .fit; few = p .few; encoded = same; end = p .end ∙ ap length same }
 
-pub record ProofPasses (t : Table) (n : ℕ) (vs : List NodeRecord) (cs : List ℕ) (o : ℕ) : Type 0 where
-  pub walked : proofEnd t n vs cs ≡ next o
-  pub tree : tree-judged (nodesOver vs cs) ≡ accepted
+pub record ProofPasses (f : Form) (k : ℕ) (t : Table) (n : ℕ) (os : List ℕ) (vs : List NodeRecord) (cs : List ℕ) (o : ℕ) : Type 0 where
+  pub walked : proofEnd f k t n os vs cs ≡ next o
+  pub tree : tree-judged (rootsOf f os) (nodesOver vs cs) ≡ accepted
   pub nodes : n ≤ 1024
+  pub fit : rootsFit f k os ≡ true
   pub few : Each (λ v. v .count ≤ 24) vs
-  pub encoded : proofBytes n vs cs ≡ encodeProof (record { nodes = nodesOver vs cs })
-  pub end : o ≡ length (encodeProof (record { nodes = nodesOver vs cs }))
+  pub encoded : proofBytes f n os vs cs ≡ encodeProof f (record { roots = rootsOf f os; nodes = nodesOver vs cs })
+  pub end : o ≡ length (encodeProof f (record { roots = rootsOf f os; nodes = nodesOver vs cs }))
 
-pub proof-passes : (k : Claim) (n : ℕ) (vs : List NodeRecord) (cs : List ℕ) {o : ℕ} → (n ≤ 1024 → length vs ≡ n) → 24576 ≤ length cs
-    → proofJudged (k .entries) n vs cs ≡ next o → ProofPasses (k .entries) n vs cs o
-proof-passes k n vs cs {o} same codes h =
-    let (walked, tree) = judged-next (proofEnd (k .entries) n vs cs) (tree-judged (nodesOver vs cs)) h in
-    let p = proof-passed k n vs cs same codes o walked in
-    let bytes = proof-encoded k n vs cs same codes o walked in
-    record { walked = walked; tree = tree; nodes = p .nodes .1; few = proof-few k n vs cs same codes o walked; encoded = bytes; end = p .end ∙ ap length bytes }
+pub proof-passes : (f : Form) (k : ℕ) (t : Table) (n : ℕ) (os : List ℕ) (vs : List NodeRecord) (cs : List ℕ) {o : ℕ} → (n ≤ 1024 → length vs ≡ n) → 24576 ≤ length cs
+    → proofJudged f k t n os vs cs ≡ next o → ProofPasses f k t n os vs cs o
+proof-passes f k t n os vs cs {o} same codes h =
+    let (walked, tree) = judged-next (proofEnd f k t n os vs cs) (tree-judged (rootsOf f os) (nodesOver vs cs)) h in
+    let p = proof-passed f k t n os vs cs same codes o walked in
+    let bytes = proof-encoded f k t n os vs cs same codes o walked in
+    record {
+      walked = walked;
+      tree = tree;
+      nodes = p .nodes .1;
+      fit = p .fit;
+      few = nodes-few t vs cs (6 + 2 * length os) o (omega (arith, same (p .nodes .1), p .nodes .1)) (p .walked);
+      encoded = bytes;
+      end = p .end ∙ ap length bytes;
+    }

@@ -5,8 +5,11 @@ use mathlib.Core.Bool.{Bool, true, false}
 use Prim.Native.Nat.{ℕ, _+_}
 use native.Mathlib.Omega.{arith}
 use lib.ListN.{length, length-append}
+use lib.Seq.{drop-append-seam}
 use Rattle.encoding.specs.Encode.{encodeAll}
-use Rattle.encoding.specs.File.{Reading, refused, good}
+use Rattle.encoding.specs.File.{Reading, refused, good, ending, readFile}
+use Rattle.encoding.specs.Opening.{opens-tells}
+use Rattle.encoding.specs.Walk.{file-opens}
 use Rattle.encoding.specs.Parse.{Got, fault, got, Parser, pick, bind, times}
 
 -- the place after what was walked over, or a refusal
@@ -31,6 +34,13 @@ gotBy x rest (stop n q) = fault n q
 abbrev pub readBy : {A : Type 0} → A → End → Reading A
 readBy x (next o) = good x
 readBy x (stop n q) = refused n q
+
+-- a file that opens as it should is read from the fifth byte on
+pub after-opening : {A : Type 0} (opening : List ℕ) (number early : ℕ) (body : Parser A) (s : List ℕ) → length opening ≡ 4
+    → readFile opening number early body (opening ++ s) ≡ ending early (body s 4)
+unfolding readFile
+after-opening opening number early body s long =
+    file-opens opening number early body (opening ++ s) (opens-tells opening (opening ++ s) .holds (s, refl)) ∙ rw (drop-append-seam opening s, long) refl
 
 is-stop : End → ℕ
 is-stop (next o) = 0

@@ -53,10 +53,6 @@ stands-held has x = go has (eqb x 0)
     go false true = refl
     go false false = refl
 
--- what a test tells of itself
-abbrev pub itself : (b : Bool) → Tells b (b ≡ true)
-itself b = record { says = λ h. h; holds = λ h. h }
-
 -- what a bit of the map brings: its value where the kind or rule has the field, and as much more where a lacking field holds something
 pub stands-over : (has : Bool) (x w : ℕ) → ifSet (stands has x) w ≡ ifSet has w + ifSet (not (mayHold has x)) w
 stands-over has x w = go has (eqb x 0)

@@ -52,12 +52,13 @@ pub record Loadable (lent most given r : ℕ) : Type 0 where
   pub many : most < given → r ≡ 0
 
 -- whatever entries were lent, if the columns hold the given ones
-abbrev pub ClaimWritten : ℕ → ℕ → List ℕ → List ℕ → List ℕ → List ℕ → List ℕ → ℕ → List ℕ → Type 0
-ClaimWritten lent n ks xs ys ms out r out′ =
-    (es : Table) → length es ≡ lent → EntriesHeld es n ks xs ys → WriteClaim (record { entries = es; count = n; members = ms }) out r out′
+abbrev pub ClaimWritten : ℕ → ℕ → ℕ → List ℕ → List ℕ → List ℕ → List ℕ → List ℕ → List ℕ → ℕ → List ℕ → Type 0
+ClaimWritten form lent n ks xs ys gs ms out r out′ =
+    (es : Table) → length es ≡ lent → EntriesHeld es n ks xs ys
+    → WriteClaim (record { form = form; entries = es; count = n; counts = gs; members = ms }) out r out′
 
 -- whatever entries and nodes were lent
-abbrev pub ProofWritten : ℕ → ℕ → List ℕ → List ℕ → List ℕ → List ℕ → ℕ → ℕ → List ℕ → List ℕ → List ℕ → List ℕ → List ℕ → ℕ → List ℕ → Type 0
-ProofWritten lent n ks xs ys ms lent-nodes m rs ls ns cs out r out′ =
+abbrev pub ProofWritten : ℕ → ℕ → ℕ → List ℕ → List ℕ → List ℕ → List ℕ → List ℕ → ℕ → ℕ → List ℕ → List ℕ → List ℕ → List ℕ → List ℕ → List ℕ → ℕ → List ℕ → Type 0
+ProofWritten form lent n ks xs ys gs ms lent-nodes m rs ls ns os cs out r out′ =
     (es : Table) (vs : List NodeRecord) → length es ≡ lent → length vs ≡ lent-nodes → EntriesHeld es n ks xs ys → NodesHeld vs m rs ls ns
-    → WriteProof (record { entries = es; count = n; members = ms }) (record { nodes = vs; count = m; codes = cs }) out r out′
+    → WriteProof (record { form = form; entries = es; count = n; counts = gs; members = ms }) (record { nodes = vs; count = m; roots = os; codes = cs }) out r out′

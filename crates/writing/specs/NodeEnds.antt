@@ -8,7 +8,7 @@ use native.Mathlib.Omega.{arith}
 use borrow.Author.Tests.{eqb-true, ne-eqb, le-leb, lt-leb}
 use lib.Dec.{eqb, leb}
 use lib.ListN.{length, length-append}
-use Rattle.verdict.specs.Tells.{Tells, tells-as, and-tells, or-tells, eqb-tells, same-test}
+use Rattle.verdict.specs.Tells.{Tells, tells-self, tells-as, and-tells, or-tells, eqb-tells, same-test}
 use Rattle.bits.specs.IfSet.{ifSet, if-set-le}
 use Rattle.formula.specs.Rule
 use Rattle.formula.specs.Table.{Table}
@@ -21,7 +21,7 @@ use Rattle.proof_files.specs.ProofFile.{Links, encodeCodes, encodeNode, full}
 use Rattle.proof_files.specs.ReadProof.{early, ruleOf, fields, isCode, sequent, made, node}
 use Rattle.writing.specs.RecordBytes.{stands, nodeBytes}
 use Rattle.writing.specs.Ends.{End, next, stop, goOn, walk, gotBy, passed, went, next-same}
-use Rattle.writing.specs.FieldEnds.{field-meets, field-long, mayHold, held-stands, itself, stands-over, nothing-over, in-range-tells, risingEnd, rising-met, rising-past, numbers-long}
+use Rattle.writing.specs.FieldEnds.{field-meets, field-long, mayHold, held-stands, stands-over, nothing-over, in-range-tells, risingEnd, rising-met, rising-past, numbers-long}
 
 -- the node that a record stands for, with its codes
 abbrev pub nodeOf : NodeRecord → List ℕ → Node
@@ -115,8 +115,8 @@ module _ (v : NodeRecord) where
     links-held : (mayHold (hasPrincipal r) (v .principal) ≡ true)
         × ((mayHold (hasFirst r) (v .first) ≡ true) × ((mayHold (hasSecond r) (v .second) ≡ true) × (mayHold (hasBack r) (v .back) ≡ true)))
     links-held =
-        and-tells (itself (leb r Rule.BACK)) (and-tells (itself (mayHold (hasPrincipal r) (v .principal))) (and-tells (itself (mayHold (hasFirst r) (v .first)))
-        (and-tells (itself (mayHold (hasSecond r) (v .second))) (itself (mayHold (hasBack r) (v .back)))))) .says h .1
+        and-tells (tells-self (leb r Rule.BACK)) (and-tells (tells-self (mayHold (hasPrincipal r) (v .principal))) (and-tells (tells-self (mayHold (hasFirst r) (v .first)))
+        (and-tells (tells-self (mayHold (hasSecond r) (v .second))) (tells-self (mayHold (hasBack r) (v .back)))))) .says h .1
 
     abbrev fitLinks : List ℕ
     fitLinks =

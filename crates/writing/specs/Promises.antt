@@ -10,10 +10,12 @@ use Rattle.verdict.specs.Verdict.{accepted}
 use Rattle.verdict.specs.Lists.{written}
 use Rattle.encoding.specs.Encode.{Bytes}
 use Rattle.encoding.specs.File.{Reading, refused, good}
-use Rattle.formula.specs.Claim.{Claim, Derivation}
+use Rattle.formula.specs.Claim.{Form, formNumber, Claim, Derivation}
 use Rattle.tree.specs.Owners.{tree-judged}
 use Rattle.reader.specs.Files.{Files, readFormed, files}
 use Rattle.writing.specs.Writing.{ClaimRecords, ProofRecords, claimFile, proofFile, writingClaim, writingProof, fileNumber, laidInto}
+use Rattle.writing.specs.ClaimEnds.{longestClaim}
+use Rattle.writing.specs.ProofEnds.{longestProof, longest-proof}
 use Rattle.writing.specs.ClaimTrips.{claimOf, ClaimGiven, ClaimLaid, claim-laid, claim-writes-again}
 use Rattle.writing.specs.ProofTrips.{derivationOf, ProofGiven, LongProof, ProofLaid, both-read, proof-laid, proof-writes-again}
 
@@ -22,25 +24,26 @@ pub record WriteClaim (c : ClaimRecords) (out : List ℕ) (r : ℕ) (out′ : Li
   pub answer : r ≡ fileNumber (writingClaim c (length out))
   -- the file in front of the slice, which is as it was beyond; with a refusal the slice is as it was
   pub laid : out′ ≡ laidInto (writingClaim c (length out)) out
-  -- reading a written file gives the records back
-  pub back : r < 2 ^ 32 → readFormed (take r out′) ≡ good (claimOf c)
+  -- reading a written file gives the records back, within the form
+  pub back : (f : Form) → c .form ≡ formNumber f → r < 2 ^ 32 → (readFormed (take r out′) ≡ good (claimOf f c)) × ClaimGiven c (claimOf f c)
   -- the records of a file that passes are written as its bytes
   pub again : (k : Claim) (claim : List ℕ) → Bytes claim → readFormed claim ≡ good k → ClaimGiven c k
       → 256 ≤ length (c .entries) → length claim ≤ length out → (r ≡ length claim) × (out′ ≡ written claim out)
   -- a claim is never longer
-  pub near : r < 2 ^ 32 → r ≤ 1592
+  pub near : (f : Form) → c .form ≡ formNumber f → r < 2 ^ 32 → r ≤ longestClaim f
 
 pub record WriteProof (c : ClaimRecords) (d : ProofRecords) (out : List ℕ) (r : ℕ) (out′ : List ℕ) : Type 0 where
   pub answer : r ≡ fileNumber (writingProof c d (length out))
   pub laid : out′ ≡ laidInto (writingProof c d (length out)) out
-  -- reading a written file beside its claim gives the records back
-  pub back : r < 2 ^ 32 → (files (claimFile c) (take r out′) ≡ good (record { claim = claimOf c; beside = derivationOf d })) × ProofGiven d (derivationOf d .nodes)
+  -- reading a written file beside its claim gives the records back, within the form
+  pub back : (f : Form) → c .form ≡ formNumber f → r < 2 ^ 32
+      → (files (claimFile f c) (take r out′) ≡ good (record { claim = claimOf f c; beside = derivationOf f d })) × ProofGiven f d (derivationOf f d)
   -- the records of files that pass are written as the proof's bytes
-  pub again : (f : Files Derivation) (claim proof : List ℕ) → Bytes claim → Bytes proof → files claim proof ≡ good f
-      → tree-judged (f .beside .nodes) ≡ accepted → ClaimGiven c (f .claim) → ProofGiven d (f .beside .nodes)
+  pub again : (x : Files Derivation) (claim proof : List ℕ) → Bytes claim → Bytes proof → files claim proof ≡ good x
+      → tree-judged (x .beside .roots) (x .beside .nodes) ≡ accepted → ClaimGiven c (x .claim) → ProofGiven (x .claim .form) d (x .beside)
       → 256 ≤ length (c .entries) → LongProof d → length proof ≤ length out → (r ≡ length proof) × (out′ ≡ written proof out)
   -- a proof is never longer
-  pub near : r < 2 ^ 32 → r ≤ 58374
+  pub near : (f : Form) → c .form ≡ formNumber f → r < 2 ^ 32 → (r ≤ longestProof f (length (c .counts))) × (r ≤ 58406)
 
 -- a number below 2 ^ 32 is a file's length, and the file stands in front of the slice
 record Stands (out : List ℕ) (r : ℕ) (out′ : List ℕ) (file : List ℕ) : Type 0 where
@@ -53,10 +56,10 @@ length-answered (refused n q) out r out′ h laid small = absurd (omega arith)
 length-answered (good file) out r out′ h laid small = (file, refl, record { long = h; front = rw (h, laid) (take-append-seam file _) })
 
 module _ (c : ClaimRecords) (out : List ℕ) (r : ℕ) (out′ : List ℕ) (answer : r ≡ fileNumber (writingClaim c (length out))) (laid : out′ ≡ laidInto (writingClaim c (length out)) out) where
-  as-laid : r < 2 ^ 32 → (file : List ℕ) × ClaimLaid c (length out) file × Stands out r out′ file
-  as-laid small =
+  as-laid : (f : Form) → c .form ≡ formNumber f → r < 2 ^ 32 → (file : List ℕ) × ClaimLaid f c (length out) file × Stands out r out′ file
+  as-laid f named small =
       let (file, was, stands) = length-answered (writingClaim c (length out)) out r out′ answer laid small in
-      (file, claim-laid c (length out) file was, stands)
+      (file, claim-laid c (length out) f named file was, stands)
 
   again : (k : Claim) (claim : List ℕ) → Bytes claim → readFormed claim ≡ good k → ClaimGiven c k
       → 256 ≤ length (c .entries) → length claim ≤ length out → (r ≡ length claim) × (out′ ≡ written claim out)
@@ -68,28 +71,29 @@ module _ (c : ClaimRecords) (out : List ℕ) (r : ℕ) (out′ : List ℕ) (answ
   write-claim = record {
     answer = answer;
     laid = laid;
-    back = λ small. let (file, l, s) = as-laid small in ap readFormed (s .front ∙ l .is) ∙ l .writable .back;
+    back = λ f named small. let (file, l, s) = as-laid f named small in (ap readFormed (s .front ∙ l .is) ∙ l .writable .back, l .writable .given named);
     again = again;
-    near = λ small. let (file, l, s) = as-laid small in omega (arith, s .long, ap length (l .is), l .writable .near);
+    near = λ f named small. let (file, l, s) = as-laid f named small in omega (arith, s .long, ap length (l .is), l .writable .near);
   }
 
 module _ (c : ClaimRecords) (d : ProofRecords) (out : List ℕ) (r : ℕ) (out′ : List ℕ) (answer : r ≡ fileNumber (writingProof c d (length out)))
     (laid : out′ ≡ laidInto (writingProof c d (length out)) out) where
-  proof-as-laid : r < 2 ^ 32 → (file : List ℕ) × ProofLaid c d (length out) file × Stands out r out′ file
-  proof-as-laid small =
+  proof-as-laid : (f : Form) → c .form ≡ formNumber f → r < 2 ^ 32 → (file : List ℕ) × ProofLaid f c d (length out) file × Stands out r out′ file
+  proof-as-laid f named small =
       let (file, was, stands) = length-answered (writingProof c d (length out)) out r out′ answer laid small in
-      (file, proof-laid c d (length out) file was, stands)
+      (file, proof-laid c d (length out) f named file was, stands)
 
-  proof-back : r < 2 ^ 32 → (files (claimFile c) (take r out′) ≡ good (record { claim = claimOf c; beside = derivationOf d })) × ProofGiven d (derivationOf d .nodes)
-  proof-back small =
-      let (file, l, s) = proof-as-laid small in
-      (ap (files (claimFile c)) (s .front ∙ l .is) ∙ both-read (claimFile c) (proofFile d) (l .claim .back) (l .writable .back), l .writable .given)
+  proof-back : (f : Form) → c .form ≡ formNumber f → r < 2 ^ 32
+      → (files (claimFile f c) (take r out′) ≡ good (record { claim = claimOf f c; beside = derivationOf f d })) × ProofGiven f d (derivationOf f d)
+  proof-back f named small =
+      let (file, l, s) = proof-as-laid f named small in
+      (ap (files (claimFile f c)) (s .front ∙ l .is) ∙ both-read (claimFile f c) (proofFile f d) (l .claim .back) (l .writable .back), l .writable .given)
 
-  proof-again : (f : Files Derivation) (claim proof : List ℕ) → Bytes claim → Bytes proof → files claim proof ≡ good f
-      → tree-judged (f .beside .nodes) ≡ accepted → ClaimGiven c (f .claim) → ProofGiven d (f .beside .nodes)
+  proof-again : (x : Files Derivation) (claim proof : List ℕ) → Bytes claim → Bytes proof → files claim proof ≡ good x
+      → tree-judged (x .beside .roots) (x .beside .nodes) ≡ accepted → ClaimGiven c (x .claim) → ProofGiven (x .claim .form) d (x .beside)
       → 256 ≤ length (c .entries) → LongProof d → length proof ≤ length out → (r ≡ length proof) × (out′ ≡ written proof out)
-  proof-again f claim proof bc bp reads tree claim-given given long-claim long fits =
-      let writes = proof-writes-again c d (length out) f bc bp reads tree claim-given given long-claim long fits in
+  proof-again x claim proof bc bp reads tree claim-given given long-claim long fits =
+      let writes = proof-writes-again c d (length out) x bc bp reads tree claim-given given long-claim long fits in
       (answer ∙ ap fileNumber writes, laid ∙ ap (λ (w : Reading (List ℕ)). laidInto w out) writes)
 
   pub write-proof : WriteProof c d out r out′
@@ -98,5 +102,7 @@ module _ (c : ClaimRecords) (d : ProofRecords) (out : List ℕ) (r : ℕ) (out�
     laid = laid;
     back = proof-back;
     again = proof-again;
-    near = λ small. let (file, l, s) = proof-as-laid small in omega (arith, s .long, ap length (l .is), l .writable .near);
+    near = λ f named small.
+        let (file, l, s) = proof-as-laid f named small in
+        (omega (arith, s .long, l .near), omega (arith, s .long, l .near, longest-proof f (length (c .counts)) (l .claim .goals)));
   }

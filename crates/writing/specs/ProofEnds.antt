@@ -2,25 +2,26 @@
 use mathlib.Core.Path.{_≡_, refl, sym, ap, _∙_}
 use mathlib.Core.List.{List, [], _∷_, _++_, append-assoc, append-nil}
 use mathlib.Core.Bool.{Bool, true, false}
-use Prim.Native.Nat.{ℕ, _+_, _*_, _≤_}
+use Prim.Native.Nat.{ℕ, zero, suc, _+_, _*_, _≤_}
 use native.Mathlib.Omega.{arith}
+use borrow.Author.Tests.{eqb-true}
 use lib.ListN.{length, take, drop, length-append, length-drop}
 use lib.Seq.{length-take-le}
 use Rattle.verdict.specs.Tells.{Tells}
-use Rattle.formula.specs.Rule
 use Rattle.formula.specs.Table.{Table}
 use Rattle.formula.specs.Nodes.{Node, Proof}
-use Rattle.formula.specs.Claim.{Claim, Derivation}
+use Rattle.formula.specs.Claim.{Form, clm1, clm2, Claim, Derivation}
 use Rattle.formula.specs.Records.{NodeRecord}
+use Rattle.encoding.specs.Encode.{encodeTwo, encodeAll}
 use Rattle.encoding.specs.File.{Reading, ending}
-use Rattle.encoding.specs.Parse.{Got, got, pick, bind, count, in-range, times}
-use Rattle.encoding.specs.Opening.{opens}
-use Rattle.encoding.specs.Walk.{file-opens}
+use Rattle.encoding.specs.Parse.{Got, fault, got, pick, bind, seq, via, count, in-range, times}
+use Rattle.claim_files.specs.ClaimFile.{GoalCount}
 use Rattle.proof_files.specs.ProofFile.{proofOpening}
-use Rattle.proof_files.specs.ReadProof.{early, node, nodes, derivationOf, body, readProof}
-use Rattle.writing.specs.RecordBytes.{nodeBytes, nodesBytes, proofBytes}
-use Rattle.writing.specs.Ends.{End, next, stop, goOn, walk, gotBy, readBy, passed, went, next-same}
-use Rattle.writing.specs.FieldEnds.{countEnd, in-range-tells, count-meets}
+use Rattle.proof_files.specs.ReadProof.{early, node, isNode, roots, nodes, derivationOf, body, readProof}
+use Rattle.writing.specs.RecordBytes.{clipped, nodeBytes, nodesBytes, rootBytes, proofBytes, proofHead}
+use Rattle.writing.specs.Goals.{rootCount, rootsFit, rootsOf, none-given}
+use Rattle.writing.specs.Ends.{End, next, stop, goOn, walk, gotBy, readBy, after-opening, passed, went, next-same}
+use Rattle.writing.specs.FieldEnds.{countEnd, in-range-tells, count-meets, risingEnd, rising-met, rising-past, numbers-long}
 use Rattle.writing.specs.NodeEnds.{nodeOf, nodeFits, nodeEnd, node-read, node-past}
 
 -- the nodes that records stand for: each with its codes, which follow those of the nodes before it
@@ -33,9 +34,22 @@ unfolding walk
 nodesEnd t [] cs at = next at
 nodesEnd t (v ∷ vs) cs at = goOn (nodeEnd t v (take (v .count) cs) at) (λ o. nodesEnd t vs (drop (v .count) cs) o)
 
--- 32 to 34: where the proof ends
-abbrev pub proofEnd : Table → ℕ → List NodeRecord → List ℕ → End
-proofEnd t n vs cs = goOn (countEnd 1024 32 n 4) (λ o. nodesEnd t vs cs o)
+-- as many roots as the form has beside so many goals, each the number of one of n nodes
+abbrev pub rootsEnd : Form → ℕ → ℕ → List ℕ → ℕ → End
+rootsEnd f k n os at = pick (rootsFit f k os) (risingEnd (isNode n) 34 os at) (stop 34 at)
+
+-- 32 to 34: where the proof ends, beside a claim of the form with so many goals
+abbrev pub proofEnd : Form → ℕ → Table → ℕ → List ℕ → List NodeRecord → List ℕ → End
+proofEnd f k t n os vs cs = goOn (countEnd 1024 32 n 4) (λ o. goOn (rootsEnd f k n os o) (λ u. nodesEnd t vs cs u))
+
+-- no proof is longer, beside so many goals
+abbrev pub longestProof : Form → ℕ → ℕ
+longestProof f k = 58374 + 2 * rootCount f k
+
+-- nor beside as many as a claim may have
+pub longest-proof : (f : Form) (k : ℕ) → GoalCount f k → longestProof f k ≤ 58406
+longest-proof clm1 k h = omega arith
+longest-proof clm2 k h = omega (arith, h .1)
 
 -- all nodes, where the slice of codes has enough for them
 module _ (t : Table) where
@@ -84,52 +98,130 @@ module _ (t : Table) where
       let (end-all, near-all) = nodes-past vs left (w .place) o (omega (arith, length-drop (v .count) cs)) (w .then) in
       (omega (arith, end, end-all, length-append (nodeBytes v here) (nodesBytes vs left)), omega (arith, near, near-all))
 
--- the proof's records are read back, or refused where the walk stops
-module _ (c : Claim) (n : ℕ) (vs : List NodeRecord) (cs : List ℕ) (long : n ≤ 1024 → length vs ≡ n) (codes : 24576 ≤ length cs) where
-  abbrev pub derivation : Derivation
-  derivation = record { nodes = nodesOver vs cs }
+roots-read : (f : Form) (k n : ℕ) (os rest : List ℕ) (at : ℕ) → rootsFit f k os ≡ true
+    → roots f k n (rootBytes f os ++ rest) at ≡ gotBy (rootsOf f os) rest (risingEnd (isNode n) 34 os at)
+unfolding roots walk
+roots-read clm1 k n os rest at fit = rw (none-given os (eqb-true (length os) 0 fit)) refl
+roots-read clm2 k n os rest at fit = rw (← (eqb-true (length os) k fit)) (rising-met early (isNode n) 34 os rest at)
+
+opening-long : (f : Form) → length (proofOpening f) ≡ 4
+opening-long clm1 = refl
+opening-long clm2 = refl
+
+-- two bytes for each root that is given
+roots-long : (f : Form) (k : ℕ) (os : List ℕ) → rootsFit f k os ≡ true → (length (rootBytes f os) ≡ 2 * length os) × (length os ≡ rootCount f k)
+unfolding encodeAll
+roots-long clm1 k os fit = let z = eqb-true (length os) 0 fit in (omega arith, z)
+roots-long clm2 k os fit = (numbers-long os, eqb-true (length os) k fit)
+
+cut : (t : Table) (f : Form) (k n : ℕ) → 1 ≤ n → seq (roots f k n) (λ _. nodes t n) [] 6 ≡ fault early 6
+unfolding roots nodes
+cut t f k zero h = absurd (omega arith)
+cut t clm1 k (suc n) h = refl
+cut t clm2 zero (suc n) h = refl
+cut t clm2 (suc k) (suc n) h = refl
+
+opened : (c : Claim) (s : List ℕ) → readProof c (proofOpening (c .form) ++ s) ≡ ending early (body c s 4)
+unfolding readProof
+opened c s = after-opening (proofOpening (c .form)) 30 early (body c) s (opening-long (c .form))
+
+-- the proof's records are read back, or refused where the walk stops: whatever follows the node count
+module _ (c : Claim) (n : ℕ) where
+  abbrev f : Form
+  f = c .form
+
+  abbrev k : ℕ
+  k = length (c .goals)
 
   after-count : Got ℕ → Reading Derivation
-  unfolding times node
-  after-count g = ending early (bind (bind g (λ n r o. times (λ _. node (c .entries)) (λ _ _. 0) n 0 r o)) (λ p r o. got (derivationOf p) r o))
+  unfolding roots nodes
+  after-count g = ending early (via derivationOf (λ _ _. bind g (λ n r o. bind (seq (roots f k n) (λ _. nodes (c .entries) n) r o) (λ y u z. got (n, y) u z))) [] 0)
 
-  after-nodes : Got Proof → Reading Derivation
-  after-nodes g = ending early (bind g (λ p r o. got (derivationOf p) r o))
+  after-roots : Got (List ℕ) → Reading Derivation
+  unfolding nodes
+  after-roots g =
+      ending early (via derivationOf (λ _ _. bind (bind g (λ x r o. bind (nodes (c .entries) n r o) (λ y u z. got (x, y) u z))) (λ y u z. got (n, y) u z)) [] 0)
 
-  nodes-end : (e : End) → after-nodes (gotBy (nodesOver vs cs) [] e) ≡ readBy derivation e
-  unfolding after-nodes
-  nodes-end (next o) = refl
-  nodes-end (stop m q) = refl
+  after-nodes : List ℕ → Got Proof → Reading Derivation
+  after-nodes x g = ending early (via derivationOf (λ _ _. bind (bind g (λ y u z. got (x, y) u z)) (λ y u z. got (n, y) u z)) [] 0)
 
-  count-end : (b : Bool) → Tells b ((1 ≤ n) × (n ≤ 1024)) → after-count (gotBy n (nodesBytes vs cs) (pick b (next 6) (stop 32 4)))
-      ≡ readBy derivation (goOn (pick b (next 6) (stop 32 4)) (λ o. nodesEnd (c .entries) vs cs o))
-  unfolding after-count after-nodes nodesEnd
-  count-end false T = refl
-  count-end true T =
-      let same = long (T .says refl .1) in
-      ap (λ (m : ℕ). after-nodes (times (λ _. node (c .entries)) (λ _ _. 0) m 0 (nodesBytes vs cs) 6)) (sym same)
-      ∙ ap (λ (s : List ℕ). after-nodes (times (λ _. node (c .entries)) (λ _ _. 0) (length vs) 0 s 6)) (sym (append-nil (nodesBytes vs cs)))
-      ∙ ap after-nodes (nodes-read (c .entries) vs cs [] 6 (omega (arith, T .says refl .1)))
-      ∙ nodes-end (nodesEnd (c .entries) vs cs 6)
+  module _ (bytes : List ℕ) (x : Derivation) (rest : ℕ → End) (met : 1 ≤ n → n ≤ 1024 → after-count (got n bytes 6) ≡ readBy x (rest 6)) where
+    count-end : (b : Bool) → Tells b ((1 ≤ n) × (n ≤ 1024)) → after-count (gotBy n bytes (pick b (next 6) (stop 32 4))) ≡ readBy x (goOn (pick b (next 6) (stop 32 4)) rest)
+    unfolding after-count
+    count-end false T = refl
+    count-end true T = met (T .says refl .0) (T .says refl .1)
 
-  pub proof-ends : readProof c (proofBytes n vs cs) ≡ readBy derivation (proofEnd (c .entries) n vs cs)
-  unfolding readProof body nodes after-count opens nodesEnd
-  proof-ends =
-      file-opens proofOpening 30 early (body (c .entries)) (proofBytes n vs cs) refl
-      ∙ ap after-count (count-meets early 1024 32 (omega arith) n (nodesBytes vs cs) 4)
-      ∙ count-end (in-range 1024 n) (in-range-tells 1024 n)
+    follows : readProof c (proofOpening f ++ (encodeTwo (clipped n) ++ bytes)) ≡ readBy x (goOn (countEnd 1024 32 n 4) rest)
+    unfolding body after-count
+    follows =
+        opened c (encodeTwo (clipped n) ++ bytes)
+        ∙ ap after-count (count-meets early 1024 32 (omega arith) n bytes 4)
+        ∙ count-end (in-range 1024 n) (in-range-tells 1024 n)
 
+  -- a file that stops after the node count ends early
+  pub proof-cut : (x : Derivation) → readProof c (proofHead f n) ≡ readBy x (goOn (countEnd 1024 32 n 4) (λ o. stop early o))
+  unfolding after-count
+  proof-cut x = follows [] x (λ o. stop early o) (λ low high. rw (cut (c .entries) f k n low) refl)
+
+  module _ (os : List ℕ) (vs : List NodeRecord) (cs : List ℕ) (long : n ≤ 1024 → length vs ≡ n) (codes : 24576 ≤ length cs) where
+    abbrev pub derivation : Derivation
+    derivation = record { roots = rootsOf f os; nodes = nodesOver vs cs }
+
+    nodes-end : (e : End) → after-nodes (rootsOf f os) (gotBy (nodesOver vs cs) [] e) ≡ readBy derivation e
+    unfolding after-nodes
+    nodes-end (next o) = refl
+    nodes-end (stop m q) = refl
+
+    roots-end : n ≤ 1024 → (e : End) → after-roots (gotBy (rootsOf f os) (nodesBytes vs cs) e) ≡ readBy derivation (goOn e (λ u. nodesEnd (c .entries) vs cs u))
+    unfolding after-roots after-nodes nodesEnd
+    roots-end few (stop m q) = refl
+    roots-end few (next o) =
+        let same = long few in
+        ap (λ (m : ℕ). after-nodes (rootsOf f os) (times (λ _. node (c .entries)) (λ _ _. 0) m 0 (nodesBytes vs cs) o)) (sym same)
+        ∙ ap (λ (s : List ℕ). after-nodes (rootsOf f os) (times (λ _. node (c .entries)) (λ _ _. 0) (length vs) 0 s o)) (sym (append-nil (nodesBytes vs cs)))
+        ∙ ap (after-nodes (rootsOf f os)) (nodes-read (c .entries) vs cs [] o (omega arith))
+        ∙ nodes-end (nodesEnd (c .entries) vs cs o)
+
+    pub proof-ends : rootsFit f k os ≡ true → readProof c (proofBytes f n os vs cs) ≡ readBy derivation (proofEnd f k (c .entries) n os vs cs)
+    unfolding nodesEnd after-count after-roots
+    proof-ends fit =
+        follows (rootBytes f os ++ nodesBytes vs cs) derivation (λ o. goOn (rootsEnd f k n os o) (λ u. nodesEnd (c .entries) vs cs u))
+        (λ low high. ap after-roots (roots-read f k n os (nodesBytes vs cs) 6 fit) ∙ rw fit (roots-end high (risingEnd (isNode n) 34 os 6)))
+
+-- what a walk to the end tells: the counts are in range, the roots fit, and it ends where the file does
+module _ (f : Form) (k : ℕ) (t : Table) (n : ℕ) (os : List ℕ) (vs : List NodeRecord) (cs : List ℕ) (long : n ≤ 1024 → length vs ≡ n) (codes : 24576 ≤ length cs) where
   pub record ProofPassed (o : ℕ) : Type 0 where
     pub nodes : (1 ≤ n) × (n ≤ 1024)
-    pub end : o ≡ length (proofBytes n vs cs)
-    pub near : o ≤ 58374
+    pub fit : rootsFit f k os ≡ true
+    pub end : o ≡ length (proofBytes f n os vs cs)
+    pub near : o ≤ longestProof f k
+    -- from where the roots end
+    pub walked : nodesEnd t vs cs (6 + 2 * length os) ≡ next o
 
-  pub proof-passed : (o : ℕ) → proofEnd (c .entries) n vs cs ≡ next o → ProofPassed o
+  pub proof-passed : (o : ℕ) → proofEnd f k t n os vs cs ≡ next o → ProofPassed o
   unfolding nodesEnd
   proof-passed o h =
-      let w = went (countEnd 1024 32 n 4) (λ o. nodesEnd (c .entries) vs cs o) h in
+      let w = went (countEnd 1024 32 n 4) (λ o. goOn (rootsEnd f k n os o) (λ u. nodesEnd t vs cs u)) h in
       let (i, six) = passed (in-range 1024 n) (next 6) 32 4 (w .first) in
       let few = in-range-tells 1024 n .says i in
       let same = long (few .1) in
-      let (end, near) = nodes-past (c .entries) vs cs (w .place) o (omega (arith, few .1)) (w .then) in
-      record { nodes = few; end = omega (arith, next-same six, end); near = omega (arith, next-same six, near, few .1) }
+      let v = went (rootsEnd f k n os (w .place)) (λ u. nodesEnd t vs cs u) (w .then) in
+      let (fit, rise) = passed (rootsFit f k os) (risingEnd (isNode n) 34 os (w .place)) 34 (w .place) (v .first) in
+      let (wide, many) = roots-long f k os fit in
+      let at : v .place ≡ 6 + 2 * length os = omega (arith, next-same six, rising-past early (isNode n) 34 os (w .place) (v .place) rise, numbers-long os) in
+      let (end, near) = nodes-past t vs cs (v .place) o (omega (arith, few .1)) (v .then) in
+      record {
+        nodes = few;
+        fit = fit;
+        end = omega (
+          arith,
+          at,
+          end,
+          wide,
+          opening-long f,
+          length-append (proofOpening f) (encodeTwo (clipped n) ++ (rootBytes f os ++ nodesBytes vs cs)),
+          length-append (rootBytes f os) (nodesBytes vs cs),
+        );
+        near = omega (arith, at, near, few .1, many);
+        walked = ap (λ (at : ℕ). nodesEnd t vs cs at) (sym at) ∙ v .then;
+      }

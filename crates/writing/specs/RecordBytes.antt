@@ -7,11 +7,12 @@ use lib.ListN.{length, take, drop}
 use Rattle.verdict.specs.Tests.{choose}
 use Rattle.bits.specs.IfSet.{ifSet}
 use Rattle.formula.specs.Table.{Entry, Table}
+use Rattle.formula.specs.Claim.{Form}
 use Rattle.formula.specs.Records.{NodeRecord}
 use Rattle.formula.specs.Fields.{hasA, hasB, hasPrincipal, hasFirst, hasSecond, hasBack}
 use Rattle.encoding.specs.Encode.{encodeTwo, encodePart, encodeField, encodeAll}
-use Rattle.claim_files.specs.ClaimFile.{claimOpening}
-use Rattle.proof_files.specs.ProofFile.{proofOpening}
+use Rattle.claim_files.specs.ClaimFile.{claimOpening, encodeGoalCount}
+use Rattle.proof_files.specs.ProofFile.{proofOpening, encodeRoots}
 
 -- a field stands where the kind or rule has it, and where it holds a value other than 0: then the map is unfit, unless that is the action of a
 -- box or diamond. So action 0 is never written out
@@ -28,10 +29,29 @@ entryBytes e =
     let b = stands (hasB (e .kind)) (e .b) in
     (ifSet a 1 + ifSet b 2) ∷ e .kind ∷ (encodeField a (e .a) ++ encodeField b (e .b))
 
--- n entries, and as many members as their list has
-abbrev pub claimBytes : ℕ → Table → List ℕ → List ℕ
-claimBytes n es ms =
-    claimOpening ++ ((encodeTwo (clipped n) ++ encodeAll entryBytes es) ++ (encodeTwo (clipped (length ms)) ++ encodeAll encodeTwo ms))
+-- n entries
+abbrev pub tableBytes : ℕ → Table → List ℕ
+tableBytes n es = encodeTwo (clipped n) ++ encodeAll entryBytes es
+
+-- as many members as their list has
+abbrev pub memberBytes : List ℕ → List ℕ
+memberBytes ms = encodeTwo (clipped (length ms)) ++ encodeAll encodeTwo ms
+
+-- the goal count, which CLM1 does not write, and the goals
+abbrev pub goalBytes : Form → List (List ℕ) → List ℕ
+goalBytes f goals = encodeGoalCount f (clipped (length goals)) ++ encodeAll memberBytes goals
+
+abbrev pub claimBytes : Form → ℕ → Table → List (List ℕ) → List ℕ
+claimBytes f n es goals = claimOpening f ++ (tableBytes n es ++ goalBytes f goals)
+
+-- the same up to the goal count, of so many goals
+abbrev pub claimHead : Form → ℕ → Table → ℕ → List ℕ
+claimHead f n es k = claimOpening f ++ (tableBytes n es ++ encodeGoalCount f (clipped k))
+
+-- the goals that follow each other in one list, by the counts of their members
+unfoldable pub split : List ℕ → List ℕ → List (List ℕ)
+split [] ms = []
+split (k ∷ gs) ms = take k ms ∷ split gs (drop k ms)
 
 -- the code count that the record gives, and its codes; count 0 means no bit 4
 abbrev pub nodeBytes : NodeRecord → List ℕ → List ℕ
@@ -50,6 +70,14 @@ unfoldable pub nodesBytes : List NodeRecord → List ℕ → List ℕ
 nodesBytes [] cs = []
 nodesBytes (v ∷ vs) cs = nodeBytes v (take (v .count) cs) ++ nodesBytes vs (drop (v .count) cs)
 
+-- the roots, which PRF1 does not write
+abbrev pub rootBytes : Form → List ℕ → List ℕ
+rootBytes f os = encodeRoots f os
+
 -- n nodes
-abbrev pub proofBytes : ℕ → List NodeRecord → List ℕ → List ℕ
-proofBytes n vs cs = proofOpening ++ (encodeTwo (clipped n) ++ nodesBytes vs cs)
+abbrev pub proofBytes : Form → ℕ → List ℕ → List NodeRecord → List ℕ → List ℕ
+proofBytes f n os vs cs = proofOpening f ++ (encodeTwo (clipped n) ++ (rootBytes f os ++ nodesBytes vs cs))
+
+-- the same up to the node count
+abbrev pub proofHead : Form → ℕ → List ℕ
+proofHead f n = proofOpening f ++ encodeTwo (clipped n)

@@ -14,7 +14,7 @@ use Rattle.bits.specs.IfSet.{ifSet}
 use Rattle.formula.specs.Kind
 use Rattle.formula.specs.Table.{Entry, Table}
 use Rattle.formula.specs.Spelled.{Spelled, aStands, bStands, recordOf, zeroWritten, tableBy, recordsOf, zeros}
-use Rattle.formula.specs.Claim.{SpelledClaim, claimOf}
+use Rattle.formula.specs.Claim.{Form, SpelledClaim, claimOf}
 use Rattle.formula.specs.Fields.{hasA, hasB, isModal, mapOf}
 use Rattle.conditions.specs.Judge.{plainly, judgeTable}
 use Rattle.encoding.specs.Encode.{FitField}
@@ -29,8 +29,8 @@ spelledAs e = record { map = mapFor (e .kind) (e .b); kind = e .kind; a = e .a; 
 abbrev pub spellingOf : Table → List Spelled
 spellingOf es = map spelledAs es
 
-abbrev pub spelledClaim : Table → List ℕ → SpelledClaim
-spelledClaim es ms = record { spelling = spellingOf es; members = ms }
+abbrev pub spelledClaim : Form → Table → List (List ℕ) → SpelledClaim
+spelledClaim f es goals = record { form = f; spelling = spellingOf es; goals = goals }
 
 -- a box or diamond has A, and B only by its map
 pub modal-fields : (k : ℕ) → isModal k ≡ true → (hasA k ≡ true) × (hasB k ≡ false)
@@ -67,8 +67,8 @@ unfolding tableBy
 records-spelled [] = refl
 records-spelled (e ∷ es) = ap (λ (t : Table). e ∷ t) (records-spelled es)
 
-pub claim-spelled : (es : Table) (ms : List ℕ) → claimOf (spelledClaim es ms) ≡ record { entries = es; members = ms }
-claim-spelled es ms = ap (λ (t : Table). record { entries = t; members = ms }) (records-spelled es)
+pub claim-spelled : (f : Form) (es : Table) (goals : List (List ℕ)) → claimOf (spelledClaim f es goals) ≡ record { form = f; entries = es; goals = goals }
+claim-spelled f es goals = ap (λ (t : Table). record { form = f; entries = t; goals = goals }) (records-spelled es)
 
 -- so the conditions are judged of the records alone
 pub spelled-judged : (es : Table) → judgeTable (zeros (spellingOf es)) (recordsOf (spellingOf es)) ≡ judgeTable plainly es

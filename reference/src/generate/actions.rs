@@ -3,7 +3,6 @@
 use super::rng::Rng;
 use crate::check::Decoded;
 use crate::claim::{Entry, Kind, ACTIONS};
-use crate::draft::{self, File};
 use crate::proof::Rule;
 use crate::sequent::entry_of;
 
@@ -52,13 +51,13 @@ pub fn spread(rng: &mut Rng, entries: &mut [Entry]) {
 pub fn stepped_by(Decoded { claim, proof }: &Decoded) -> Vec<u16> {
     let entry = |code: u16| claim.entries[entry_of(code)];
     let diamond = |&code: &u16| entry(code).kind == Kind::Diamond;
-    let nodes = proof.nodes.iter().enumerate();
+    let nodes = proof.nodes.iter().zip(proof.sequents());
     nodes
-        .filter(|(_, node)| {
+        .filter(|(node, _)| {
             node.rule == Rule::Box && entry_of(node.principal) < claim.entries.len()
         })
-        .filter(|&(number, _)| proof.sequent(number).iter().any(diamond))
-        .map(|(_, node)| entry(node.principal).b)
+        .filter(|(_, codes)| codes.iter().any(diamond))
+        .map(|(node, _)| entry(node.principal).b)
         .collect()
 }
 
@@ -87,12 +86,11 @@ pub fn above(rng: &mut Rng) -> u16 {
     }
 }
 
-/// A claim with actions above 15 and zeros written out, where it has a box or
-/// diamond; and mostly with a field out of its bounds, at the same entry or at
-/// another.
-pub fn unfit_claim(rng: &mut Rng, entries: &[Entry], members: &[u16]) -> File {
-    let mut entries = entries.to_vec();
-    let mut places: Vec<usize> = modal(&entries).collect();
+/// Actions above 15 and zeros written out, where a table has a box or diamond; and
+/// mostly a field out of its bounds, at the same entry or at another. Answers which
+/// zeros are written out.
+pub fn make_unfit(rng: &mut Rng, entries: &mut [Entry]) -> Vec<usize> {
+    let mut places: Vec<usize> = modal(entries).collect();
     rng.shuffle(&mut places);
     places.truncate(rng.between(1, 2));
     let mut written_out = Vec::new();
@@ -109,15 +107,15 @@ pub fn unfit_claim(rng: &mut Rng, entries: &[Entry], members: &[u16]) -> File {
         0 => {}
         1 => {
             if let Some(at) = rng.pick(&places) {
-                break_bounds(rng, &mut entries, at);
+                break_bounds(rng, entries, at);
             }
         }
         _ => {
             let at = rng.below(entries.len());
-            break_bounds(rng, &mut entries, at);
+            break_bounds(rng, entries, at);
         }
     }
-    draft::claim_written_out(&entries, members, |at| written_out.contains(&at))
+    written_out
 }
 
 /// An operand at or above its entry, a letter above 31, or a name of none. True

@@ -5,7 +5,7 @@ use crate::draft::{File, Mark};
 
 pub fn damage(rng: &mut Rng, file: &File) -> Vec<u8> {
     let mut bytes = file.bytes.clone();
-    match rng.below(13) {
+    match rng.below(15) {
         0 => flip(rng, &mut bytes),
         1 => bytes.truncate(rng.below(file.bytes.len())),
         2 => bytes.truncate(file.bytes.len().saturating_sub(rng.between(1, 3))),
@@ -17,6 +17,8 @@ pub fn damage(rng: &mut Rng, file: &File) -> Vec<u8> {
         8 => damage_mark(rng, file, &mut bytes, Mark::Field),
         9 => drop_byte(rng, &mut bytes),
         10 if file.has(Mark::Actions) => damage_mark(rng, file, &mut bytes, Mark::Actions),
+        11..=12 if file.has(Mark::Goals) => damage_mark(rng, file, &mut bytes, Mark::Goals),
+        11..=12 if file.has(Mark::Root) => damage_mark(rng, file, &mut bytes, Mark::Root),
         _ => damage_mark(rng, file, &mut bytes, Mark::Member),
     }
     bytes

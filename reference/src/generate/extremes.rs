@@ -125,14 +125,16 @@ fn hard_entries_by_one(rng: &mut Rng) -> Vec<Entry> {
 
 /// Claim and proof with some count at its limit or just beyond.
 pub fn limits(rng: &mut Rng) -> (File, File) {
-    match rng.below(4) {
+    match rng.below(6) {
         0 => {
             let entries = vec![Entry::new(Kind::True, 0, 0); rng.between(255, 257)];
             (draft::claim(&entries, &[0]), draft::proof(&[true_leaf(0)]))
         }
         1 => weakened(rng.between(23, 25) as u16),
         2 => chain(rng.between(1023, 1025)),
-        _ => letter(rng.between(30, 33) as u16),
+        3 => letter(rng.between(30, 33) as u16),
+        4 => many_goals(rng.between(15, 17), rng.between(23, 25) as u16),
+        _ => chains(rng.between(1, 16), rng.between(1023, 1025)),
     }
 }
 
@@ -153,6 +155,21 @@ fn true_leaf(entry: u16) -> DraftNode {
 /// As many members as asked for, truth and letters, all but the first dropped by
 /// weakening.
 pub fn weakened(count: u16) -> (File, File) {
+    let (entries, members, nodes) = weakening(count);
+    (draft::claim(&entries, &members), draft::proof(&nodes))
+}
+
+/// So many goals of so many members, each of them that claim, one tree behind the
+/// other.
+pub fn many_goals(goals: usize, count: u16) -> (File, File) {
+    let (entries, members, nodes) = weakening(count);
+    let trees = repeated(&nodes, goals);
+    let roots: Vec<u16> = (0..goals).map(|goal| (goal * nodes.len()) as u16).collect();
+    let claim = draft::goal_claim(&entries, &vec![members; goals]);
+    (claim, draft::goal_proof(&roots, &trees))
+}
+
+fn weakening(count: u16) -> (Vec<Entry>, Vec<u16>, Vec<DraftNode>) {
     let mut entries = vec![Entry::new(Kind::True, 0, 0)];
     entries.extend((1..count).map(|letter| Entry::new(Kind::Letter, letter, 0)));
     let members: Vec<u16> = (0..count).collect();
@@ -166,16 +183,46 @@ pub fn weakened(count: u16) -> (File, File) {
         })
         .collect();
     put_above(&mut nodes, chain);
-    (draft::claim(&entries, &members), draft::proof(&nodes))
+    (entries, members, nodes)
+}
+
+/// The tree so many times, its numbers counted on.
+fn repeated(nodes: &[DraftNode], times: usize) -> Vec<DraftNode> {
+    let mut all = Vec::with_capacity(times * nodes.len());
+    for time in 0..times {
+        let start = (time * nodes.len()) as u16;
+        all.extend(nodes.iter().map(|node| DraftNode {
+            first: start + node.first,
+            second: start + node.second,
+            back: start + node.back,
+            ..node.clone()
+        }));
+    }
+    all
 }
 
 /// As many nodes as asked for: D over D over an axiom.
 pub fn chain(count: usize) -> (File, File) {
+    let claim = draft::claim(&[Entry::new(Kind::True, 0, 0)], &[0]);
+    (claim, draft::proof(&descent(count)))
+}
+
+/// As many nodes as asked for, the last of them in so many trees of one node.
+pub fn chains(goals: usize, count: usize) -> (File, File) {
+    let first = count - (goals - 1);
+    let mut nodes = descent(first);
+    nodes.resize(count, true_leaf(0));
+    let others = first as u16..count as u16;
+    let roots: Vec<u16> = std::iter::once(0).chain(others).collect();
+    let claim = draft::goal_claim(&[Entry::new(Kind::True, 0, 0)], &vec![vec![0]; goals]);
+    (claim, draft::goal_proof(&roots, &nodes))
+}
+
+fn descent(count: usize) -> Vec<DraftNode> {
     let mut nodes = vec![true_leaf(0)];
     let d = DraftNode::new(Rule::D, 0, vec![1]);
     put_above(&mut nodes, vec![d; count.saturating_sub(1)]);
-    let claim = draft::claim(&[Entry::new(Kind::True, 0, 0)], &[0]);
-    (claim, draft::proof(&nodes))
+    nodes
 }
 
 /// A letter and its negation.

@@ -6,6 +6,7 @@ mod actions;
 mod damage;
 mod formulas;
 mod models;
+mod near_goal;
 mod near_miss;
 mod near_twin;
 mod number;
@@ -17,6 +18,7 @@ mod records;
 mod renamed;
 mod rng;
 mod search;
+mod several;
 mod step;
 mod tally;
 mod twins;
@@ -27,14 +29,16 @@ pub use actions::stepped_by;
 pub use paths::{leaves_focus, loop_paths};
 pub use renamed::twins_used;
 pub use rng::Rng;
+pub use several::{apart, interleaved, Part};
 pub use tally::Tally;
 
 use crate::check::{check, evaluate};
 use crate::claim::Entry;
 use crate::corpus::{CheckRecord, EvalRecord, WriteRecord};
+use crate::goals::Form;
 use crate::refusal::answer_wide;
 
-/// An endless run of claims and proofs with the reference's answers.
+/// An endless run of claims and proofs with the reference's answers, in both forms.
 pub fn checks(seed: u64) -> impl Iterator<Item = CheckRecord> {
     inputs(seed, |rng| check_record(pairs::check_pair(rng)))
 }
@@ -48,6 +52,11 @@ pub fn loops_leaving_focus(seed: u64) -> impl Iterator<Item = CheckRecord> {
 /// of some code or principal.
 pub fn twins(seed: u64) -> impl Iterator<Item = CheckRecord> {
     inputs(seed, |rng| check_record(renamed::with_twins(rng)))
+}
+
+/// The same in the form of several goals alone, mostly with two at least.
+pub fn goals(seed: u64) -> impl Iterator<Item = CheckRecord> {
+    inputs(seed, |rng| check_record(pairs::goal_pair(rng)))
 }
 
 fn check_record((claim, proof): (Vec<u8>, Vec<u8>)) -> CheckRecord {
@@ -85,12 +94,17 @@ pub fn writes(seed: u64) -> impl Iterator<Item = WriteRecord> {
     })
 }
 
-/// Claims and proofs that keep every rule by construction.
+/// Claims and proofs that keep every rule by construction, in both forms.
 pub fn accepted(seed: u64) -> impl Iterator<Item = (Vec<u8>, Vec<u8>)> {
     inputs(seed, |rng| {
         let proved = pairs::accepted(rng);
-        (proved.claim().bytes, proved.proof().bytes)
+        pairs::in_some_form(rng, proved)
     })
+}
+
+/// The same in one of the forms.
+pub fn accepted_in(form: Form, seed: u64) -> impl Iterator<Item = (Vec<u8>, Vec<u8>)> {
+    accepted(seed).filter(move |(claim, _)| Form::of_claim(claim) == Some(form))
 }
 
 /// Well-formed models of at most 64 states, in both forms.

@@ -5,13 +5,15 @@ use super::damage::{damage, damage_end};
 use super::extremes::{hard_entries, limits, longest_model};
 use super::formulas::{Builder, Scope, Shape};
 use super::models;
+use super::near_goal::near_goal;
 use super::near_miss::near_miss;
 use super::number::number;
 use super::paths::leaves_focus;
 use super::provable::{provable, Provable};
-use super::renamed::with_twins;
+use super::renamed::{over_twins, with_twins};
 use super::rng::Rng;
 use super::search::search;
+use super::several::{among_others, among_some, Several};
 use super::step::{Flaw, FLAWS};
 use crate::alike::least_alike;
 use crate::bits::Bits;
@@ -21,7 +23,8 @@ use crate::draft::{self, DraftNode, File};
 use crate::proof::Rule;
 use crate::sequent::entry_of;
 
-/// A claim with a proof not yet laid down.
+/// A claim of one goal with a proof not yet laid down.
+#[derive(Clone)]
 pub struct Proved {
     pub entries: Vec<Entry>,
     pub members: Vec<u16>,
@@ -39,6 +42,42 @@ impl Proved {
 
     pub fn files(&self) -> (Vec<u8>, Vec<u8>) {
         (self.claim().bytes, self.proof().bytes)
+    }
+}
+
+/// A claim and its proof as files, in either form: in that of several goals as one
+/// of them, among others that keep every rule.
+fn laid_down(rng: &mut Rng, proved: Proved) -> (File, File) {
+    match rng.chance(1, 2) {
+        true => (proved.claim(), proved.proof()),
+        false => {
+            let several = among_others(rng, proved);
+            (several.claim(), several.proof())
+        }
+    }
+}
+
+/// The bytes of both.
+pub fn in_some_form(rng: &mut Rng, proved: Proved) -> (Vec<u8>, Vec<u8>) {
+    let (claim, proof) = laid_down(rng, proved);
+    (claim.bytes, proof.bytes)
+}
+
+/// A table as a claim in either form: with these members, or with these and other
+/// goals.
+fn claim_file(rng: &mut Rng, entries: &[Entry], members: &[u16], written_out: &[usize]) -> File {
+    let written_out = |at: usize| written_out.contains(&at);
+    match rng.chance(1, 2) {
+        true => draft::claim_written_out(entries, members, written_out),
+        false => {
+            let more = match rng.below(8) {
+                0 => rng.between(3, 16),
+                _ => rng.below(3),
+            };
+            let mut goals: Vec<Vec<u16>> = (0..more).map(|_| any_members(rng, entries)).collect();
+            goals.insert(rng.below(more + 1), members.to_vec());
+            draft::goal_claim_written_out(entries, &goals, written_out)
+        }
     }
 }
 
@@ -167,25 +206,81 @@ pub fn check_pair(rng: &mut Rng) -> (Vec<u8>, Vec<u8>) {
 }
 
 fn any_pair(rng: &mut Rng) -> (Vec<u8>, Vec<u8>) {
-    match rng.below(46) {
-        0..=9 => accepted(rng).files(),
-        10..=15 => flawed(rng).files(),
-        16..=27 => changed(rng).files(),
-        28..=30 => {
-            let proved = accepted(rng);
-            let bytes = damage(rng, &proved.proof());
-            (proved.claim().bytes, bytes)
-        }
-        31..=33 => {
-            let proved = accepted(rng);
-            (damage(rng, &proved.claim()), proved.proof().bytes)
-        }
-        34..=36 => (wild_claim(rng).file().bytes, accepted(rng).proof().bytes),
-        37..=39 => (unfit_claim(rng).bytes, accepted(rng).proof().bytes),
-        40..=42 => other_action(rng).files(),
-        43 => (accepted(rng).claim().bytes, accepted(rng).proof().bytes),
-        44 => other_members(rng).files(),
-        _ => rare_pair(rng),
+    let proved = match rng.below(54) {
+        0..=9 => accepted(rng),
+        10..=15 => flawed(rng),
+        16..=27 => changed(rng),
+        28..=30 => return damaged_proof(rng),
+        31..=33 => return damaged_claim(rng),
+        34..=36 => return (wild_claim_file(rng).bytes, any_proof(rng)),
+        37..=39 => return (unfit_claim(rng).bytes, any_proof(rng)),
+        40..=42 => other_action(rng),
+        43 => return (accepted(rng).claim().bytes, any_proof(rng)),
+        44 => other_members(rng),
+        45 => return rare_pair(rng),
+        46 => return unlike_forms(rng),
+        _ => return near_goals(rng),
+    };
+    in_some_form(rng, proved)
+}
+
+/// Some proof that belongs to another claim.
+fn any_proof(rng: &mut Rng) -> Vec<u8> {
+    let proved = accepted(rng);
+    in_some_form(rng, proved).1
+}
+
+fn damaged_proof(rng: &mut Rng) -> (Vec<u8>, Vec<u8>) {
+    let proved = accepted(rng);
+    let (claim, proof) = laid_down(rng, proved);
+    (claim.bytes, damage(rng, &proof))
+}
+
+fn damaged_claim(rng: &mut Rng) -> (Vec<u8>, Vec<u8>) {
+    let proved = accepted(rng);
+    let (claim, proof) = laid_down(rng, proved);
+    (damage(rng, &claim), proof.bytes)
+}
+
+/// A claim of one form with the proof of the other, which would do.
+fn unlike_forms(rng: &mut Rng) -> (Vec<u8>, Vec<u8>) {
+    let proved = accepted(rng);
+    let several = Several::alone(proved.clone());
+    match rng.chance(1, 2) {
+        true => (proved.claim().bytes, several.proof().bytes),
+        false => (several.claim().bytes, proved.proof().bytes),
+    }
+}
+
+/// Several goals, and mostly something wrong with them, their roots or their trees.
+fn near_goals(rng: &mut Rng) -> (Vec<u8>, Vec<u8>) {
+    let proved = match rng.below(4) {
+        0 => over_twins(rng),
+        1 => accepted_with_loop(rng),
+        _ => accepted(rng),
+    };
+    let mut several = among_some(rng, proved);
+    for _ in 0..rng.between(1, 2) {
+        near_goal(rng, &mut several);
+    }
+    (several.claim().bytes, several.proof().bytes)
+}
+
+/// The bytes of a claim of several goals and its proof.
+pub fn goal_pair(rng: &mut Rng) -> (Vec<u8>, Vec<u8>) {
+    let proved = match rng.below(12) {
+        0..=1 => accepted(rng),
+        2 => accepted_with_loop(rng),
+        3..=4 => over_twins(rng),
+        5 => flawed(rng),
+        6 => changed(rng),
+        _ => return near_goals(rng),
+    };
+    let several = among_some(rng, proved);
+    match rng.below(12) {
+        0 => (damage(rng, &several.claim()), several.proof().bytes),
+        1 => (several.claim().bytes, damage(rng, &several.proof())),
+        _ => (several.claim().bytes, several.proof().bytes),
     }
 }
 
@@ -202,7 +297,7 @@ pub fn loop_leaving_focus(rng: &mut Rng) -> (Vec<u8>, Vec<u8>) {
         let (claim, proof) = proved.files();
         let decoded = judge(&claim, &proof).decoded;
         if decoded.is_some_and(|decoded| leaves_focus(&decoded.proof)) {
-            return (claim, proof);
+            return in_some_form(rng, proved);
         }
     }
 }
@@ -218,8 +313,14 @@ fn rare_pair(rng: &mut Rng) -> (Vec<u8>, Vec<u8>) {
             let (claim, proof) = limits(rng);
             (claim.bytes, damage(rng, &proof))
         }
-        2 => hard_pair(rng).files(),
-        _ => (noise(rng, b"CLM1"), noise(rng, b"PRF1")),
+        2 => {
+            let proved = hard_pair(rng);
+            in_some_form(rng, proved)
+        }
+        _ => match rng.chance(1, 2) {
+            true => (noise(rng, b"CLM1"), noise(rng, b"PRF1")),
+            false => (noise(rng, b"CLM2"), noise(rng, b"PRF2")),
+        },
     }
 }
 
@@ -285,7 +386,17 @@ fn unfit_claim(rng: &mut Rng) -> File {
         0 => any_claim(rng, true),
         _ => provable(rng),
     };
-    actions::unfit_claim(rng, &claim.entries, &claim.members)
+    made_unfit(rng, claim)
+}
+
+fn made_unfit(rng: &mut Rng, mut claim: Provable) -> File {
+    let written_out = actions::make_unfit(rng, &mut claim.entries);
+    claim_file(rng, &claim.entries, &claim.members, &written_out)
+}
+
+fn wild_claim_file(rng: &mut Rng) -> File {
+    let claim = wild_claim(rng);
+    claim_file(rng, &claim.entries, &claim.members, &[])
 }
 
 /// A claim that may break scope, alternation, guardedness, bounds or actions.
@@ -327,14 +438,12 @@ pub fn eval_pair(rng: &mut Rng) -> (Vec<u8>, Vec<u8>) {
         _ => any_claim(rng, false),
     };
     let model = models::model_for(rng, &claim.entries);
+    let file = claim_file(rng, &claim.entries, &claim.members, &[]);
     match rng.below(11) {
-        0..=5 => (claim.file().bytes, model.bytes),
-        6 => (damage(rng, &claim.file()), model.bytes),
-        7 => {
-            let unfit = actions::unfit_claim(rng, &claim.entries, &claim.members);
-            (unfit.bytes, model.bytes)
-        }
-        _ => (claim.file().bytes, damaged_model(rng, &model)),
+        0..=5 => (file.bytes, model.bytes),
+        6 => (damage(rng, &file), model.bytes),
+        7 => (made_unfit(rng, claim).bytes, model.bytes),
+        _ => (file.bytes, damaged_model(rng, &model)),
     }
 }
 

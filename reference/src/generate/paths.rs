@@ -7,14 +7,14 @@ use crate::tree::parents;
 /// both ends included; none for a leaf linked elsewhere, or if the nodes are no
 /// tree.
 pub fn loop_paths(proof: &Proof) -> Vec<Vec<usize>> {
-    let Ok(parents) = parents(&proof.nodes) else {
+    let Ok(parents) = parents(&proof.nodes, proof.roots()) else {
         return Vec::new();
     };
     let leaves = (0..proof.nodes.len()).filter(|&node| proof.nodes[node].rule == Rule::Back);
     leaves
         .filter_map(|leaf| {
             let link = usize::from(proof.nodes[leaf].back);
-            let path: Vec<usize> = std::iter::successors(Some(leaf), |&node| parents[node])
+            let path: Vec<usize> = std::iter::successors(Some(leaf), |&node| parents.of(node))
                 .take_while(|&node| node >= link)
                 .collect();
             (path.len() > 1 && path.last() == Some(&link)).then_some(path)

@@ -5,7 +5,6 @@ use super::formulas::{Builder, Scope, Shape};
 use super::rng::Rng;
 use crate::bits::Bits;
 use crate::claim::{Entry, Kind, ACTIONS};
-use crate::draft::{self, File};
 
 /// A claim with hints for the search.
 #[derive(Clone)]
@@ -16,12 +15,6 @@ pub struct Provable {
     pub valid: Bits,
     /// For each entry one that is its negation, if known.
     pub dual: Vec<Option<u16>>,
-}
-
-impl Provable {
-    pub fn file(&self) -> File {
-        draft::claim(&self.entries, &self.members)
-    }
 }
 
 /// Some claim that holds, in one of several manners, at times with members that

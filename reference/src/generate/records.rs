@@ -2,20 +2,36 @@
 //! with something changed, in slices of any length that may be lent.
 
 use super::actions;
+use super::near_goal::near_goal;
 use super::pairs::{self, Proved};
 use super::rng::Rng;
+use super::several::{among_others, joined, Several};
 use crate::claim::{Entry, Kind, ACTIONS};
 use crate::draft::DraftNode;
+use crate::goals::Form;
 use crate::proof::Rule;
 use crate::write::{EntryRecord, NodeRecord, Records};
 
-/// Two in three with one or two changes; some leave the records good.
+/// Two in three with one or two changes; some leave the records good. Half of them
+/// are of the form with several goals.
 pub fn records(rng: &mut Rng) -> Records {
-    let proved = match rng.below(24) {
-        0 => large(rng),
-        _ => pairs::any_proved(rng),
+    let large = rng.chance(1, 24);
+    let mut records = match rng.chance(1, 2) {
+        true => {
+            let proved = match large {
+                true => large_tree(rng),
+                false => pairs::any_proved(rng),
+            };
+            of(Form::One, &Several::alone(proved))
+        }
+        false => {
+            let several = match large {
+                true => large_trees(rng),
+                false => any_several(rng),
+            };
+            of(Form::Several, &several)
+        }
     };
-    let mut records = of(&proved);
     for _ in 0..rng.below(3) {
         change(rng, &mut records);
     }
@@ -23,17 +39,34 @@ pub fn records(rng: &mut Rng) -> Records {
     records
 }
 
+/// One time in four something is wrong with the goals, the roots or the trees.
+fn any_several(rng: &mut Rng) -> Several {
+    let proved = pairs::any_proved(rng);
+    let mut several = among_others(rng, proved);
+    if rng.chance(1, 4) {
+        near_goal(rng, &mut several);
+    }
+    several
+}
+
 /// The records of a claim and proof, and nothing beyond them.
-fn of(proved: &Proved) -> Records {
-    let entries = proved.entries.iter().map(entry_record).collect();
-    let nodes = proved.nodes.iter().map(node_record).collect();
-    let codes = proved.nodes.iter().flat_map(|node| node.codes.clone());
+fn of(form: Form, several: &Several) -> Records {
+    let entries = several.entries.iter().map(entry_record).collect();
+    let nodes = several.nodes.iter().map(node_record).collect();
+    let codes = several.nodes.iter().flat_map(|node| node.codes.clone());
+    let count = |goal: &Vec<u16>| goal.len() as u16;
     Records {
+        form: form as u8,
         entries,
-        entry_count: proved.entries.len(),
-        members: proved.members.clone(),
+        entry_count: several.entries.len(),
+        goal_counts: several.goals.iter().map(count).collect(),
+        members: several.goals.concat(),
         nodes,
-        node_count: proved.nodes.len(),
+        node_count: several.nodes.len(),
+        roots: match form {
+            Form::One => Vec::new(),
+            Form::Several => several.roots.clone(),
+        },
         codes: codes.collect(),
     }
 }
@@ -66,17 +99,49 @@ fn node_record(node: &DraftNode) -> NodeRecord {
 
 /// Counts at their limits or just beyond; nodes of any rule, one below the other,
 /// that no rule would let stand.
-fn large(rng: &mut Rng) -> Proved {
+fn large_tree(rng: &mut Rng) -> Proved {
+    let (entries, nodes) = (large_table(rng), rng.between(1000, 1025));
+    Proved {
+        entries,
+        members: rising(rng, 256),
+        nodes: path(rng, nodes),
+    }
+}
+
+/// The same with about as many goals as there may be: a path for each.
+fn large_trees(rng: &mut Rng) -> Several {
+    let entries = large_table(rng);
+    let goals: Vec<Vec<u16>> = (0..rng.between(15, 17)).map(|_| rising(rng, 256)).collect();
+    let count = rng.between(1000, 1025);
+    let parts = goals.iter().enumerate().map(|(goal, members)| {
+        let left = count - goal * (count / goals.len());
+        let nodes = match goal + 1 == goals.len() {
+            true => left,
+            false => count / goals.len(),
+        };
+        Proved {
+            entries: entries.clone(),
+            members: members.clone(),
+            nodes: path(rng, nodes),
+        }
+    });
+    let parts: Vec<Proved> = parts.collect();
+    joined(rng, parts)
+}
+
+fn large_table(rng: &mut Rng) -> Vec<Entry> {
     let mut entries = vec![Entry::new(Kind::True, 0, 0)];
     for below in 0..rng.between(254, 256) as u16 {
         let kind = rng.pick(&[Kind::Or, Kind::And, Kind::Box]);
         entries.push(Entry::new(kind.unwrap_or(Kind::Or), below, 0));
     }
     actions::spread(rng, &mut entries);
-    let members = rising(rng, 256);
-    let count = rng.between(1000, 1025) as u16;
+    entries
+}
+
+fn path(rng: &mut Rng, count: usize) -> Vec<DraftNode> {
     let rules = [Rule::W, Rule::D, Rule::F, Rule::Or];
-    let mut nodes: Vec<DraftNode> = (1..count)
+    let mut nodes: Vec<DraftNode> = (1..count as u16)
         .map(|child| {
             let rule = rng.pick(&rules).unwrap_or(Rule::W);
             let mut node = DraftNode::new(rule, rng.below(512) as u16, rising(rng, 508));
@@ -85,11 +150,7 @@ fn large(rng: &mut Rng) -> Proved {
         })
         .collect();
     nodes.push(DraftNode::new(Rule::Back, 0, rising(rng, 508)));
-    Proved {
-        entries,
-        members,
-        nodes,
-    }
+    nodes
 }
 
 /// Up to 24 numbers, often as many.
@@ -106,13 +167,72 @@ fn rising(rng: &mut Rng, below: usize) -> Vec<u16> {
 }
 
 fn change(rng: &mut Rng, records: &mut Records) {
-    match rng.below(16) {
+    match rng.below(20) {
         0 => records.entry_count = other_count(rng, records.entry_count),
         1 => records.node_count = other_count(rng, records.node_count),
         2..=5 => change_entry(rng, records),
-        6..=7 => change_members(rng, &mut records.members),
+        6..=7 => change_goal(rng, records),
         8..=13 => change_node(rng, &mut records.nodes),
-        _ => change_code(rng, &mut records.codes),
+        14..=15 => change_code(rng, &mut records.codes),
+        16 => records.form = other_form(rng, records.form),
+        17..=18 => change_goal_counts(rng, records),
+        _ => change_roots(rng, records),
+    }
+}
+
+/// The other one, or none.
+fn other_form(rng: &mut Rng, form: u8) -> u8 {
+    match rng.below(4) {
+        0 => form ^ 3,
+        1 => rng.pick(&[0, 3]).unwrap_or(0),
+        2 => form | 1 << rng.between(2, 7),
+        _ => rng.word() as u8,
+    }
+}
+
+/// Counts that add up to another number, or to the same in other goals; too many of
+/// them, or none.
+fn change_goal_counts(rng: &mut Rng, records: &mut Records) {
+    let counts = &mut records.goal_counts;
+    let (at, other) = (rng.below(counts.len()), rng.below(counts.len()));
+    let long = |counts: &mut Vec<u16>, length| counts.resize(length, 0);
+    match rng.below(10) {
+        0 => counts.clear(),
+        1 => counts.push(0),
+        2 => drop(counts.pop()),
+        3 => long(counts, rng.between(15, 18)),
+        4 if rng.chance(1, 8) => long(counts, 65_536 + counts.len()),
+        5..=6 if !counts.is_empty() => {
+            // One goal's member becomes another's.
+            counts[at] = counts[at].wrapping_sub(1);
+            counts[other] = counts[other].wrapping_add(1);
+        }
+        // Sums that sixteen bits would take for the one it was.
+        7 if counts.len() > 1 => counts[..2].iter_mut().for_each(|count| *count ^= 0x8000),
+        _ => change_code(rng, counts),
+    }
+}
+
+/// Too few roots or too many, or one that is another number.
+fn change_roots(rng: &mut Rng, records: &mut Records) {
+    let nodes = records.node_count;
+    let roots = &mut records.roots;
+    match rng.below(7) {
+        0 => drop(roots.pop()),
+        1 => roots.push(nodes as u16),
+        2 => roots.insert(0, 0),
+        3 => roots.reverse(),
+        4 => roots.clear(),
+        5 if rng.chance(1, 8) => roots.resize(65_536 + roots.len(), 0),
+        _ => {
+            let at = rng.below(roots.len());
+            if let Some(root) = roots.get_mut(at) {
+                *root = match rng.below(3) {
+                    0 => nodes as u16,
+                    _ => other_number(rng, *root),
+                };
+            }
+        }
     }
 }
 
@@ -183,6 +303,23 @@ fn change_action(rng: &mut Rng, entries: &mut [EntryRecord]) {
     };
     if rng.chance(1, 4) {
         entries[at].a = at as u16;
+    }
+}
+
+/// The members of some goal, whose count follows.
+fn change_goal(rng: &mut Rng, records: &mut Records) {
+    let goal = rng.below(records.goal_counts.len());
+    let Some(&count) = records.goal_counts.get(goal) else {
+        return;
+    };
+    let before = records.goal_counts[..goal].iter();
+    let start: usize = before.map(|&count| usize::from(count)).sum();
+    let end = start + usize::from(count);
+    if let Some(list) = records.members.get(start..end) {
+        let mut members = list.to_vec();
+        change_members(rng, &mut members);
+        records.goal_counts[goal] = members.len() as u16;
+        records.members.splice(start..end, members);
     }
 }
 

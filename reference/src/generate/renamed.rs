@@ -4,7 +4,7 @@
 use super::near_miss::near_miss;
 use super::near_twin::near_twin;
 use super::one_step::one_step;
-use super::pairs::{accepted, prove, prove_by, Proved};
+use super::pairs::{accepted, in_some_form, prove, prove_by, Proved};
 use super::provable::{provable, Provable};
 use super::rng::Rng;
 use super::step::{Flaw, FLAWS};
@@ -22,17 +22,18 @@ const MEMBERS: usize = 24;
 /// The bytes of a claim and a proof that uses twins.
 pub fn with_twins(rng: &mut Rng) -> (Vec<u8>, Vec<u8>) {
     loop {
-        let (claim, proof) = over_twins(rng).files();
+        let proved = over_twins(rng);
+        let (claim, proof) = proved.files();
         let decoded = judge(&claim, &proof).decoded;
         if decoded.is_some_and(|decoded| !twins_used(&decoded).is_empty()) {
-            return (claim, proof);
+            return in_some_form(rng, proved);
         }
     }
 }
 
 /// A claim with twins and a proof: a good one with its codes renamed, one that is
 /// found over the twins, or a single step; at times with a small change.
-fn over_twins(rng: &mut Rng) -> Proved {
+pub fn over_twins(rng: &mut Rng) -> Proved {
     let mut proved = match rng.below(6) {
         0..=1 => found(rng),
         2 => one_step(rng),

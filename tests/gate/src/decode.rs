@@ -13,7 +13,7 @@ pub struct Decoding {
 }
 
 pub fn decode(claim: &[u8], proof: &[u8]) -> Decoding {
-    let (nodes, codes) = nodes(proof);
+    let (nodes, codes) = nodes(proof, roots(claim, proof).len());
     Decoding {
         entries: entries(claim),
         nodes,
@@ -21,17 +21,40 @@ pub fn decode(claim: &[u8], proof: &[u8]) -> Decoding {
     }
 }
 
+/// The opening's last letter: 1 for a claim or proof of one goal, 2 for several.
+pub fn form(file: &[u8]) -> u8 {
+    file[3] - b'0'
+}
+
 /// After the opening and a count: a map, the kind, and the fields whose bit
-/// stands; members and their count follow.
+/// stands; members and their counts follow.
 pub fn entries(claim: &[u8]) -> Vec<Entry> {
     take_entries(&mut Rest(&claim[4..]))
 }
 
-/// What follows the entries: a count and the members.
-pub fn members(claim: &[u8]) -> Vec<u16> {
+/// What follows the entries: with several goals their count, then for each of them a
+/// count and the members.
+pub fn goals(claim: &[u8]) -> Vec<Vec<u16>> {
     let mut rest = Rest(&claim[4..]);
     take_entries(&mut rest);
-    let count = rest.two();
+    let goals = match form(claim) {
+        2 => rest.two(),
+        _ => 1,
+    };
+    let goal = |_| {
+        let count = rest.two();
+        (0..count).map(|_| rest.two()).collect()
+    };
+    (0..goals).map(goal).collect()
+}
+
+/// What follows the node count: with several goals as many root numbers.
+pub fn roots(claim: &[u8], proof: &[u8]) -> Vec<u16> {
+    let mut rest = Rest(&proof[6..]);
+    let count = match form(proof) {
+        2 => goals(claim).len(),
+        _ => 0,
+    };
     (0..count).map(|_| rest.two()).collect()
 }
 
@@ -49,12 +72,13 @@ fn take_entries(rest: &mut Rest) -> Vec<Entry> {
         .collect()
 }
 
-/// After the opening and a count: a map, the rule, the fields whose bit stands,
-/// and with bit 4 a count of codes and the codes.
-fn nodes(proof: &[u8]) -> (Vec<Node>, Vec<u16>) {
+/// After the opening, a count and so many roots: a map, the rule, the fields whose bit
+/// stands, and with bit 4 a count of codes and the codes.
+fn nodes(proof: &[u8], roots: usize) -> (Vec<Node>, Vec<u16>) {
     let mut rest = Rest(&proof[4..]);
     let mut codes = Vec::new();
     let count = rest.two();
+    rest.skip(2 * roots);
     let nodes = (0..count)
         .map(|_| {
             let (map, rule) = (rest.one(), rest.one());
@@ -83,6 +107,10 @@ impl Rest<'_> {
         let (&first, rest) = self.0.split_first().expect("a whole file");
         self.0 = rest;
         first
+    }
+
+    fn skip(&mut self, count: usize) {
+        self.0 = &self.0[count..];
     }
 
     /// Little-endian.

@@ -3,6 +3,7 @@
 
 use crate::decode::Decoding;
 use crate::{Entry, Node, Records};
+use reference::GOALS;
 use std::fmt::Debug;
 
 /// The least lengths by refusal 1.
@@ -11,14 +12,19 @@ pub const NODES: usize = 1024;
 pub const CODES: usize = 24_576;
 pub const WORDS: usize = 256;
 
-/// No claim, no proof and no model is longer.
+/// No claim, no proof and no model is longer: of one goal, of several, and models.
 pub const CLAIM_BYTES: usize = 1592;
 pub const PROOF_BYTES: usize = 58_374;
+pub const GOALS_CLAIM_BYTES: usize = 2344;
+pub const GOALS_PROOF_BYTES: usize = PROOF_BYTES + 2 * GOALS;
 pub const MODEL_BYTES: usize = 67_013;
 
 /// How many values of the same block lie before and behind a lent slice. The
 /// number is odd, so that records begin at places of the least alignment.
 const GUARDS: usize = 33;
+
+/// Room for the goal counts, members and roots of most records.
+const LIST: usize = 500;
 
 /// A value for each place, told apart from every decoded one and from that of
 /// its neighbours.
@@ -110,6 +116,16 @@ impl<T: Canary> Slice<T> {
         let slice = self.lend();
         slice[..values.len()].copy_from_slice(values);
         &mut slice[..length]
+    }
+
+    /// A slice of just the values. Lists may be long, and seldom are: the block is as
+    /// long as it must be, for all of it is renewed and looked at with each call.
+    pub fn lend_all(&mut self, values: &[T]) -> &mut [T] {
+        let room = values.len().max(LIST);
+        if self.lend().len() != room {
+            *self = Slice::new(room);
+        }
+        self.lend_with(values, values.len())
     }
 
     /// The slice begins with `written`; each other value of the block, lent or
@@ -225,23 +241,28 @@ impl LentWords {
 /// for the file.
 pub struct LentRecords {
     entries: Slice<Entry>,
+    goal_counts: Slice<u16>,
     members: Slice<u16>,
     nodes: Slice<Node>,
+    roots: Slice<u16>,
     codes: Slice<u16>,
     out: Slice<u8>,
 }
 
 pub struct RecordSlices<'a> {
+    pub form: u8,
     pub entries: &'a [Entry],
     pub entry_count: usize,
+    pub goal_counts: &'a [u16],
     pub members: &'a [u16],
     pub nodes: &'a [Node],
     pub node_count: usize,
+    pub roots: &'a [u16],
     pub codes: &'a [u16],
     pub out: &'a mut [u8],
 }
 
-/// How much of each slice is lent; of the members it is always all.
+/// How much of each slice is lent; of goal counts, members and roots it is always all.
 #[derive(Clone, Copy, Debug, PartialEq, Eq)]
 pub struct Lengths {
     pub entries: usize,
@@ -258,7 +279,7 @@ impl Lengths {
             entries: records.entries.len().max(ENTRIES),
             nodes: records.nodes.len().max(NODES),
             codes: records.codes.len().max(CODES),
-            out: PROOF_BYTES,
+            out: GOALS_PROOF_BYTES,
         }
     }
 }
@@ -268,10 +289,12 @@ impl Default for LentRecords {
     fn default() -> LentRecords {
         LentRecords {
             entries: Slice::new(ENTRIES + 1000),
-            members: Slice::new(70_000),
+            goal_counts: Slice::new(LIST),
+            members: Slice::new(LIST),
             nodes: Slice::new(NODES + 1000),
+            roots: Slice::new(LIST),
             codes: Slice::new(CODES + 1000),
-            out: Slice::new(PROOF_BYTES + 1000),
+            out: Slice::new(GOALS_PROOF_BYTES + 1000),
         }
     }
 }
@@ -286,13 +309,15 @@ impl LentRecords {
             codes,
             out,
         } = lengths;
-        let members = records.members.len();
         RecordSlices {
+            form: records.form,
             entries: self.entries.lend_with(&records.entries, entries),
             entry_count: records.entry_count,
-            members: self.members.lend_with(&records.members, members),
+            goal_counts: self.goal_counts.lend_all(&records.goal_counts),
+            members: self.members.lend_all(&records.members),
             nodes: self.nodes.lend_with(&records.nodes, nodes),
             node_count: records.node_count,
+            roots: self.roots.lend_all(&records.roots),
             codes: self.codes.lend_with(&records.codes, codes),
             out: self.out.lend_with(&[], out),
         }
@@ -302,10 +327,14 @@ impl LentRecords {
     pub fn assert_holds(&self, records: &Records, file: &[u8], what: &str) {
         self.entries
             .assert_holds(&records.entries, &format!("{what}: entries"));
+        self.goal_counts
+            .assert_holds(&records.goal_counts, &format!("{what}: goal counts"));
         self.members
             .assert_holds(&records.members, &format!("{what}: members"));
         self.nodes
             .assert_holds(&records.nodes, &format!("{what}: nodes"));
+        self.roots
+            .assert_holds(&records.roots, &format!("{what}: roots"));
         self.codes
             .assert_holds(&records.codes, &format!("{what}: codes"));
         self.out.assert_holds(file, &format!("{what}: output"));

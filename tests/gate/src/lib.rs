@@ -48,22 +48,28 @@ pub struct Node {
 /// What is given to the writer. Beyond the counts the slices hold anything.
 #[derive(Clone, Debug, PartialEq, Eq)]
 pub struct Records {
+    pub form: u8,
     pub entries: Vec<Entry>,
     pub entry_count: usize,
+    pub goal_counts: Vec<u16>,
     pub members: Vec<u16>,
     pub nodes: Vec<Node>,
     pub node_count: usize,
+    pub roots: Vec<u16>,
     pub codes: Vec<u16>,
 }
 
 impl From<&reference::Records> for Records {
     fn from(records: &reference::Records) -> Records {
         Records {
+            form: records.form,
             entries: records.entries.iter().map(Entry::from).collect(),
             entry_count: records.entry_count,
+            goal_counts: records.goal_counts.clone(),
             members: records.members.clone(),
             nodes: records.nodes.iter().map(Node::from).collect(),
             node_count: records.node_count,
+            roots: records.roots.clone(),
             codes: records.codes.clone(),
         }
     }
@@ -136,9 +142,12 @@ mod calls {
         ) -> u64;
 
         pub fn focus_write_claim(
+            form: u8,
             entries: *const Entry,
             entries_len: usize,
             entry_count: usize,
+            goal_counts: *const u16,
+            goals: usize,
             members: *const u16,
             members_len: usize,
             out: *mut u8,
@@ -146,14 +155,19 @@ mod calls {
         ) -> u64;
 
         pub fn focus_write_proof(
+            form: u8,
             entries: *const Entry,
             entries_len: usize,
             entry_count: usize,
+            goal_counts: *const u16,
+            goals: usize,
             members: *const u16,
             members_len: usize,
             nodes: *const Node,
             nodes_len: usize,
             node_count: usize,
+            roots: *const u16,
+            roots_len: usize,
             codes: *const u16,
             codes_len: usize,
             out: *mut u8,
@@ -246,9 +260,12 @@ pub fn write_claim(slices: &mut RecordSlices) -> u64 {
     // overlaps no other, and keeps none; any number is a value of every field.
     unsafe {
         calls::focus_write_claim(
+            slices.form,
             slices.entries.as_ptr(),
             slices.entries.len(),
             slices.entry_count,
+            slices.goal_counts.as_ptr(),
+            slices.goal_counts.len(),
             slices.members.as_ptr(),
             slices.members.len(),
             slices.out.as_mut_ptr(),
@@ -262,14 +279,19 @@ pub fn write_proof(slices: &mut RecordSlices) -> u64 {
     // SAFETY: as for a claim.
     unsafe {
         calls::focus_write_proof(
+            slices.form,
             slices.entries.as_ptr(),
             slices.entries.len(),
             slices.entry_count,
+            slices.goal_counts.as_ptr(),
+            slices.goal_counts.len(),
             slices.members.as_ptr(),
             slices.members.len(),
             slices.nodes.as_ptr(),
             slices.nodes.len(),
             slices.node_count,
+            slices.roots.as_ptr(),
+            slices.roots.len(),
             slices.codes.as_ptr(),
             slices.codes.len(),
             slices.out.as_mut_ptr(),

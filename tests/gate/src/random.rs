@@ -2,7 +2,8 @@
 //! damaged on purpose. The reference has a generator that grows formulas from
 //! above; this one lays tables down from below, so that operands are shared at
 //! random, names stay free over many fixpoints, and blocks tangle. Claim and model
-//! go by the same actions as a rule.
+//! go by the same actions as a rule; half of the claims have the form of several
+//! goals.
 
 use reference::draft::{self, DraftState, File, Mark};
 use reference::generate::Rng;
@@ -25,16 +26,16 @@ pub fn pairs(seed: u64) -> impl Iterator<Item = Pair> {
 fn pair(rng: &mut Rng) -> Pair {
     let actions = actions(rng);
     let entries = entries(rng, &actions);
-    let members = members(rng, &entries);
+    let goals = goals(rng, &entries);
     let states = states(rng, &actions);
-    let claim = draft::claim(&entries, &members).bytes;
+    let claim = laid_down(&entries, &goals, |_| false);
     let form = form(rng);
     let model = form(&states);
     let damaged = rng.chance(1, 4);
     let (claim, model) = match (damaged, rng.below(4)) {
         (false, _) => (claim, model.bytes),
         (true, 0) => (damage(rng, claim), model.bytes),
-        (true, 1) => (ill_formed(rng, entries, &members), model.bytes),
+        (true, 1) => (ill_formed(rng, entries, goals), model.bytes),
         (true, 2) => (claim, damage(rng, model.bytes)),
         (true, _) => (claim, unfit(rng, states, form)),
     };
@@ -255,6 +256,31 @@ fn leaf(rng: &mut Rng) -> Entry {
     }
 }
 
+/// The members of one goal, in the form that has no more, or of several; of one in
+/// either.
+enum Goals {
+    One(Vec<u16>),
+    Several(Vec<Vec<u16>>),
+}
+
+fn goals(rng: &mut Rng, entries: &[Entry]) -> Goals {
+    let count = match rng.below(8) {
+        0 => 16,
+        1 => rng.between(1, 15),
+        2..=3 => rng.between(1, 3),
+        _ => return Goals::One(members(rng, entries)),
+    };
+    Goals::Several((0..count).map(|_| members(rng, entries)).collect())
+}
+
+fn laid_down(entries: &[Entry], goals: &Goals, written_out: impl Fn(usize) -> bool) -> Vec<u8> {
+    let file = match goals {
+        Goals::One(members) => draft::claim_written_out(entries, members, written_out),
+        Goals::Several(goals) => draft::goal_claim_written_out(entries, goals, written_out),
+    };
+    file.bytes
+}
+
 /// Some entries that are no names; entry 0 never is.
 fn members(rng: &mut Rng, entries: &[Entry]) -> Vec<u16> {
     let mut members: Vec<u16> = (0..entries.len() as u16)
@@ -334,14 +360,18 @@ fn damage(rng: &mut Rng, mut bytes: Vec<u8>) -> Vec<u8> {
 }
 
 /// A table with one entry changed: 14, 20 to 23, 71, or still well formed; or with
-/// zeros written out.
-fn ill_formed(rng: &mut Rng, mut entries: Vec<Entry>, members: &[u16]) -> Vec<u8> {
+/// zeros written out; or with goals changed: 12, 14 or 72.
+fn ill_formed(rng: &mut Rng, mut entries: Vec<Entry>, goals: Goals) -> Vec<u8> {
     let count = entries.len();
     let any = rng.below(count + 1) as u16;
     let at = rng.below(count);
     if rng.chance(1, 6) {
         let written_out = |number: usize| entries[number].b == 0 && number >= at;
-        return draft::claim_written_out(&entries, members, written_out).bytes;
+        return laid_down(&entries, &goals, written_out);
+    }
+    if let (Goals::Several(goals), true) = (&goals, rng.chance(1, 3)) {
+        let goals = Goals::Several(other_goals(rng, goals.clone(), any));
+        return laid_down(&entries, &goals, |_| false);
     }
     let entry = &mut entries[at];
     match rng.below(6) {
@@ -361,7 +391,21 @@ fn ill_formed(rng: &mut Rng, mut entries: Vec<Entry>, members: &[u16]) -> Vec<u8
             }
         }
     }
-    draft::claim(&entries, members).bytes
+    laid_down(&entries, &goals, |_| false)
+}
+
+/// None or too many goals, or one of them with no members, with too many, or with one
+/// that may not follow the others.
+fn other_goals(rng: &mut Rng, mut goals: Vec<Vec<u16>>, any: u16) -> Vec<Vec<u16>> {
+    let at = rng.below(goals.len());
+    match rng.below(5) {
+        0 => goals.clear(),
+        1 => goals.resize(rng.between(16, 18), vec![0]),
+        2 => goals[at].clear(),
+        3 => goals[at] = (0..25).collect(),
+        _ => goals[at].push(any),
+    }
+    goals
 }
 
 /// A model with one state unlike any that a file may have: 61 to 64.

@@ -1,8 +1,8 @@
-//! Records to be written, as tables: the sample that document 01 begins with, and
-//! tables with as many records of each kind as asked for.
+//! Records to be written, as tables: the sample that document 01 begins with, one of
+//! two goals, and tables with as many records of each kind as asked for.
 
 use crate::lent::{CODES, ENTRIES, NODES};
-use reference::{Decoded, EntryRecord, Kind, NodeRecord, Records, Rule};
+use reference::{Decoded, EntryRecord, Form, Kind, NodeRecord, Records, Rule};
 
 pub fn entry(kind: u8, [a, b]: [u16; 2]) -> EntryRecord {
     EntryRecord { kind, a, b }
@@ -26,11 +26,14 @@ pub fn read(Decoded { claim, proof }: &Decoded) -> Records {
     let entries = claim.entries.iter().copied();
     let nodes = proof.nodes.iter().copied();
     Records {
+        form: claim.form as u8,
         entries: entries.map(EntryRecord::from).collect(),
         entry_count: claim.entries.len(),
+        goal_counts: claim.goals().map(|goal| goal.len() as u16).collect(),
         members: claim.members.clone(),
         nodes: nodes.map(NodeRecord::from).collect(),
         node_count: proof.nodes.len(),
+        roots: proof.named_roots.clone(),
         codes: proof.codes.clone(),
     }
 }
@@ -50,8 +53,26 @@ pub fn filled_up(mut records: Records) -> Records {
 pub fn nu_of_box() -> Records {
     let claim = include_bytes!("../../../examples/nu-of-box/claim.bin");
     let proof = include_bytes!("../../../examples/nu-of-box/proof.bin");
+    good_pair(claim, proof)
+}
+
+/// Nu of box, and a letter with its negation: two goals, whose trees interleave.
+pub fn two_goals() -> Records {
+    let claim = include_bytes!("../../../examples/two-goals/claim.bin");
+    let proof = include_bytes!("../../../examples/two-goals/proof.bin");
+    good_pair(claim, proof)
+}
+
+fn good_pair(claim: &[u8], proof: &[u8]) -> Records {
     let decoded = reference::judge(claim, proof).decoded;
     filled_up(read(&decoded.expect("a good pair")))
+}
+
+/// One goal, with the members that it is to have.
+pub fn with_members(mut records: Records, members: Vec<u16>) -> Records {
+    records.goal_counts = vec![members.len() as u16];
+    records.members = members;
+    records
 }
 
 /// So many entries, members, nodes, and codes of each node. With as many as there
@@ -61,13 +82,35 @@ pub fn sized(entries: usize, members: usize, nodes: usize, codes: usize) -> Reco
     let last = |count: usize, of: usize| (of - count) as u16..of as u16;
     let sequent: Vec<u16> = last(codes, 512).collect();
     filled_up(Records {
+        form: Form::One as u8,
         entries: disjunctions(entries),
         entry_count: entries,
+        goal_counts: vec![members as u16],
         members: last(members, 256).collect(),
         nodes: heap(nodes, codes as u8),
         node_count: nodes,
+        roots: Vec::new(),
         codes: sequent.repeat(nodes),
     })
+}
+
+/// The same as so many goals, each with those members, and with the last nodes as
+/// trees of their own.
+pub fn sized_goals(goals: usize, sized: Records) -> Records {
+    let mut records = sized;
+    let first = records.node_count - (goals - 1);
+    let codes = records.nodes[0].count;
+    let leaf = node(Rule::Back as u8, [0, 0, 0, 65_535], codes);
+    records.nodes[first..records.node_count].fill(leaf);
+    records.nodes[..first].copy_from_slice(&heap(first, codes));
+    let others = first as u16..records.node_count as u16;
+    Records {
+        form: Form::Several as u8,
+        goal_counts: records.goal_counts.repeat(goals),
+        members: records.members.repeat(goals),
+        roots: std::iter::once(0).chain(others).collect(),
+        ..records
+    }
 }
 
 /// A letter, and disjunctions of it with itself.

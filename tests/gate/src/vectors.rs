@@ -10,6 +10,7 @@ pub fn checks() -> Vec<CheckRecord> {
         ("t02/check.bin", 1527),
         ("t03/check.bin", 1534),
         ("t04/check.bin", 1435),
+        ("t05/check.bin", 1506),
     ];
     let records = files.map(|(file, count)| {
         let records = corpus::read_checks(&read(file)).expect("whole records");
@@ -20,14 +21,22 @@ pub fn checks() -> Vec<CheckRecord> {
 }
 
 pub fn evals() -> Vec<EvalRecord> {
-    let base = corpus::read_narrow_evals(&read("base/eval.bin")).expect("whole records");
-    let by_action = corpus::read_evals(&read("t04/eval.bin")).expect("whole records");
-    assert_eq!((base.len(), by_action.len()), (519, 399));
-    [base, by_action].concat()
+    let mut records = corpus::read_narrow_evals(&read("base/eval.bin")).expect("whole records");
+    assert_eq!(records.len(), 519, "base/eval.bin");
+    for (file, count) in [("t04/eval.bin", 399), ("t05/eval.bin", 356)] {
+        let more = corpus::read_evals(&read(file)).expect("whole records");
+        assert_eq!(more.len(), count, "{file}");
+        records.extend(more);
+    }
+    records
 }
 
 pub fn writes() -> Vec<WriteRecord> {
-    let files = [("t01/write.bin", 640), ("t04/write.bin", 337)];
+    let files = [
+        ("t01/write.bin", 640),
+        ("t04/write.bin", 337),
+        ("t05/write.bin", 598),
+    ];
     let records = files.map(|(file, count)| {
         let records = corpus::read_writes(&read(file)).expect("whole records");
         assert_eq!(records.len(), count, "{file}");

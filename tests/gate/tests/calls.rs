@@ -2,9 +2,10 @@
 //! document 01, "The gate" and "What the state earns".
 
 use gate_tests::lent::{Lent, CODES, ENTRIES, NODES};
-use gate_tests::{close, open, present, take, vectors, Gate};
+use gate_tests::{close, decode, open, present, take, vectors, Gate};
+use reference::corpus::CheckRecord;
 use reference::generate::Rng;
-use reference::Refusal;
+use reference::{Form, Refusal};
 
 const TAGS: [u32; 3] = [0, 7, u32::MAX];
 
@@ -15,10 +16,14 @@ enum Call {
     Taking,
     /// A pair that is accepted.
     PresentingGood,
+    /// A pair of several goals that is accepted.
+    PresentingGoals,
     /// A pair that earns 38 at 3.
     PresentingBad,
     /// A claim with an action that is none, 71 at 1, beside any proof.
     PresentingUnfit,
+    /// A claim of more goals than there may be, 72 at 16, beside any proof.
+    PresentingMany,
     /// A pair that is accepted, and every slice too short by one.
     PresentingShort,
 }
@@ -44,10 +49,12 @@ enum After {
 use After::{Holding, Kept, Moved};
 use Answer::{Done, HeldTag, Refused};
 use Call::{Closing, Opening, Taking};
-use Call::{PresentingBad, PresentingGood, PresentingShort, PresentingUnfit};
+use Call::{PresentingBad, PresentingGoals, PresentingGood};
+use Call::{PresentingMany, PresentingShort, PresentingUnfit};
 
 const BAD: u32 = 38 << 16 | 3;
 const UNFIT: u32 = 71 << 16 | 1;
+const MANY: u32 = 72 << 16 | 16;
 const SHORT: u32 = 1 << 16;
 const IS_CLOSED: u32 = 50 << 16;
 const HELD: u32 = 51 << 16;
@@ -60,7 +67,7 @@ const NO_PHASES: [u8; 2] = [3, 255];
 /// "50 closed (presenting, taking, closing); 51 permit held (presenting); 52 none
 /// held while open (taking); 53 not closed (opening)", all of them "before any of
 /// the above".
-const TABLE: [(Call, u8, Answer, After); 21] = [
+const TABLE: [(Call, u8, Answer, After); 27] = [
     (Opening, Gate::CLOSED, Done, Moved(Gate::OPEN)),
     (Opening, Gate::OPEN, Refused(NOT_CLOSED), Kept),
     (Opening, Gate::HOLDING, Refused(NOT_CLOSED), Kept),
@@ -73,12 +80,18 @@ const TABLE: [(Call, u8, Answer, After); 21] = [
     (PresentingGood, Gate::CLOSED, Refused(IS_CLOSED), Kept),
     (PresentingGood, Gate::OPEN, Done, Holding),
     (PresentingGood, Gate::HOLDING, Refused(HELD), Kept),
+    (PresentingGoals, Gate::CLOSED, Refused(IS_CLOSED), Kept),
+    (PresentingGoals, Gate::OPEN, Done, Holding),
+    (PresentingGoals, Gate::HOLDING, Refused(HELD), Kept),
     (PresentingBad, Gate::CLOSED, Refused(IS_CLOSED), Kept),
     (PresentingBad, Gate::OPEN, Refused(BAD), Kept),
     (PresentingBad, Gate::HOLDING, Refused(HELD), Kept),
     (PresentingUnfit, Gate::CLOSED, Refused(IS_CLOSED), Kept),
     (PresentingUnfit, Gate::OPEN, Refused(UNFIT), Kept),
     (PresentingUnfit, Gate::HOLDING, Refused(HELD), Kept),
+    (PresentingMany, Gate::CLOSED, Refused(IS_CLOSED), Kept),
+    (PresentingMany, Gate::OPEN, Refused(MANY), Kept),
+    (PresentingMany, Gate::HOLDING, Refused(HELD), Kept),
     (PresentingShort, Gate::CLOSED, Refused(IS_CLOSED), Kept),
     (PresentingShort, Gate::OPEN, Refused(SHORT), Kept),
     (PresentingShort, Gate::HOLDING, Refused(HELD), Kept),
@@ -89,10 +102,14 @@ fn refused_permit(refusal: u32) -> u64 {
     (1 << 32) + u64::from(refusal)
 }
 
+type Pair = (Vec<u8>, Vec<u8>);
+
 struct Files {
-    good: (Vec<u8>, Vec<u8>),
-    bad: (Vec<u8>, Vec<u8>),
-    unfit: (Vec<u8>, Vec<u8>),
+    good: Pair,
+    goals: Pair,
+    bad: Pair,
+    unfit: Pair,
+    many: Pair,
     least: Lent,
     short: Lent,
 }
@@ -100,15 +117,18 @@ struct Files {
 impl Files {
     fn new() -> Files {
         let records = vectors::checks();
-        let with = |answer: u32| {
-            let found = records.iter().find(|record| record.answer == answer);
+        let with = |fits: &dyn Fn(&CheckRecord) -> bool| {
+            let found = records.iter().find(|record| fits(record));
             let found = found.expect("the vectors have one");
             (found.claim.clone(), found.proof.clone())
         };
+        let several = |record: &CheckRecord| decode::goals(&record.claim).len() > 1;
         Files {
-            good: with(0),
-            bad: with(BAD),
-            unfit: with(UNFIT),
+            good: with(&|record| record.answer == 0 && record.form() == Some(Form::One)),
+            goals: with(&|record| record.answer == 0 && several(record)),
+            bad: with(&|record| record.answer == BAD),
+            unfit: with(&|record| record.answer == UNFIT),
+            many: with(&|record| record.answer == MANY),
             least: Lent::least(),
             short: Lent::new(ENTRIES - 1, NODES - 1, CODES - 1),
         }
@@ -118,8 +138,10 @@ impl Files {
     fn make(&mut self, call: Call, gate: &mut Gate, tag: u32) -> u64 {
         let Files {
             good,
+            goals,
             bad,
             unfit,
+            many,
             least,
             short,
         } = self;
@@ -128,8 +150,10 @@ impl Files {
             Closing => close(gate).into(),
             Taking => take(gate),
             PresentingGood => present(gate, tag, &good.0, &good.1, least).into(),
+            PresentingGoals => present(gate, tag, &goals.0, &goals.1, least).into(),
             PresentingBad => present(gate, tag, &bad.0, &bad.1, least).into(),
             PresentingUnfit => present(gate, tag, &unfit.0, &unfit.1, least).into(),
+            PresentingMany => present(gate, tag, &many.0, &many.1, least).into(),
             PresentingShort => present(gate, tag, &good.0, &good.1, short).into(),
         }
     }
@@ -222,12 +246,15 @@ fn a_permit_from_opening_to_closing() {
         assert_eq!(then(PresentingShort, 1), SHORT.into());
         assert_eq!(then(PresentingBad, 2), BAD.into());
         assert_eq!(then(PresentingUnfit, 3), UNFIT.into());
+        assert_eq!(then(PresentingMany, 4), MANY.into());
         assert_eq!(then(Taking, 0), refused_permit(NONE_HELD));
         assert_eq!(then(PresentingGood, tag), 0);
         assert_eq!(then(PresentingGood, 5), HELD.into());
         assert_eq!(then(Opening, 0), NOT_CLOSED.into());
         assert_eq!(then(Taking, 0), tag.into());
         assert_eq!(then(Taking, 0), refused_permit(NONE_HELD));
+        assert_eq!(then(PresentingGoals, tag), 0);
+        assert_eq!(then(Taking, 0), tag.into());
         assert_eq!(then(PresentingGood, tag), 0);
         assert_eq!(then(Closing, 0), 0);
         assert_eq!(then(Taking, 0), refused_permit(IS_CLOSED));
@@ -253,7 +280,14 @@ fn shown(gate: Gate) -> reference::Gate {
 fn random_calls_agree_with_the_reference() {
     let mut files = Files::new();
     let mut rng = Rng::new(gate_tests::setting("GATE_SEED", 1));
-    let calls = [Opening, Closing, Taking, PresentingGood, PresentingBad];
+    let calls = [
+        Opening,
+        Closing,
+        Taking,
+        PresentingGood,
+        PresentingGoals,
+        PresentingBad,
+    ];
     let closed = Gate {
         phase: Gate::CLOSED,
         tag: 0,
@@ -274,6 +308,10 @@ fn random_calls_agree_with_the_reference() {
             },
             PresentingBad => model
                 .present(tag, &files.bad.0, &files.bad.1)
+                .answer()
+                .into(),
+            PresentingGoals => model
+                .present(tag, &files.goals.0, &files.goals.1)
                 .answer()
                 .into(),
             _ => model

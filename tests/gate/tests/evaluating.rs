@@ -9,7 +9,7 @@ use reference::generate::{self, extremes};
 use reference::{answer_wide, describe_wide, Entry, Kind, Refusal, ACTIONS};
 use std::collections::BTreeMap;
 
-/// "Refusals 1 to 34 and 60 to 64 write nothing to lent slices", nor does 71. "...
+/// "Refusals 1 to 34 and 60 to 64 write nothing to lent slices", nor do 71 and 72. "...
 /// after a finished evaluation, record slices hold the whole decoding".
 fn assert_evaluated(record: &EvalRecord, lent: &mut LentWords, what: &str) {
     lent.renew();
@@ -116,12 +116,18 @@ struct Shares {
     /// Pairs in which boxes and diamonds by an action other than 0 meet a model
     /// with actions.
     by_action: u64,
+    /// Claims of the form of several goals, and of these how many are evaluated.
+    goals: u64,
+    goals_evaluated: u64,
     refusals: BTreeMap<u32, u64>,
 }
 
 impl Shares {
     fn count(&mut self, record: &EvalRecord) {
         self.total += 1;
+        let goals = record.claim.starts_with(b"CLM2");
+        self.goals += u64::from(goals);
+        self.goals_evaluated += u64::from(goals && record.answer == 0);
         if record.answer != 0 {
             *self.refusals.entry(record.number()).or_default() += 1;
             return;
@@ -148,15 +154,19 @@ impl Shares {
         let share = |part: u64| 100.0 * part as f64 / self.total as f64;
         println!(
             "gate: {} {what} agree, {:.1} % evaluated, {:.1} % with a fixpoint true at some \
-             states only, {:.1} % by action; refusals {:?}",
+             states only, {:.1} % by action, {:.1} % of several goals ({} of them evaluated); \
+             refusals {:?}",
             self.total,
             share(self.evaluated),
             share(self.split),
             share(self.by_action),
+            share(self.goals),
+            self.goals_evaluated,
             self.refusals
         );
         assert!(self.by_action * 5 > self.total);
-        let all = (10..=14).chain(20..=23).chain(60..=64).chain([71]);
+        assert!(self.goals * 3 > self.total && self.goals_evaluated * 5 > self.total);
+        let all = (10..=14).chain(20..=23).chain(60..=64).chain([71, 72]);
         let missing: Vec<u32> = all.filter(|n| !self.refusals.contains_key(n)).collect();
         assert!(missing.is_empty() || self.total < 10_000, "no {missing:?}");
         assert!(self.evaluated * 100 > self.total * evaluated);
@@ -453,6 +463,28 @@ fn an_unfit_action_comes_before_the_model() {
             let record = judged(&claim, model);
             assert_eq!(refusal(&record), Some((71, 1)));
             assert_evaluated(&record, &mut lent, &format!("{claim:?}"));
+        }
+    }
+}
+
+/// "72 ... judged where it is read ... nothing written", whatever the model is. The
+/// goals say nothing else to an evaluation: its words are those of the entries.
+#[test]
+fn goals_of_an_evaluated_claim() {
+    let mut lent = LentWords::least();
+    let entries = [Entry::new(Kind::Letter, 0, 0), Entry::new(Kind::Box, 0, 0)];
+    let model = hard::model(3, |state| state as u32 & 1, |state, next| next == state + 1);
+    let one = judged(&draft::claim(&entries, &[1]).bytes, &model);
+    for goals in 0..20 {
+        let claim = draft::goal_claim(&entries, &vec![vec![0, 1]; goals]).bytes;
+        let what = format!("{goals} goals");
+        for model in [&model[..], b"", b"MDL2\x01\x02\x00\x00"] {
+            assert_evaluated(&judged(&claim, model), &mut lent, &what);
+        }
+        let record = judged(&claim, &model);
+        match goals {
+            1..=16 => assert_eq!(record.words, one.words, "{what}"),
+            _ => assert_eq!(refusal(&record), Some((72, 14)), "{what}"),
         }
     }
 }

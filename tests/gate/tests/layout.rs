@@ -60,7 +60,7 @@ fn header_numbers() -> BTreeMap<String, usize> {
 }
 
 #[test]
-fn the_header_names_the_lengths_the_phases_and_every_refusal() {
+fn the_header_names_the_lengths_the_phases_the_forms_and_every_refusal() {
     let mut numbers = header_numbers();
     for (name, number) in [
         ("FOCUS_ENTRIES", lent::ENTRIES),
@@ -69,6 +69,11 @@ fn the_header_names_the_lengths_the_phases_and_every_refusal() {
         ("FOCUS_WORDS", lent::WORDS),
         ("FOCUS_CLAIM_BYTES", lent::CLAIM_BYTES),
         ("FOCUS_PROOF_BYTES", lent::PROOF_BYTES),
+        ("FOCUS_GOALS", reference::GOALS),
+        ("FOCUS_GOALS_CLAIM_BYTES", lent::GOALS_CLAIM_BYTES),
+        ("FOCUS_GOALS_PROOF_BYTES", lent::GOALS_PROOF_BYTES),
+        ("FOCUS_FORM_ONE", reference::Form::One as usize),
+        ("FOCUS_FORM_SEVERAL", reference::Form::Several as usize),
         ("FOCUS_MODEL_BYTES", lent::MODEL_BYTES),
         ("FOCUS_PHASE_CLOSED", usize::from(Gate::CLOSED)),
         ("FOCUS_PHASE_OPEN", usize::from(Gate::OPEN)),
@@ -78,6 +83,6 @@ fn the_header_names_the_lengths_the_phases_and_every_refusal() {
     }
     let mut refusals: Vec<usize> = numbers.into_values().collect();
     refusals.sort_unstable();
-    let ranges = [1..=1, 10..=14, 20..=23, 30..=39, 50..=53, 60..=64, 70..=71];
+    let ranges = [1..=1, 10..=14, 20..=23, 30..=39, 50..=53, 60..=64, 70..=72];
     assert_eq!(refusals, ranges.into_iter().flatten().collect::<Vec<_>>());
 }

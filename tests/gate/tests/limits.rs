@@ -2,7 +2,8 @@
 //! number and place as written there, through every call that reads the file.
 
 use gate_tests::decode::{decode, entries, Decoding};
-use gate_tests::lent::{Lent, LentWords, MODEL_BYTES};
+use gate_tests::lent::{Lent, LentWords, GOALS_CLAIM_BYTES, GOALS_PROOF_BYTES, MODEL_BYTES};
+use gate_tests::lent::{CLAIM_BYTES, PROOF_BYTES};
 use gate_tests::{check, evaluate, present, Gate};
 use reference::draft::{self, DraftNode, DraftState};
 use reference::generate::extremes;
@@ -264,6 +265,213 @@ fn codes_24_576_in_all() {
     let (claim, proof) = full(&truths(24), Rule::Ax2);
     assert_eq!(decode(&claim, &proof).codes.len(), 24_576);
     assert_checked(&claim, &proof, "accept");
+}
+
+/// 1 to 16 goals, each of them 1 to 24 members.
+#[test]
+fn goals_1_to_16() {
+    for (goals, members, expected) in [
+        (1, 24, "accept"),
+        (2, 1, "accept"),
+        (16, 1, "accept"),
+        (16, 24, "accept"),
+        // Behind the opening, the entry count, truth in two bytes and letters in four.
+        (17, 24, "refuse 72 at 100"),
+        (17, 1, "refuse 72 at 8"),
+        (0, 24, "refuse 72 at 100"),
+        (16, 25, "refuse 12 at 106"),
+        (16, 0, "refuse 12 at 10"),
+    ] {
+        let (claim, proof) = extremes::many_goals(goals, members);
+        assert_claim(&claim.bytes, &proof.bytes, expected);
+    }
+    let one = draft::goal_claim(&truths(1), &[vec![0]]).bytes;
+    let proof = draft::goal_proof(&[0], &[ax2()]).bytes;
+    assert_claim(&one, &proof, "accept");
+    for count in [0, 17, 255, 256, 257, 65_535u16] {
+        let mut claim = one.clone();
+        claim[8..10].copy_from_slice(&count.to_le_bytes());
+        assert_claim(&claim, &proof, "refuse 72 at 8");
+        // Judged as soon as its two bytes are there.
+        assert_claim(&claim[..10], &proof, "refuse 72 at 8");
+        assert_claim(&claim[..9], &proof, "refuse 11 at 9");
+    }
+}
+
+/// The count of each goal at its own offset, and members that rise for themselves.
+#[test]
+fn members_of_each_goal() {
+    let proof = draft::goal_proof(&[0, 1], &[ax2(), ax2()]).bytes;
+    let claim = |goals: &[Vec<u16>]| draft::goal_claim(&truths(3), goals).bytes;
+    // The goal count stands behind six bytes of entries, at 12.
+    assert_claim(&claim(&[vec![0], vec![0]]), &proof, "accept");
+    assert_claim(&claim(&[vec![2], vec![0, 1]]), &proof, "accept");
+    assert_claim(&claim(&[vec![], vec![0]]), &proof, "refuse 12 at 14");
+    assert_claim(&claim(&[vec![0], vec![]]), &proof, "refuse 12 at 18");
+    assert_claim(&claim(&[vec![0], vec![0; 25]]), &proof, "refuse 12 at 18");
+    assert_claim(&claim(&[vec![1, 0], vec![0]]), &proof, "refuse 14 at 18");
+    assert_claim(&claim(&[vec![0], vec![1, 1]]), &proof, "refuse 14 at 22");
+    assert_claim(&claim(&[vec![0], vec![3]]), &proof, "refuse 14 at 20");
+    let more = [&claim(&[vec![0], vec![0]])[..], &[0]].concat();
+    assert_claim(&more, &proof, "refuse 11 at 22");
+}
+
+/// Roots from 0 to the last node, strictly rising, judged before the nodes.
+#[test]
+fn roots_below_the_node_count() {
+    let claim = |goals| draft::goal_claim(&truths(1), &vec![vec![0]; goals]).bytes;
+    let proof = |roots: &[u16], nodes: usize| {
+        let file = draft::goal_proof(roots, &vec![ax2(); nodes]);
+        file.bytes
+    };
+    let all: Vec<u16> = (0..16).collect();
+    assert_checked(&claim(16), &proof(&all, 16), "accept");
+    assert_checked(&claim(16), &proof(&all, 15), "refuse 34 at 36");
+    assert_checked(&claim(16), &proof(&all, 17), "refuse 35 at 16");
+    assert_checked(&claim(2), &proof(&[1, 2], 3), "refuse 35 at 0");
+    assert_checked(&claim(2), &proof(&[0, 0], 2), "refuse 34 at 8");
+    assert_checked(&claim(2), &proof(&[1, 0], 2), "refuse 34 at 8");
+    assert_checked(&claim(2), &proof(&[0, 2], 2), "refuse 34 at 8");
+    assert_checked(&claim(2), &proof(&[2, 3], 2), "refuse 34 at 6");
+    assert_checked(&claim(2), &proof(&[0, 65_535], 2), "refuse 34 at 8");
+    assert_checked(&claim(2), &proof(&[0, 256], 2), "refuse 34 at 8");
+    let unfit = with_byte(proof(&[1, 0], 2), 10, 0xFF);
+    assert_checked(&claim(2), &unfit, "refuse 34 at 8");
+    assert_checked(
+        &claim(2),
+        &with_byte(proof(&[0, 1], 2), 10, 0xFF),
+        "refuse 33 at 10",
+    );
+    assert_checked(&claim(2), b"PRF2\x00\x00", "refuse 32 at 4");
+    for length in 6..10 {
+        let cut = &proof(&[0, 1], 2)[..length];
+        assert_checked(&claim(2), cut, &format!("refuse 31 at {length}"));
+    }
+}
+
+/// 1,024 nodes in one tree to sixteen.
+#[test]
+fn nodes_1_to_1024_of_several_goals() {
+    for goals in [1, 2, 15, 16] {
+        for (nodes, expected) in [
+            (goals, "accept"),
+            (1024, "accept"),
+            (1025, "refuse 32 at 4"),
+        ] {
+            let (claim, proof) = extremes::chains(goals, nodes);
+            assert_checked(&claim.bytes, &proof.bytes, expected);
+        }
+    }
+}
+
+/// "A pair of unlike forms gets 30."
+#[test]
+fn unlike_forms() {
+    let claims = [
+        draft::claim(&truths(1), &[0]).bytes,
+        draft::goal_claim(&truths(1), &[vec![0]]).bytes,
+    ];
+    let proofs = [
+        draft::proof(&[ax2()]).bytes,
+        draft::goal_proof(&[0], &[ax2()]).bytes,
+    ];
+    for (one, claim) in claims.iter().enumerate() {
+        for (other, proof) in proofs.iter().enumerate() {
+            let expected = if one == other {
+                "accept"
+            } else {
+                "refuse 30 at 0"
+            };
+            assert_checked(claim, proof, expected);
+        }
+        assert_evaluated(claim, &states(1), "accept");
+    }
+}
+
+/// Two loops; a link that leads past its own root, to a node 0 that would do, is none.
+#[test]
+fn a_climb_stops_at_the_root() {
+    let entries = [
+        Entry::new(Kind::Name, 2, 0),
+        Entry::new(Kind::Box, 0, 0),
+        Entry::new(Kind::Nu, 1, 0),
+    ];
+    let tree = |start: u16, link: u16| {
+        let node = |rule, principal: u16, at: u16, code: u16| DraftNode {
+            first: at + 1,
+            back: link,
+            ..DraftNode::new(rule, principal, vec![code])
+        };
+        [
+            node(Rule::D, 0, start, 5),
+            node(Rule::Nu, 5, start + 1, 5),
+            node(Rule::Box, 3, start + 2, 3),
+            node(Rule::Back, 0, start + 3, 5),
+        ]
+    };
+    let claim = draft::goal_claim(&entries, &[vec![2], vec![2]]).bytes;
+    for (link, expected) in [
+        (4, "accept"),
+        (0, "refuse 38 at 7"),
+        (1, "refuse 38 at 7"),
+        (5, "refuse 38 at 7"),
+        (8, "refuse 38 at 7"),
+        (65_535, "refuse 38 at 7"),
+    ] {
+        let nodes = [tree(0, 0), tree(4, link)].concat();
+        let proof = draft::goal_proof(&[0, 4], &nodes).bytes;
+        assert_checked(&claim, &proof, expected);
+    }
+}
+
+/// The longest claims and proofs that pass 10 to 14, 72 and 30 to 34, of one goal and
+/// of sixteen: all of their bytes are looked at, and all nodes and codes decoded.
+#[test]
+fn the_longest_claims_and_proofs() {
+    let members: Vec<u16> = (232..256).collect();
+    let codes: Vec<u16> = (488..512).collect();
+    let roots: Vec<u16> = (1008..1024).collect();
+    let nodes = vec![DraftNode::new(Rule::And, 0, codes); 1024];
+    let goals = vec![members.clone(); 16];
+    let disjunctions = vec![Entry::new(Kind::Or, 0, 0); 256];
+    let mut good = disjunctions.clone();
+    good[0] = Entry::new(Kind::Letter, 31, 0);
+    let pairs = [
+        (
+            draft::claim(&disjunctions, &members).bytes,
+            draft::claim(&good, &members).bytes,
+            draft::proof(&nodes).bytes,
+        ),
+        (
+            draft::goal_claim(&disjunctions, &goals).bytes,
+            draft::goal_claim(&good, &goals).bytes,
+            draft::goal_proof(&roots, &nodes).bytes,
+        ),
+    ];
+    let lengths = pairs
+        .each_ref()
+        .map(|(claim, _, proof)| (claim.len(), proof.len()));
+    let longest = [
+        (CLAIM_BYTES, PROOF_BYTES),
+        (GOALS_CLAIM_BYTES, GOALS_PROOF_BYTES),
+    ];
+    assert_eq!(lengths, longest);
+    assert_eq!(longest, [(1592, 58_374), (2344, 58_406)]);
+    for (claim, good, proof) in &pairs {
+        assert_claim(claim, proof, "refuse 20 at 0");
+        let longer = [&claim[..], &[0]].concat();
+        assert_claim(&longer, proof, &format!("refuse 11 at {}", claim.len()));
+        let cut = &claim[..claim.len() - 1];
+        assert_claim(cut, proof, &format!("refuse 11 at {}", cut.len()));
+        assert_checked(good, proof, "refuse 35 at 0");
+        assert_eq!(decode(good, proof).codes.len(), 24_576);
+        let longer = [&proof[..], &[0]].concat();
+        assert_checked(good, &longer, &format!("refuse 31 at {}", proof.len()));
+        let cut = &proof[..proof.len() - 1];
+        assert_checked(good, cut, &format!("refuse 31 at {}", cut.len()));
+        let last = with_byte(proof.clone(), proof.len() - 1, 0xFF);
+        assert_checked(good, &last, &format!("refuse 34 at {}", proof.len() - 2));
+    }
 }
 
 /// "Bits 5 to 7 are zero"; an entry's map has the bits of its kind alone.

@@ -1,15 +1,15 @@
 //! Presenting, over the vectors and over generated files: the answer, the gate
 //! state and every place of the lent slices.
 
-use gate_tests::decode::{decode, Decoding};
+use gate_tests::decode::{self, decode, Decoding};
 use gate_tests::lent::{Lent, CODES, ENTRIES, NODES};
 use gate_tests::{present, setting, vectors, Gate};
 use reference::corpus::CheckRecord;
-use reference::{describe, generate};
+use reference::{describe, generate, Form};
 use std::collections::BTreeMap;
 
-/// "Refusals 1 to 34 ... write nothing to lent slices", nor does 71. "With 35 to 39,
-/// with acceptance ... record slices hold the whole decoding".
+/// "Refusals 1 to 34 ... write nothing to lent slices", nor do 71 and 72. "With 35 to
+/// 39, with acceptance ... record slices hold the whole decoding".
 fn decoding_left(record: &CheckRecord) -> Decoding {
     match record.number() {
         0 | 35..=39 => decode(&record.claim, &record.proof),
@@ -144,7 +144,7 @@ fn of_every_number(records: &[CheckRecord]) -> Vec<&CheckRecord> {
 fn a_short_slice_earns_1_and_is_not_written() {
     let records = vectors::checks();
     let chosen = of_every_number(&records);
-    assert_eq!(chosen.len(), 21, "0, 10 to 14, 20 to 23, 30 to 39, 71");
+    assert_eq!(chosen.len(), 22, "0, 10 to 14, 20 to 23, 30 to 39, 71, 72");
     let before = Gate {
         phase: Gate::OPEN,
         tag: 9,
@@ -194,6 +194,10 @@ fn the_decoding_is_the_reference_s() {
         let own: Vec<_> = own.map(|n| (n.rule, links(n), n.count)).collect();
         assert_eq!(nodes, own);
         assert_eq!(judged.proof.codes, decoding.codes);
+        let goals: Vec<_> = judged.claim.goals().map(<[u16]>::to_vec).collect();
+        assert_eq!(goals, decode::goals(&record.claim));
+        let roots = decode::roots(&record.claim, &record.proof);
+        assert_eq!(judged.proof.named_roots, roots);
     }
 }
 
@@ -202,7 +206,7 @@ fn the_decoding_is_the_reference_s() {
 fn generated_files_present_alike() {
     let files = setting("GATE_FILES", 20_000);
     let mut lent = Lent::least();
-    let mut decoded = 0;
+    let (mut decoded, mut goals) = (0, 0);
     let records = generate::checks(setting("GATE_SEED", 1) + 1);
     for (index, record) in records.take(files as usize).enumerate() {
         assert_presented(
@@ -211,8 +215,14 @@ fn generated_files_present_alike() {
             &mut lent,
             &format!("generated pair {index}"),
         );
-        decoded += u64::from(decoding_left(&record) != Decoding::default());
+        let left = decoding_left(&record) != Decoding::default();
+        decoded += u64::from(left);
+        goals += u64::from(left && record.form() == Some(Form::Several));
     }
     assert!(decoded * 4 > files, "only {decoded} of {files} are decoded");
-    println!("gate: {files} generated pairs presented, {decoded} decoded into lent slices");
+    assert!(goals * 5 > files, "only {goals} of several goals");
+    println!(
+        "gate: {files} generated pairs presented, {decoded} decoded into lent slices, {goals} of \
+         several goals"
+    );
 }

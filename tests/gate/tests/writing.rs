@@ -3,12 +3,12 @@
 
 use gate_tests::decode::{self, Decoding};
 use gate_tests::lent::{Canary, Lengths, Lent, LentRecords, LentWords, CODES, ENTRIES, NODES};
-use gate_tests::tables::{self, nu_of_box, sized};
+use gate_tests::tables::{self, nu_of_box, sized, sized_goals, two_goals};
 use gate_tests::{check, evaluate, present, setting, vectors, write_claim, write_proof};
 use gate_tests::{Entry, Gate, Node, Records};
 use reference::corpus::WriteRecord;
 use reference::generate::{self, Tally};
-use reference::{describe, describe_wide, Kind, NodeRecord, Refusal, Written};
+use reference::{describe, describe_wide, Form, Kind, NodeRecord, Refusal, Written};
 use Call::{WritingClaim, WritingProof};
 
 #[derive(Clone, Copy, Debug, PartialEq, Eq)]
@@ -262,12 +262,16 @@ fn records_of(claim: &[u8], proof: &[u8]) -> Records {
         nodes,
         codes,
     } = decode::decode(claim, proof);
+    let goals = decode::goals(claim);
     Records {
+        form: decode::form(claim),
         entry_count: entries.len(),
         entries,
-        members: decode::members(claim),
+        goal_counts: goals.iter().map(|goal| goal.len() as u16).collect(),
+        members: goals.concat(),
         node_count: nodes.len(),
         nodes,
+        roots: decode::roots(claim, proof),
         codes,
     }
 }
@@ -328,7 +332,36 @@ fn assert_reference_gives_back(records: &Records, claim: &[u8], proof: &[u8], wh
     let read = reference::judge(claim, proof).decoded;
     let read = tables::read(&read.expect("what is written is well formed"));
     assert_eq!(counted(&Records::from(&read)), counted(records), "{what}");
+    assert_eq!(read.form, records.form, "{what}");
+    assert_eq!(read.goal_counts, records.goal_counts, "{what}");
     assert_eq!(read.members, records.members, "{what}");
+    assert_eq!(read.roots, records.roots, "{what}");
+}
+
+/// Records whose two calls were refused or not, by form and goals.
+#[derive(Debug, Default)]
+struct Shares {
+    /// Of the form of several goals.
+    goals: u64,
+    /// Of these, both files written with two goals at least, and trees that interleave.
+    several: u64,
+    interleaved: u64,
+    /// Of no form.
+    none: u64,
+}
+
+impl Shares {
+    fn count(&mut self, case: &Case) {
+        self.goals += u64::from(case.records.form == Form::Several as u8);
+        self.none += u64::from(Form::from_number(case.records.form).is_none());
+        let (Ok(claim), Ok(proof)) = (&case.claim, &case.proof) else {
+            return;
+        };
+        self.several += u64::from(case.records.roots.len() > 1);
+        let decoded = reference::judge(claim, proof).decoded;
+        let decoded = decoded.expect("what is written is well formed");
+        self.interleaved += u64::from(generate::interleaved(&decoded));
+    }
 }
 
 #[test]
@@ -351,6 +384,7 @@ fn generated_records_are_written_alike() {
     let mut readers = Readers::new();
     let mut both = 0;
     let mut numbers = Vec::new();
+    let mut shares = Shares::default();
     let records = generate::writes(setting("GATE_SEED", 1));
     for (index, record) in records.take(count as usize).enumerate() {
         let what = format!("generated records {index}");
@@ -358,15 +392,28 @@ fn generated_records_are_written_alike() {
         assert_both(&case, Lengths::of(&case.records), &mut lent, &what);
         assert_outputs(&case, &mut lent, &what);
         both += u64::from(readers.assert_give_back(&case, &what));
+        shares.count(&case);
         numbers.push(case.proof.err().map_or(0, |refusal| refusal.number.into()));
     }
     let tally = Tally::of(numbers.into_iter());
-    for number in (12..=14).chain(20..=23).chain(32..=35).chain([71]) {
+    let ranges = (12..=14).chain(20..=23).chain(32..=35);
+    for number in ranges.chain([10, 71, 72]) {
         let seen = tally.count(number) > 0 || count < 10_000;
         assert!(seen, "no refusal {number} in\n{tally}");
     }
     assert!(both * 4 > count, "only {both} of {count} were written");
-    println!("gate: {count} generated records agree, {both} pairs written and read again");
+    println!(
+        "gate: {count} generated records agree, {both} pairs written and read again; {} of the \
+         form of several goals, {} of them written with several, {} with trees that interleave; \
+         {} of no form",
+        shares.goals, shares.several, shares.interleaved, shares.none
+    );
+    assert!(shares.goals * 3 > count, "{shares:?}");
+    assert!(
+        shares.several * 12 > count && shares.interleaved * 24 > count,
+        "{shares:?}"
+    );
+    assert!(shares.none * 200 > count, "{shares:?}");
 }
 
 /// Whether a 0 is written out in a claim: it has more bytes than its records want.
@@ -384,21 +431,31 @@ fn is_written_out(claim: &[u8]) -> bool {
     with_map_3 != wanted
 }
 
+/// A node, with as many roots as a claim of that form wants.
+fn any_proof(claim: &[u8]) -> Vec<u8> {
+    match decode::form(claim) {
+        1 => b"PRF1\x01\0\0\0".to_vec(),
+        _ => {
+            let roots = [0, 0].repeat(decode::goals(claim).len());
+            [b"PRF2\x01\0", &roots[..], &[0, 0]].concat()
+        }
+    }
+}
+
 /// What the writer must make of two files' records: "with the number and place the
 /// reader would give for the file", and "writing the records of an accepted file
 /// must give its bytes back". None where a file is not whole, or has what no record
 /// can say.
 fn case_of_files(claim: &[u8], proof: &[u8], answer: u32) -> Option<Case> {
     let refusal = || Err(Refusal::unpack(answer).expect("a refusal"));
-    let any_proof = b"PRF1\x01\0\0\0";
     let (proof, written) = match answer >> 16 {
-        0 | 36..=39 => (proof, (Ok(claim.to_vec()), Ok(proof.to_vec()))),
-        35 => (proof, (Ok(claim.to_vec()), refusal())),
-        20..=23 | 71 if !is_written_out(claim) => (&any_proof[..], (refusal(), refusal())),
+        0 | 36..=39 => (proof.to_vec(), (Ok(claim.to_vec()), Ok(proof.to_vec()))),
+        35 => (proof.to_vec(), (Ok(claim.to_vec()), refusal())),
+        20..=23 | 71 if !is_written_out(claim) => (any_proof(claim), (refusal(), refusal())),
         _ => return None,
     };
     Some(Case {
-        records: records_of(claim, proof),
+        records: records_of(claim, &proof),
         claim: written.0,
         proof: written.1,
     })
@@ -407,7 +464,7 @@ fn case_of_files(claim: &[u8], proof: &[u8], answer: u32) -> Option<Case> {
 #[test]
 fn records_of_files_give_the_bytes_back() {
     let mut lent = LentRecords::default();
-    let (mut accepted, mut actions, mut files) = (0, 0, 0);
+    let (mut accepted, mut actions, mut goals, mut files) = (0, 0, 0, 0);
     let generated = generate::checks(setting("GATE_SEED", 1) + 2).take(10_000);
     for (index, record) in vectors::checks().into_iter().chain(generated).enumerate() {
         assert_eq!(check(&record.claim, &record.proof), record.answer);
@@ -417,13 +474,17 @@ fn records_of_files_give_the_bytes_back() {
         assert_both(&case, Lengths::of(&case.records), &mut lent, &what);
         accepted += u64::from(record.answer == 0);
         actions += u64::from(record.number() == 71);
+        goals += u64::from(case.records.roots.len() > 1);
         files += 1;
     }
     assert!(
-        accepted > 2000 && actions > 50 && files > 6000,
-        "{accepted} accepted of {files}, {actions} with unfit actions"
+        accepted > 2000 && actions > 50 && goals > 2000 && files > 6000,
+        "{accepted} accepted of {files}, {actions} with unfit actions, {goals} of several goals"
     );
-    println!("gate: records of {files} files written again, {accepted} of them accepted");
+    println!(
+        "gate: records of {files} files written again, {accepted} of them accepted, {goals} of \
+         several goals"
+    );
 }
 
 /// The gate does what the reference does; answers what that is.
@@ -559,8 +620,7 @@ fn counts_of_any_size() {
         assert_eq!(answers, ["22 bytes", "refuse 32 at 4"]);
     }
     for count in [0, 25, 256, 257, 65_535, 65_536, 65_537, 65_560] {
-        let mut records = nu_of_box();
-        records.members = vec![2; count];
+        let records = tables::with_members(nu_of_box(), vec![2; count]);
         let answers = alike(&records, &mut lent, &format!("{count} members"));
         assert_eq!(answers, ["refuse 12 at 18", "refuse 12 at 18"]);
     }
@@ -613,4 +673,177 @@ fn the_longest_files_just_fit() {
     let mut lent = LentRecords::default();
     assert_eq!(assert_outputs(&case, &mut lent, "the longest files"), 6);
     assert!(Readers::new().assert_give_back(&case, "the longest files"));
+}
+
+/// The sample of two goals with something changed: what both calls answer.
+fn of_two_goals(lent: &mut LentRecords, change: impl Fn(&mut reference::Records)) -> [String; 2] {
+    let mut records = two_goals();
+    change(&mut records);
+    alike(&records, lent, "two goals")
+}
+
+/// "any other number is 10 at 0, after 1"
+#[test]
+fn every_form() {
+    let mut lent = LentRecords::default();
+    for form in 0..=255 {
+        let mut records = two_goals();
+        records.form = form;
+        let expected = match form {
+            // Two counts in place of one, before the roots are looked at.
+            1 => ["refuse 12 at 26", "refuse 12 at 26"],
+            2 => ["38 bytes", "49 bytes"],
+            _ => ["refuse 10 at 0", "refuse 10 at 0"],
+        };
+        let what = format!("form {form}");
+        assert_eq!(alike(&records, &mut lent, &what), expected, "{what}");
+        records.entry_count = 0;
+        let counted = match form {
+            1 | 2 => "refuse 12 at 4",
+            _ => "refuse 10 at 0",
+        };
+        assert_eq!(alike(&records, &mut lent, &what), [counted; 2], "{what}");
+        let case = Case::judged(&records);
+        let full = Lengths::of(&case.records);
+        for (entries, nodes, codes) in [(255, NODES, CODES), (ENTRIES, 1023, CODES), (0, 0, 0)] {
+            let short = Lengths {
+                entries,
+                nodes,
+                codes,
+                ..full
+            };
+            let given = (&case.records, short);
+            assert_written(WritingProof, given, &refused(1, 0), &mut lent, &what);
+        }
+    }
+}
+
+/// "72, then the sum (12 at the goal count), then list by list". The goal count of the
+/// sample stands at 26.
+#[test]
+fn goal_counts_that_do_not_add_up() {
+    let mut lent = LentRecords::default();
+    let mut assert_both_refuse = |counts: &[u16], expected: &str| {
+        let got = of_two_goals(&mut lent, |records| records.goal_counts = counts.to_vec());
+        assert_eq!(got, [expected; 2], "{counts:?}");
+    };
+    for length in [0, 17, 18, 65_535, 65_536, 65_537, 65_538] {
+        assert_both_refuse(&vec![0; length], "refuse 72 at 26");
+    }
+    for counts in [
+        &[2][..],
+        &[1, 2, 1],
+        &[1, 1],
+        &[2, 2],
+        &[0, 0],
+        &[32_769, 32_770],
+        &[1, 2, 32_768, 32_768],
+        &[65_535, 4],
+        &[65_535; 16],
+    ] {
+        assert_both_refuse(counts, "refuse 12 at 26");
+    }
+    assert_both_refuse(&[0, 3], "refuse 12 at 28");
+    assert_both_refuse(&[3, 0], "refuse 12 at 36");
+    assert_both_refuse(&[1, 2, 0], "refuse 12 at 38");
+    // In one goal the members rise as well; then there is a root too many.
+    let one = of_two_goals(&mut lent, |records| records.goal_counts = vec![3]);
+    assert_eq!(one, ["36 bytes", "refuse 34 at 6"]);
+}
+
+/// "the roots in a slice as long as the goal count (else 34 where the roots begin)",
+/// each of them rising and a node.
+#[test]
+fn roots_of_every_length_and_number() {
+    let mut lent = LentRecords::default();
+    let mut proof_of = |roots: Vec<u16>| {
+        let [claim, proof] = of_two_goals(&mut lent, |records| records.roots = roots.clone());
+        assert_eq!(claim, "38 bytes");
+        proof
+    };
+    for length in [0, 1, 3, 16, 17, 65_535, 65_536, 65_538] {
+        assert_eq!(
+            proof_of((0..length).map(|n| n as u16).collect()),
+            "refuse 34 at 6"
+        );
+    }
+    let high = (11..16).flat_map(|bit| [(1 << bit) - 1, 1 << bit, (1 << bit) + 2]);
+    for number in (0..1100).chain(high).chain([65_534, 65_535]) {
+        let second = match number {
+            2 => "49 bytes",
+            // Root 2 of before is an orphan, unless its own parent is refused first.
+            1 => "refuse 35 at 0",
+            3 => "refuse 35 at 1",
+            4 => "refuse 35 at 3",
+            _ => "refuse 34 at 8",
+        };
+        assert_eq!(proof_of(vec![0, number]), second, "second root {number}");
+        if number > 4 {
+            assert_eq!(proof_of(vec![number, 2]), "refuse 34 at 6");
+        }
+    }
+    assert_eq!(proof_of(vec![1, 2]), "refuse 35 at 0");
+    assert_eq!(proof_of(vec![2, 3]), "refuse 35 at 1");
+}
+
+/// "Forms with one goal: the goal count slice is one number, the length of the
+/// members' slice, and there are no roots."
+#[test]
+fn one_goal_has_one_count_and_no_roots() {
+    let mut lent = LentRecords::default();
+    for counts in [
+        &[][..],
+        &[0],
+        &[2],
+        &[1, 0],
+        &[0, 1],
+        &[1; 16],
+        &[1; 17],
+        &[0; 65_537],
+    ] {
+        let mut records = nu_of_box();
+        records.goal_counts = counts.to_vec();
+        let answers = alike(&records, &mut lent, "other goal counts");
+        assert_eq!(answers, ["refuse 12 at 18"; 2]);
+    }
+    for length in [1, 2, 16, 65_536] {
+        let mut records = nu_of_box();
+        records.roots = vec![0; length];
+        let what = format!("{length} roots");
+        let answers = alike(&records, &mut lent, &what);
+        assert_eq!(answers, ["22 bytes", "refuse 34 at 6"]);
+        records.node_count = 0;
+        let answers = alike(&records, &mut lent, &what);
+        assert_eq!(answers, ["22 bytes", "refuse 32 at 4"]);
+    }
+}
+
+/// Up to 16 goals of 24 members, and one more of either.
+#[test]
+fn limits_of_goals() {
+    let mut lent = LentRecords::default();
+    let mut answers = |goals, members, nodes| {
+        let what = format!("{goals} goals, {members} members, {nodes} nodes");
+        let records = sized_goals(goals, sized(256, members, nodes, 24));
+        alike(&records, &mut lent, &what)
+    };
+    assert_eq!(answers(1, 24, 1024), ["1592 bytes", "56326 bytes"]);
+    assert_eq!(answers(16, 24, 1024), ["2342 bytes", "56326 bytes"]);
+    assert_eq!(answers(17, 24, 1024), ["refuse 72 at 1540"; 2]);
+    assert_eq!(answers(16, 25, 1024), ["refuse 12 at 1542"; 2]);
+    assert_eq!(answers(16, 24, 1025), ["2342 bytes", "refuse 32 at 4"]);
+    assert_eq!(answers(16, 24, 16), ["2342 bytes", "886 bytes"]);
+}
+
+/// The longest files of several goals in output slices of just their lengths and
+/// shorter ones, and what is written read again.
+#[test]
+fn the_longest_files_of_several_goals_just_fit() {
+    let mut lent = LentRecords::default();
+    for goals in [1, 6, 16] {
+        let case = Case::judged(&sized_goals(goals, sized(256, 24, 1024, 24)));
+        let what = format!("the longest files of {goals} goals");
+        assert_eq!(assert_outputs(&case, &mut lent, &what), 6);
+        assert!(Readers::new().assert_give_back(&case, &what));
+    }
 }

@@ -28,8 +28,8 @@ returns c = members-cut _ _ _ _ (number-refused _ _ (c .before .before .before .
 
 returns-2 : tie.Need-returns-2
 returns-2 c =
-    let n = c .before .before .before in
-    members-tell _ _ _ _ (n .before .before .before .before .pre .1) (number-read _ _ (n .before .before .count-at .ensures) (n .value .given .1)) _
+    members-tell _ _ _ _
+    (number-read _ _ (c .before .before .before .before .before .count-at .ensures) (c .before .before .before .value .given .1)) _
     (c .store-members .result) (c .store-members .ensures)
 
 pub read-members-spec : {M : Type 1} → statement M

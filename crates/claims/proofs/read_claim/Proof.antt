@@ -1,24 +1,24 @@
--- One law for each way to end: opening, entries, members, bytes that follow, acceptance.
+-- One law for each way to end: opening, entries, goals, bytes that follow, acceptance.
 use native.Mathlib.Omega.{arith}
 use borrow.Author.Needs.{needs}
 use Rattle.file_parts.specs.Parts.{part-read, part-refused}
-use Rattle.claims.specs.ClaimWalk.{claim-refused, claim-closed, claim-long, claim-no-entries, claim-no-members, claim-follows, claim-got}
+use Rattle.claims.specs.ClaimWalk.{claim-refused, claim-closed, claim-opened, claim-long, claim-no-entries, claim-no-goals, claim-follows, claim-got}
 use Rattle.claims.proofs.read_claim.Statement.{statement}
 use Rattle.claims.proofs.read_claim.Tie as tie
 
-opens-claim-requires : tie.Need-opens-claim-requires
-opens-claim-requires c κs = search needs
+opening-form-requires : tie.Need-opening-form-requires
+opening-form-requires c κs = search needs
 
 refuse-requires : tie.Need-refuse-requires
 refuse-requires c κs = search needs
 
 returns : tie.Need-returns
-returns c = claim-refused _ _ _ _ (c .refuse .ensures) (claim-closed _ (c .before .before .opens-claim .ensures) (c .before .if1 .taken))
+returns c = claim-refused _ _ _ _ _ (c .refuse .ensures) (claim-closed _ (c .before .before .opening-form .ensures) (c .before .if1 .taken))
 
 read-entries-requires : tie.Need-read-entries-requires
 read-entries-requires c κs =
     let o = c .before .before .before in
-    (o .before .before .before .pre .entries, claim-long _ (o .before .opens-claim .ensures) (o .if1 .left))
+    (o .before .before .before .pre .entries, claim-long _ (claim-opened _ (o .before .opening-form .ensures) (o .if1 .left)))
 
 enum-known-number : tie.Need-enum-known-number
 enum-known-number c = search needs
@@ -29,11 +29,11 @@ refuse-requires-2 c κs = search needs
 enum-known-entries : tie.Need-enum-known-entries
 enum-known-entries c = search needs
 
-read-members-requires : tie.Need-read-members-requires
-read-members-requires c κs =
-    let x = part-read _ _ _ _ (c .before .before .before .before .before .read-entries .ensures) (c .before .before .before .entries .given .1) in
-    let p = c .before .before .before .before .before .before .before .before .before .before .before .before .pre in
-    ((p .members, x .few), record { within = x .reached .inside; low = x .reached .near })
+read-goals-requires : tie.Need-read-goals-requires
+read-goals-requires c κs =
+    let x = part-read _ _ _ _ (c .before .before .before .before .before .before .read-entries .ensures) (c .before .before .before .before .entries .given .1) in
+    let p = c .before .before .before .before .before .before .before .before .before .before .before .before .before .pre in
+    ((p .starts, p .members, x .few), record { within = x .reached .inside; low = x .reached .near })
 
 enum-known-number-2 : tie.Need-enum-known-number-2
 enum-known-number-2 c = search needs
@@ -41,12 +41,12 @@ enum-known-number-2 c = search needs
 refuse-requires-3 : tie.Need-refuse-requires-3
 refuse-requires-3 c κs = search needs
 
-enum-known-listed : tie.Need-enum-known-listed
-enum-known-listed c = search needs
+enum-known-goals : tie.Need-enum-known-goals
+enum-known-goals c = search needs
 
 cast-refuse : tie.Need-cast-refuse
 cast-refuse c =
-    let y = part-read _ _ _ _ (c .before .before .before .before .read-members .ensures) (c .before .before .listed .given .1) in
+    let y = part-read _ _ _ _ (c .before .before .before .before .read-goals .ensures) (c .before .before .goals .given .1) in
     omega (arith, y .reached .near)
 
 refuse-requires-4 : tie.Need-refuse-requires-4
@@ -54,54 +54,54 @@ refuse-requires-4 c κs = search needs
 
 returns-2 : tie.Need-returns-2
 returns-2 c =
-    claim-refused _ _ _ _ (c .refuse4 .ensures)
-    (claim-follows _ (c .before .before .before .before .before .before .before .before .before .before .before .before .before .before .before .before .opens-claim .ensures)
-    (c .before .before .before .before .before .before .before .before .before .before .before .before .before .before .before .if1 .left)
-    (part-read _ _ _ _ (c .before .before .before .before .before .before .before .before .before .before .before .read-entries .ensures)
-    (c .before .before .before .before .before .before .before .before .before .entries .given .1))
-    (part-read _ _ _ _ (c .before .before .before .before .before .read-members .ensures) (c .before .before .before .listed .given .1))
+    claim-refused _ _ _ _ _ (c .refuse4 .ensures)
+    (claim-follows _ (claim-opened _ (c .before .before .before .before .before .before .before .before .before .before .before .before .before .before .before .before .before .opening-form .ensures)
+    (c .before .before .before .before .before .before .before .before .before .before .before .before .before .before .before .before .if1 .left))
+    (part-read _ _ _ _ (c .before .before .before .before .before .before .before .before .before .before .before .before .read-entries .ensures)
+    (c .before .before .before .before .before .before .before .before .before .before .entries .given .1))
+    (part-read _ _ _ _ (c .before .before .before .before .before .read-goals .ensures) (c .before .before .before .goals .given .1))
     (c .before .if2 .taken))
 
 returns-3 : tie.Need-returns-3
 returns-3 c =
-    claim-refused _ _ _ _ (c .refuse2 .ensures)
-    (claim-no-entries _ (c .before .before .before .before .before .before .before .before .before .opens-claim .ensures)
-    (c .before .before .before .before .before .before .before .before .if1 .left)
+    claim-refused _ _ _ _ _ (c .refuse2 .ensures)
+    (claim-no-entries _ (claim-opened _ (c .before .before .before .before .before .before .before .before .before .opening-form .ensures)
+    (c .before .before .before .before .before .before .before .before .if1 .left))
     (part-refused _ _ _ _ (c .before .before .before .before .read-entries .ensures) (c .before .before .number .given .1)))
 
 returns-4 : tie.Need-returns-4
 returns-4 c =
-    claim-refused _ _ _ _ (c .refuse3 .ensures)
-    (claim-no-members _ (c .before .before .before .before .before .before .before .before .before .before .before .before .before .before .before .opens-claim .ensures)
-    (c .before .before .before .before .before .before .before .before .before .before .before .before .before .before .if1 .left)
-    (part-read _ _ _ _ (c .before .before .before .before .before .before .before .before .before .before .read-entries .ensures)
-    (c .before .before .before .before .before .before .before .before .entries .given .1))
-    (part-refused _ _ _ _ (c .before .before .before .before .read-members .ensures) (c .before .before .number2 .given .1)))
+    claim-refused _ _ _ _ _ (c .refuse3 .ensures)
+    (claim-no-goals _ (claim-opened _ (c .before .before .before .before .before .before .before .before .before .before .before .before .before .before .before .before .opening-form .ensures)
+    (c .before .before .before .before .before .before .before .before .before .before .before .before .before .before .before .if1 .left))
+    (part-read _ _ _ _ (c .before .before .before .before .before .before .before .before .before .before .before .read-entries .ensures)
+    (c .before .before .before .before .before .before .before .before .before .entries .given .1))
+    (part-refused _ _ _ _ (c .before .before .before .before .read-goals .ensures) (c .before .before .number2 .given .1)))
 
 returns-5 : tie.Need-returns-5
 returns-5 c =
-    claim-got _ (c .before .before .before .before .before .before .before .before .before .before .before .before .before .before .before .opens-claim .ensures)
-    (c .before .before .before .before .before .before .before .before .before .before .before .before .before .before .if1 .left)
-    (part-read _ _ _ _ (c .before .before .before .before .before .before .before .before .before .before .read-entries .ensures)
-    (c .before .before .before .before .before .before .before .before .entries .given .1))
-    (part-read _ _ _ _ (c .before .before .before .before .read-members .ensures) (c .before .before .listed .given .1))
+    claim-got _ (claim-opened _ (c .before .before .before .before .before .before .before .before .before .before .before .before .before .before .before .before .opening-form .ensures)
+    (c .before .before .before .before .before .before .before .before .before .before .before .before .before .before .before .if1 .left))
+    (part-read _ _ _ _ (c .before .before .before .before .before .before .before .before .before .before .before .read-entries .ensures)
+    (c .before .before .before .before .before .before .before .before .before .entries .given .1))
+    (part-read _ _ _ _ (c .before .before .before .before .read-goals .ensures) (c .before .before .goals .given .1))
     (c .if2 .left)
 
 pub read-claim-spec : {M : Type 1} → statement M
 read-claim-spec =
     tie.close
     (tie.spec
-    opens-claim-requires
+    opening-form-requires
     refuse-requires
     returns
     read-entries-requires
     enum-known-number
     refuse-requires-2
     enum-known-entries
-    read-members-requires
+    read-goals-requires
     enum-known-number-2
     refuse-requires-3
-    enum-known-listed
+    enum-known-goals
     cast-refuse
     refuse-requires-4
     returns-2

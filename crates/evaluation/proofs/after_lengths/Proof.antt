@@ -14,10 +14,10 @@ enum-known-number : tie.Need-enum-known-number
 enum-known-number c = search needs
 
 cast-refuse : tie.Need-cast-refuse
-cast-refuse c = omega (arith, claim-as-refused _ _ _ _ (c .before .before .before .read-formed .ensures) (c .before .number .given .1) .small)
+cast-refuse c = omega (arith, claim-as-refused _ _ _ _ _ (c .before .before .before .read-formed .ensures) (c .before .number .given .1) .small)
 
 cast-refuse-2 : tie.Need-cast-refuse-2
-cast-refuse-2 c = omega (arith, claim-as-refused _ _ _ _ (c .before .before .before .read-formed .ensures) (c .before .number .given .1) .small)
+cast-refuse-2 c = omega (arith, claim-as-refused _ _ _ _ _ (c .before .before .before .read-formed .ensures) (c .before .number .given .1) .small)
 
 refuse-requires : tie.Need-refuse-requires
 refuse-requires c κs = search needs
@@ -27,20 +27,22 @@ enum-known-entries c = search needs
 
 after-model-requires : tie.Need-after-model-requires
 after-model-requires c κs =
-    let s = c .before .before .before .before .before .before .before .before .before .before .before .before .before .before in
-    claim-given _ (s .before .args .model .now) (claim-as-read _ _ _ _ (c .before .before .before .before .before .before .before .read-formed .ensures) (c .before .before .before .before .before .entries .given .1))
+    let s = c .before .before .before .before .before .before .before .before .before .before .before .before .before .before .before in
+    claim-given _ (s .before .args .model .now) (claim-as-read _ _ _ _ _ (c .before .before .before .before .before .before .before .read-formed .ensures) (c .before .before .before .before .before .entries .given .1))
     (lent-bytes _ (s .shared-slice-known .given)) (search needs)
 
 returns : tie.Need-returns
 returns c =
-    staged-refused _ _ (claim-refused _ _ (claim-as-refused _ _ _ _ (c .before .before .before .before .read-formed .ensures) (c .before .before .number .given .1))) (c .refuse .ensures)
+    staged-refused _ _ (claim-refused _ _ (claim-as-refused _ _ _ _ _ (c .before .before .before .before .read-formed .ensures) (c .before .before .number .given .1))) (c .refuse .ensures)
 
 same-length : tie.Need-same-length
 same-length c = search needs
 
 returns-2 : tie.Need-returns-2
 returns-2 c =
-    staged-same (claim-goes-on _ _ (claim-as-read _ _ _ _ (c .before .before .before .before .before .before .before .before .before .before .read-formed .ensures) (c .before .before .before .before .before .before .before .before .entries .given .1))) (c .before .before .after-model .ensures)
+    let read = c .before .before .before .before .before .before .before .before .before .before in
+    staged-same (claim-goes-on _ _ (claim-as-read _ _ _ _ _ (read .read-formed .ensures) (c .before .before .before .before .before .before .before .before .entries .given .1)))
+    (c .before .before .after-model .ensures)
 
 pub after-lengths-spec : {M : Type 1} → statement M
 after-lengths-spec =

@@ -17,7 +17,9 @@ same-length : tie.Need-same-length
 same-length c = search needs
 
 returns-2 : tie.Need-returns-2
-returns-2 c = let entry = c .before .before .before .before .before .before .args in one-field (entry .stands) (entry .value) (entry .at) (c .before .before .before .before .if1 .left) (c .before .before .put-two .ensures)
+returns-2 c =
+    let entry = c .before .before .before .before .before .before .args in
+    one-field (entry .stands) (entry .value) (entry .at) (c .before .before .before .before .if1 .left) (c .before .before .put-two .ensures)
 
 pub put-field-spec : {M : Type 1} → statement M
 put-field-spec = tie.close (tie.spec returns put-two-requires add-result same-length returns-2)

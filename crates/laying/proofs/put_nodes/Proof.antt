@@ -12,13 +12,13 @@ use Rattle.laying.proofs.put_nodes.Statement.{statement}
 use Rattle.laying.proofs.put_nodes.Tie as tie
 
 abbrev Inv-loop : tie.InvT-loop
-Inv-loop out₀ rules links counts codes nodes at₀ start₀ v₀ out at start v =
+Inv-loop out₀ from rules links counts codes nodes at₀ start₀ v₀ out at start v =
     (v ≤ nodes)
     × (start ≤ 24 * v)
-    × Left (nodesLeft rules links counts codes 0 nodes 0) 6 out₀ (nodesLeft rules links counts codes v (nodes - v) start) at out
+    × Left (nodesLeft rules links counts codes 0 nodes 0) from out₀ (nodesLeft rules links counts codes v (nodes - v) start) at out
 
 abbrev μ-loop : tie.MeasureT-loop
-μ-loop out₀ rules links counts codes nodes at₀ start₀ v₀ out at start v = nodes - v
+μ-loop out₀ from rules links counts codes nodes at₀ start₀ v₀ out at start v = nodes - v
 
 -- in a turn: this node, and what comes after it
 module _ (c : tie.After-wide Inv-loop μ-loop) where
@@ -49,7 +49,7 @@ module _ (c : tie.After-wide Inv-loop μ-loop) where
       (c .before .before .loop-test .taken)
 
   abbrev Rest : List ℕ → Type 0
-  Rest l = Left (left 0 (s .args .nodes) 0) 6 (s .args .out .now) l (c .before .before .before .loop .at) (c .before .before .before .loop .out)
+  Rest l = Left (left 0 (s .args .nodes) 0) (s .args .from) (s .args .out .now) l (c .before .before .before .loop .at) (c .before .before .before .loop .out)
 
   this-left : Rest (encodeNode this ++ after)
   this-left = rw (← steps) (c .before .before .before .loop .inv .2)
@@ -63,7 +63,7 @@ module _ (c : tie.After-wide Inv-loop μ-loop) where
 loop-holds : tie.Need-loop-holds Inv-loop μ-loop
 loop-holds c =
     let entry = c .before .before .before .before .before .args in
-    (omega arith, omega arith, nodes-begin (entry .rules .now) (entry .links .now) (entry .counts .now) (entry .codes .now) (entry .nodes) (entry .out .now))
+    (omega arith, omega arith, nodes-begin (entry .rules .now) (entry .links .now) (entry .counts .now) (entry .codes .now) (entry .nodes) (entry .from) (entry .out .now))
 
 mul-wide : tie.Need-mul-wide Inv-loop μ-loop
 mul-wide c = search needs

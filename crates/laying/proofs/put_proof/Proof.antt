@@ -1,72 +1,93 @@
--- Opening and count, then the nodes.
-use mathlib.Core.Path.{refl}
+-- Opening and count, the roots, then the nodes.
+use native.Mathlib.Omega.{arith}
+use mathlib.Core.Path.{_≡_, refl}
 use mathlib.Core.List.{List, _++_}
-use Prim.Native.Nat.{ℕ, _+_}
+use Prim.Native.Nat.{ℕ, _+_, _≤_}
 use lib.ListN.{length}
+use Rattle.verdict.specs.Lists.{written}
+use Rattle.formula.specs.Claim.{Form}
 use Rattle.encoding.specs.Encode.{encodeTwo}
-use Rattle.proof_files.specs.ProofFile.{proofOpening}
-use Rattle.laying.specs.Laying.{Left, nodesLeft, proofParts, proof-parts, all-left, less-left, last-left, file-put}
+use Rattle.proof_files.specs.ProofFile.{proofOpening, encodeRoots, encodeProof}
+use Rattle.proofs.specs.NamedForm.{namedForm, for-named}
+use Rattle.laying.specs.Laying.{Left, nodesLeft, all-left, less-left, room-left, left-fits, last-left}
+use Rattle.laying.specs.Files.{proofOf, proofParts, proof-parts, proof-fits, file-put}
 use borrow.Author.Needs.{needs}
 use Rattle.laying.proofs.put_proof.Statement.{statement}
 use Rattle.laying.proofs.put_proof.Tie as tie
 
--- what is to be stored: opening and count, the nodes
+-- what is to be stored: opening and count, the roots, the nodes
 module _ (s : tie.Start) where
   abbrev out : List ℕ
   out = s .args .out .now
 
+  abbrev form : Form
+  form = namedForm (s .args .form)
+
+  abbrev opening : List ℕ
+  opening = proofOpening form ++ encodeTwo (s .args .nodes)
+
+  abbrev roots : List ℕ
+  roots = encodeRoots form (s .args .roots .now)
+
   abbrev nodes : List ℕ
   nodes = nodesLeft (s .args .rules .now) (s .args .links .now) (s .args .counts .now) (s .args .codes .now) 0 (s .args .nodes) 0
 
+  abbrev file : Form → List ℕ
+  file f = encodeProof f (proofOf f (s .args .roots .now) (s .args .rules .now) (s .args .links .now) (s .args .counts .now) (s .args .codes .now) (s .args .nodes))
+
   abbrev whole : List ℕ
-  whole = proofParts (s .args .rules .now) (s .args .links .now) (s .args .counts .now) (s .args .codes .now) (s .args .nodes)
+  whole = proofParts form (s .args .roots .now) (s .args .rules .now) (s .args .links .now) (s .args .counts .now) (s .args .codes .now) (s .args .nodes)
 
-module _ (c : tie.After-put-opening) where
+  whole-file : whole ≡ file form
+  whole-file = proof-parts form (s .args .roots .now) (s .args .rules .now) (s .args .links .now) (s .args .counts .now) (s .args .codes .now) (s .args .nodes)
+
+  all-fit : 0 + length whole ≤ length out
+  all-fit = proof-fits form (s .args .roots .now) (s .args .rules .now) (s .args .links .now) (s .args .counts .now) (s .args .codes .now) (s .args .nodes) out (s .pre .0)
+
+-- what is left after the opening, after the roots
+module _ (c : tie.After-open-proof) where
   abbrev opened : tie.Start
-  opened = c .before .before .before .before .before .before .before
+  opened = c .before .before .before .before .before .before .before .before
 
-  opening-left : Left (whole opened) 0 (out opened) (nodes opened) 6 (c .put-opening .last .0)
-  opening-left =
-      less-left (proofOpening ++ encodeTwo (opened .args .nodes)) (nodes opened) (all-left (whole opened) (out opened) 0)
-      (record { place = refl; stored = c .put-opening .ensures })
+  opening-left : Left (whole opened) 0 (out opened) (roots opened ++ nodes opened) 6 (c .open-proof .last .0)
+  opening-left = less-left (opening opened) (roots opened ++ nodes opened) (all-left (whole opened) (out opened) 0) (c .open-proof .ensures)
 
-array-read-put-opening : tie.Need-array-read-put-opening
-array-read-put-opening c = search needs
+module _ (c : tie.After-put-roots) where
+  abbrev rooted : tie.Start
+  rooted = opened (c .before .before .before .before)
 
-array-read-put-opening-2 : tie.Need-array-read-put-opening-2
-array-read-put-opening-2 c = search needs
+  roots-left : Left (whole rooted) 0 (out rooted) (nodes rooted) (c .put-roots .result) (c .put-roots .last .0)
+  roots-left = less-left (roots rooted) (nodes rooted) (opening-left (c .before .before .before .before)) (c .put-roots .ensures)
 
-array-read-put-opening-3 : tie.Need-array-read-put-opening-3
-array-read-put-opening-3 c = search needs
+open-proof-requires : tie.Need-open-proof-requires
+open-proof-requires c κs =
+    let s = c .before .before .before .before .before .before .before in
+    (room-left (opening s) (roots s ++ nodes s) (all-left (whole s) (out s) 0) (all-fit s), omega (arith, s .pre .1 .given .most))
 
-array-read-put-opening-4 : tie.Need-array-read-put-opening-4
-array-read-put-opening-4 c = search needs
-
-put-opening-requires : tie.Need-put-opening-requires
-put-opening-requires c κs = search needs
+put-roots-requires : tie.Need-put-roots-requires
+put-roots-requires c κs =
+    let letters = c .before .before .before in
+    let s = opened letters in
+    room-left (roots s) (nodes s) (opening-left letters) (all-fit s)
 
 put-nodes-requires : tie.Need-put-nodes-requires
-put-nodes-requires c κs = search needs
+put-nodes-requires c κs =
+    let so-far = c .before .before .before in
+    let s = rooted so-far in
+    (left-fits (roots-left so-far) (all-fit s), s .pre .1)
 
 same-length : tie.Need-same-length
 same-length c = search needs
 
 returns : tie.Need-returns
 returns c =
-    let opening = c .before .before .before .before .before .before in
-    let s = opened opening in
-    file-put (proof-parts (s .args .rules .now) (s .args .links .now) (s .args .counts .now) (s .args .codes .now) (s .args .nodes)) (s .pre .0)
-    (last-left {next = 6 + length (nodes s)} (nodes s) (opening-left opening) (record { place = refl; stored = c .before .before .put-nodes .ensures }))
+    let so-far = c .before .before .before .before .before .before in
+    let s = rooted so-far in
+    for-named (λ (f : Form). c .before .before .put-nodes .last .0 ≡ written (file s f) (out s))
+    (file-put (whole-file s) (s .pre .0)
+    (last-left {next = so-far .put-roots .result + length (nodes s)} (nodes s) (roots-left so-far) (record { place = refl; stored = c .before .before .put-nodes .ensures })))
 
 pub put-proof-spec : {M : Type 1} → statement M
 put-proof-spec =
     tie.close
-    (tie.spec
-    array-read-put-opening
-    array-read-put-opening-2
-    array-read-put-opening-3
-    array-read-put-opening-4
-    put-opening-requires
-    put-nodes-requires
-    same-length
-    returns)
+    (tie.spec open-proof-requires put-roots-requires put-nodes-requires same-length returns)

@@ -4,6 +4,7 @@ use Prim.Native.Nat.{_-_, _≤_}
 use native.Mathlib.Omega.{arith}
 use lib.ListN.{length, length-set}
 use borrow.Author.Needs.{needs}
+use Rattle.spans.specs.SpanLaws.{parent-room}
 use Rattle.loops.specs.PathLaws.{PathsBelow, none-below, paths-more, paths-done}
 use Rattle.loops.proofs.fill_paths.Statement.{statement}
 use Rattle.loops.proofs.fill_paths.Tie as tie
@@ -26,7 +27,7 @@ may-loop-requires c κs =
 nearest-requires : tie.Need-nearest-requires Inv-loop μ-loop
 nearest-requires c κs =
     let given = c .before .before .before .before .before .before .before .before .before .before .pre in
-    (omega (arith, given .upward .few), omega (arith, given .room), omega arith, λ w k h. given .upward .parented w k (omega arith))
+    (omega (arith, given .upward .few), omega (arith, given .upward .room), parent-room (given .upward) _ _ (omega arith) (omega (arith, given .room)))
 
 mul-bars : tie.Need-mul-bars Inv-loop μ-loop
 mul-bars c = search needs
@@ -40,7 +41,7 @@ shared-slice-read-nearest c = omega (arith, c .before .before .before .before .b
 nearest-requires-2 : tie.Need-nearest-requires-2 Inv-loop μ-loop
 nearest-requires-2 c κs =
     let given = c .before .before .before .before .before .before .before .before .before .before .before .before .before .pre in
-    (omega (arith, given .upward .few), omega (arith, given .room), omega arith, λ w k h. given .upward .parented w k (omega arith))
+    (omega (arith, given .upward .few), omega (arith, given .upward .room), parent-room (given .upward) _ _ (omega arith) (omega (arith, given .room)))
 
 mul-boxes : tie.Need-mul-boxes Inv-loop μ-loop
 mul-boxes c = search needs
@@ -55,8 +56,15 @@ loop-less : tie.Need-loop-less Inv-loop μ-loop
 loop-less c = search needs
 
 loop-again : tie.Need-loop-again Inv-loop μ-loop
-loop-again c = rw (c .nearest2 .ensures, c .before .before .before .nearest .ensures)
-    (omega arith, length-set (c .before .before .before .before .before .before .before .loop .bars) _ _ ∙ c .before .before .before .before .before .before .before .loop .inv .1, length-set (c .before .before .before .before .before .before .before .loop .boxes) _ _ ∙ c .before .before .before .before .before .before .before .loop .inv .2, paths-more _ _ _ _ _ (c .before .before .before .before .before .before .before .before .before .before .before .before .before .before .pre .upward .parented) (c .before .before .before .before .before .before .loop-test .taken) _ _ (omega arith) (omega arith) (c .before .before .before .before .before .before .before .loop .inv .3) _ (c .before .before .before .before .before .may-loop .ensures))
+loop-again c =
+    let turn = c .before .before .before .before .before .before .before .loop in
+    let given = c .before .before .before .before .before .before .before .before .before .before .before .before .before .before .pre in
+    rw (c .nearest2 .ensures, c .before .before .before .nearest .ensures) (
+      omega arith,
+      length-set (turn .bars) _ _ ∙ turn .inv .1,
+      length-set (turn .boxes) _ _ ∙ turn .inv .2,
+      paths-more _ _ _ _ _ (given .upward .parented) (omega arith) _ _ (omega arith) (omega arith) (turn .inv .3) _ (c .before .before .before .before .before .may-loop .ensures),
+    )
 
 same-length : tie.Need-same-length Inv-loop μ-loop
 same-length c = c .before .loop .inv .1

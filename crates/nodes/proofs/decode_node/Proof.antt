@@ -11,17 +11,20 @@ use Rattle.nodes.proofs.decode_node.Tie as tie
 
 -- the node, and the place after its fields
 module _ (c : tie.After-link-width) where
+  abbrev entry : tie.Start
+  entry = c .before .before .before .before .before .before .before .before .before .before
+
   abbrev file : List ℕ
-  file = c .before .before .before .before .before .before .before .before .before .before .args .bytes .now
+  file = entry .args .bytes .now
 
   abbrev here : ℕ
-  here = c .before .before .before .before .before .before .before .before .before .before .args .spot .at
+  here = entry .args .spot .at
 
   abbrev codes-at : ℕ
   codes-at = here + 2 + c .link-width .result
 
   fits : NodeFits file here
-  fits = c .before .before .before .before .before .before .before .before .before .before .pre .0
+  fits = entry .pre .0
 
   placed : codes-at ≡ codesPlace file here
   placed = omega (arith, c .link-width .ensures)
@@ -68,10 +71,11 @@ same-length-2 c = search needs
 returns : tie.Need-returns
 unfolding nodeAt
 returns c =
-    let bare = no-codes (file (c .before .before)) (here (c .before .before)) (c .if1 .taken) _ (placed (c .before .before)) in
-    let start = c .before .before .before .before .before .before .before .before .before .before .before .before .args .spot .start in (
+    let node = c .before .before in
+    let bare = no-codes (file node) (here node) (c .if1 .taken) _ (placed node) in
+    let start = entry node .args .spot .start in (
       (bare .ends, omega (arith, bare .many)),
-      (refl, (c .before .before .before .before .before .decode-links .ensures, ap (sets (c .before .before .before .before .before .before .before .before .before .before .before .before .args .codes .now) start) (bare .are))),
+      (refl, (c .before .before .before .before .before .decode-links .ensures, ap (sets (entry node .args .codes .now) start) (bare .are))),
     )
 
 shared-slice-read-n : tie.Need-shared-slice-read-n
@@ -80,13 +84,13 @@ shared-slice-read-n c = omega (arith, fits (c .before .before .before) .whole, c
 cast-n : tie.Need-cast-n
 cast-n c = omega (arith, fits (c .before .before .before) .few, coded (c .before) .many)
 
-add-copy-codes : tie.Need-add-copy-codes
-add-copy-codes c = search needs
+add-copy-words : tie.Need-add-copy-words
+add-copy-words c = search needs
 
-copy-codes-requires : tie.Need-copy-codes-requires
-copy-codes-requires c κs =
+copy-words-requires : tie.Need-copy-words-requires
+copy-words-requires c κs =
     let node = c .before .before .before .before in
-    omega (arith, fits node .whole, fits node .few, coded (c .before .before) .ends, coded (c .before .before) .many, c .before .before .before .before .before .before .before .before .before .before .before .before .before .before .pre)
+    omega (arith, fits node .whole, fits node .few, coded (c .before .before) .ends, coded (c .before .before) .many, entry node .pre)
 
 add-t19 : tie.Need-add-t19
 add-t19 c = search needs
@@ -94,17 +98,20 @@ add-t19 c = search needs
 mul-t12 : tie.Need-mul-t12
 mul-t12 c =
     let node = c .before .before .before .before .before .before .before in
-    omega (arith, fits node .whole, fits node .few, coded (c .before .before .before .before .before) .ends, coded (c .before .before .before .before .before) .many, c .before .before .before .before .before .before .before .before .before .before .before .before .before .before .before .before .before .pre)
+    let full = coded (c .before .before .before .before .before) in
+    omega (arith, fits node .whole, fits node .few, full .ends, full .many, entry node .pre)
 
 add-t25 : tie.Need-add-t25
 add-t25 c =
     let node = c .before .before .before .before .before .before .before in
-    omega (arith, fits node .whole, fits node .few, coded (c .before .before .before .before .before) .ends, coded (c .before .before .before .before .before) .many, c .before .before .before .before .before .before .before .before .before .before .before .before .before .before .before .before .before .pre)
+    let full = coded (c .before .before .before .before .before) in
+    omega (arith, fits node .whole, fits node .few, full .ends, full .many, entry node .pre)
 
 add-t26 : tie.Need-add-t26
 add-t26 c =
     let node = c .before .before .before .before .before .before .before in
-    omega (arith, fits node .whole, fits node .few, coded (c .before .before .before .before .before) .ends, coded (c .before .before .before .before .before) .many, c .before .before .before .before .before .before .before .before .before .before .before .before .before .before .before .before .before .pre .2 .codes, c .before .before .before .before .before .before .before .before .before .before .before .before .before .before .before .before .before .good .1 .1 .1 .1 .1 .0)
+    let full = coded (c .before .before .before .before .before) in
+    omega (arith, fits node .whole, fits node .few, full .ends, full .many, entry node .pre .2 .codes, entry node .good .1 .1 .1 .1 .1 .0)
 
 same-length-3 : tie.Need-same-length-3
 same-length-3 c = search needs
@@ -118,10 +125,11 @@ same-length-5 c = search needs
 returns-2 : tie.Need-returns-2
 unfolding nodeAt
 returns-2 c =
-    let entry = c .before .before .before .before .before .before .before .before .before .before .before .before .before .before .before .before .before in
-    let full = coded (c .before .before .before .before .before) in (
-      (full .ends, ap (λ (n : ℕ). entry .args .spot .start + n) (full .many)),
-      (refl, (c .before .before .before .before .before .before .before .before .before .before .decode-links .ensures, c .before .before .copy-codes .ensures ∙ ap (sets (entry .args .codes .now) (entry .args .spot .start)) (full .are))),
+    let given = entry (c .before .before .before .before .before .before .before) .args in
+    let full = coded (c .before .before .before .before .before) in
+    let stored = c .before .before .copy-words .ensures ∙ ap (sets (given .codes .now) (given .spot .start)) (full .are) in (
+      (full .ends, ap (λ (n : ℕ). given .spot .start + n) (full .many)),
+      (refl, (c .before .before .before .before .before .before .before .before .before .before .decode-links .ensures, stored)),
     )
 
 pub decode-node-spec : {M : Type 1} → statement M
@@ -143,8 +151,8 @@ decode-node-spec =
     returns
     shared-slice-read-n
     cast-n
-    add-copy-codes
-    copy-codes-requires
+    add-copy-words
+    copy-words-requires
     add-t19
     mul-t12
     add-t25

@@ -13,9 +13,9 @@ cast-result : tie.Need-cast-result
 cast-result c = search needs
 
 returns : tie.Need-returns
-returns c =
+returns c at =
     let file = c .before .before .args .bytes .now in
-    c .word-at .ensures ∙ sym (nodesAt-length file 6 (wordAt file 4))
+    c .word-at .ensures ∙ sym (nodesAt-length file at (wordAt file 4))
 
 pub node-count-spec : {M : Type 1} → statement M
 node-count-spec = tie.close (tie.spec word-at-requires cast-result returns)

@@ -5,14 +5,14 @@ use mathlib.Core.Path.{_≡_, refl, sym, ap, _∙_}
 use mathlib.Core.List.{List, []}
 use Prim.Native.Nat.{ℕ, suc, _+_, _*_, _-_, _≤_}
 use lib.ListN.{length, drop}
-use borrow.Author.Tests.{le-leb, lt-leb, not-true, not-false}
+use borrow.Author.Tests.{le-leb, not-true, not-false}
 use Rattle.formula.specs.Table.{Table}
 use Rattle.encoding.specs.Parse.{fault, fits-from}
 use Rattle.encoding.specs.Places.{wordAt}
 use Rattle.encoding.specs.Walk.{Walking, walk-begins, walk-steps, walk-stops, walk-ends}
 use Rattle.proof_files.specs.ReadProof.{isCode}
-use Rattle.proof_files.specs.ProofParts.{kindTable, oneCode, afterCode, codesOf}
-use Rattle.proofs.specs.ProofLaws.{code-cut, code-unfit, code-fits}
+use Rattle.proof_files.specs.ProofParts.{kindTable, numberFrom, afterNumber, numbersOf, codesOf}
+use Rattle.proofs.specs.ProofLaws.{number-cut, number-unfit, number-fits, number-low}
 use Rattle.proofs.proofs.codes_walk.Statement.{statement}
 use Rattle.proofs.proofs.codes_walk.Tie as tie
 
@@ -21,7 +21,7 @@ Inv-loop bytes start n kinds count at₀ least₀ i₀ at least i =
     (i ≤ n)
     × (at ≤ length bytes)
     × (at ≡ start + 2 * i)
-    × ((l : List ℕ) × Walking (oneCode (kindTable kinds count)) afterCode (codesOf (kindTable kinds count) n bytes start) n i l least (drop at bytes) at)
+    × ((l : List ℕ) × Walking (numberFrom (isCode (kindTable kinds count))) afterNumber (codesOf (kindTable kinds count) n bytes start) n i l least (drop at bytes) at)
 
 abbrev μ-loop : tie.MeasureT-loop
 μ-loop bytes start n kinds count at₀ least₀ i₀ at least i = n - i
@@ -40,11 +40,11 @@ module _ (c : tie.In-loop Inv-loop μ-loop) where
   abbrev floor : ℕ
   floor = c .before .loop .least
 
-  stops : {m q : ℕ} → oneCode table floor (drop here file) here ≡ fault m q → codesOf table (c .before .before .before .args .n) file (c .before .before .before .args .start) ≡ fault m q
-  stops e = walk-stops (oneCode table) afterCode (c .before .loop .inv .3 .1) (c .loop-test .taken) e
+  stops : {m q : ℕ} → numberFrom (isCode table) floor (drop here file) here ≡ fault m q → codesOf table (c .before .before .before .args .n) file (c .before .before .before .args .start) ≡ fault m q
+  stops e = walk-stops (numberFrom (isCode table)) afterNumber (c .before .loop .inv .3 .1) (c .loop-test .taken) e
 
 loop-holds : tie.Need-loop-holds Inv-loop μ-loop
-unfolding codesOf
+unfolding numbersOf
 loop-holds c = (omega arith, omega arith, omega arith, ([], walk-begins _ _ _ _ _ _))
 
 add-if1 : tie.Need-add-if1 Inv-loop μ-loop
@@ -54,7 +54,7 @@ cast-t14 : tie.Need-cast-t14 Inv-loop μ-loop
 cast-t14 c = search needs
 
 returns : tie.Need-returns Inv-loop μ-loop
-returns c = stops (c .before) (code-cut (table (c .before)) (file (c .before)) _ _ (omega arith) (c .if1 .taken))
+returns c = stops (c .before) (number-cut (isCode (table (c .before))) (file (c .before)) _ _ (omega arith) (c .if1 .taken))
 
 word-at-requires : tie.Need-word-at-requires Inv-loop μ-loop
 word-at-requires c κs = search needs
@@ -70,7 +70,7 @@ returns-2 c =
     let turn = c .before .before .before in
     let e = c .before .word-at .ensures in
     stops turn
-    (code-unfit (table turn) (file turn) _ (floor turn) (omega arith) (rw (lt-leb (floor turn) (wordAt (file turn) (here turn)) (omega arith)) refl))
+    (number-low (isCode (table turn)) (file turn) _ (floor turn) (omega arith) (omega arith))
 
 -- a code that rises is tested by its entry
 module _ (c : tie.After-is-code Inv-loop μ-loop) where
@@ -95,7 +95,7 @@ returns-3 : tie.Need-returns-3 Inv-loop μ-loop
 unfolding turn
 returns-3 c =
     stops (turn (c .before))
-    (code-unfit (table (turn (c .before))) (file (turn (c .before))) _ (floor (turn (c .before))) (omega arith) (rises (c .before) ∙ not-true _ (c .if3 .taken)))
+    (number-unfit (isCode (table (turn (c .before)))) (file (turn (c .before))) _ (floor (turn (c .before))) (omega arith) (rises (c .before) ∙ not-true _ (c .if3 .taken)))
 
 cast-least : tie.Need-cast-least Inv-loop μ-loop
 cast-least c = search needs
@@ -118,14 +118,14 @@ loop-again c =
     let was = turn (c .before) in
     let e : suc (wordAt (file was) (here was)) ≡ c .before .before .before .word-at .result + 1 = omega (arith, c .before .before .before .word-at .ensures) in
     let stepped =
-    walk-steps (oneCode (table was)) afterCode (was .before .loop .inv .3 .1) (was .loop-test .taken)
-    (code-fits (table was) (file was) _ (floor was) (omega arith) (rises (c .before) ∙ not-false _ (c .if3 .left))) in
+    walk-steps (numberFrom (isCode (table was))) afterNumber (was .before .loop .inv .3 .1) (was .loop-test .taken)
+    (number-fits (isCode (table was)) (file was) _ (floor was) (omega arith) (rises (c .before) ∙ not-false _ (c .if3 .left))) in
     (omega arith, omega arith, omega arith, (_, rw e at stepped))
 
 returns-4 : tie.Need-returns-4 Inv-loop μ-loop
 returns-4 c = (
   _,
-  record { found = walk-ends (oneCode (kindTable _ _)) afterCode (c .before .loop .inv .3 .1) (c .loop-test .left); inside = omega arith; near = omega arith },
+  record { found = walk-ends (numberFrom (isCode (kindTable _ _))) afterNumber (c .before .loop .inv .3 .1) (c .loop-test .left); inside = omega arith; near = omega arith },
 )
 
 pub codes-walk-spec : {M : Type 1} → statement M

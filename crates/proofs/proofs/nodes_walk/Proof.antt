@@ -17,14 +17,14 @@ use Rattle.proofs.proofs.nodes_walk.Statement.{statement}
 use Rattle.proofs.proofs.nodes_walk.Tie as tie
 
 abbrev Inv-loop : tie.InvT-loop
-Inv-loop bytes n kinds count at₀ i₀ at i =
+Inv-loop bytes start n kinds count at₀ i₀ at i =
     (i ≤ n)
     × (at ≤ length bytes)
-    × (at ≤ 6 + 57 * i)
-    × ((l : Proof) × Walking (λ _. node (kindTable kinds count)) (λ _ _. 0) (nodesOf (kindTable kinds count) n bytes) n i l 0 (drop at bytes) at)
+    × (at ≤ start + 57 * i)
+    × ((l : Proof) × Walking (λ _. node (kindTable kinds count)) (λ _ _. 0) (nodesOf (kindTable kinds count) n bytes start) n i l 0 (drop at bytes) at)
 
 abbrev μ-loop : tie.MeasureT-loop
-μ-loop bytes n kinds count at₀ i₀ at i = n - i
+μ-loop bytes start n kinds count at₀ i₀ at i = n - i
 
 -- in a turn: what the next node is read as
 module _ (c : tie.After-node-step Inv-loop μ-loop) where

@@ -14,14 +14,14 @@ use Rattle.single.proofs.judge_in.Reads as judge-in-reads
 use Rattle.single.proofs.+judge_many.{statement}
 use Rattle.single.proofs.+judge_many.Tie.{close}
 
-abbrev μ-judge-many : Measures 6 judge-many-kinds.ps ℕ
-μ-judge-many κs a = ifSet (a .1 .1 .1 .1 .1 .1 .1 .1 .1 .0) 1
+abbrev μ-judge-many : Measures 8 judge-many-kinds.ps ℕ
+μ-judge-many κs a = ifSet (a .1 .1 .1 .1 .1 .1 .1 .1 .1 .1 .1 .1 .0) 1
 
-abbrev judge-many-at : ℕ → In 6 judge-many-kinds.ps
-judge-many-at t = and 6 judge-many-kinds.ps (is 6 judge-many-kinds.ps μ-judge-many t) judge-many.Pre
+abbrev judge-many-at : ℕ → In 8 judge-many-kinds.ps
+judge-many-at t = and 8 judge-many-kinds.ps (is 8 judge-many-kinds.ps μ-judge-many t) judge-many.Pre
 
-abbrev judge-many-below : ℕ → In 6 judge-many-kinds.ps
-judge-many-below t = and 6 judge-many-kinds.ps (falls 6 judge-many-kinds.ps _<_ μ-judge-many t) judge-many.Pre
+abbrev judge-many-below : ℕ → In 8 judge-many-kinds.ps
+judge-many-below t = and 8 judge-many-kinds.ps (falls 8 judge-many-kinds.ps _<_ μ-judge-many t) judge-many.Pre
 
 -- what it asks of its callees and learns of them
 abbrev judge-many-callees : ℕ → judge-many-lts.Claims
@@ -55,7 +55,7 @@ judge-many-slice-aggregate-judge-in-4 t c = search needs
 judge-many-judge-in-requires : (t : ℕ) → judge-many-lts.Need-judge-in-requires (judge-many-callees t) (judge-many-at t) judge-many.Post
 judge-many-judge-in-requires t c κs =
     let s = c .before .before .before .before .before .before in
-    (s .pre .1 .0, room 1024 (count (s .pre .1 .0) .1) (omega arith), s .pre .1 .1)
+    (s .pre .1 .0, room 1024 (count (s .pre .1 .0)) (omega arith), s .pre .1 .1)
 
 judge-many-returns-2 : (t : ℕ) → judge-many-lts.Need-returns-2 (judge-many-callees t) (judge-many-at t) judge-many.Post
 judge-many-returns-2 t c = search needs

@@ -13,14 +13,14 @@ use Rattle.single.proofs.judge_in.Reads as judge-in-reads
 use Rattle.single.proofs.+judge_some.{statement}
 use Rattle.single.proofs.+judge_some.Tie.{close}
 
-abbrev μ-judge-some : Measures 6 judge-some-kinds.ps ℕ
-μ-judge-some κs a = ifSet (a .1 .1 .1 .1 .1 .1 .1 .1 .1 .0) 1
+abbrev μ-judge-some : Measures 8 judge-some-kinds.ps ℕ
+μ-judge-some κs a = ifSet (a .1 .1 .1 .1 .1 .1 .1 .1 .1 .1 .1 .1 .0) 1
 
-abbrev judge-some-at : ℕ → In 6 judge-some-kinds.ps
-judge-some-at t = and 6 judge-some-kinds.ps (is 6 judge-some-kinds.ps μ-judge-some t) judge-some.Pre
+abbrev judge-some-at : ℕ → In 8 judge-some-kinds.ps
+judge-some-at t = and 8 judge-some-kinds.ps (is 8 judge-some-kinds.ps μ-judge-some t) judge-some.Pre
 
-abbrev judge-some-below : ℕ → In 6 judge-some-kinds.ps
-judge-some-below t = and 6 judge-some-kinds.ps (falls 6 judge-some-kinds.ps _<_ μ-judge-some t) judge-some.Pre
+abbrev judge-some-below : ℕ → In 8 judge-some-kinds.ps
+judge-some-below t = and 8 judge-some-kinds.ps (falls 8 judge-some-kinds.ps _<_ μ-judge-some t) judge-some.Pre
 
 -- what it asks of its callees and learns of them
 abbrev judge-some-callees : ℕ → judge-some-lts.Claims

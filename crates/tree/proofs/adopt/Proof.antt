@@ -22,7 +22,7 @@ some-first : (c : tie.Else1) → hasFirst (getD (c .before .before .before .befo
 some-first c = sym (c .before .has-first .ensures) ∙ not-false _ (c .if1 .left)
 
 returns : tie.Need-returns
-returns c = adopts-none _ _ _ _ _ (c .before .before .before .before .before .before .pre .1) (c .before .before .before .before .before .before .pre .2) (no-first c)
+returns c roots taken = adopts-none roots _ _ _ _ _ (c .before .before .before .before .before .before .pre .1) taken (no-first c)
 
 mul-wide : tie.Need-mul-wide
 mul-wide c = search needs
@@ -46,9 +46,9 @@ same-length : tie.Need-same-length
 same-length c = search needs
 
 returns-2 : tie.Need-returns-2
-returns-2 c =
+returns-2 c roots taken =
     let given = c .before .before .before .before .before .before .before .before .before .before .before .before .before .pre in
-    first-refused _ _ _ _ _ (given .1) (given .2) (some-first (c .before .before .before .before .before .before .before)) (rw (c .before .before .before .before .wide .ensures) at (c .before .before .before .take-child .ensures)) (not-true _ (c .if2 .taken))
+    first-refused roots _ _ _ _ _ (given .1) taken (some-first (c .before .before .before .before .before .before .before)) (rw (c .before .before .before .before .wide .ensures) at (c .before .before .before .take-child .ensures)) (not-true _ (c .if2 .taken))
 
 has-second-requires : tie.Need-has-second-requires
 has-second-requires c κs = search needs
@@ -57,8 +57,8 @@ same-length-2 : tie.Need-same-length-2
 same-length-2 c = search needs
 
 returns-3 : tie.Need-returns-3
-returns-3 c =
-    adopts-one _ _ _ _ _ (c .before .before .before .before .before .before .before .before .before .before .before .before .before .before .before .pre .1) (c .before .before .before .before .before .before .before .before .before .before .before .before .before .before .before .pre .2) (some-first (c .before .before .before .before .before .before .before .before .before)) (rw (c .before .before .before .before .before .before .wide .ensures) at (c .before .before .before .before .before .take-child .ensures)) (not-false _ (c .before .before .if2 .left))
+returns-3 c roots taken =
+    adopts-one roots _ _ _ _ _ (c .before .before .before .before .before .before .before .before .before .before .before .before .before .before .before .pre .1) taken (some-first (c .before .before .before .before .before .before .before .before .before)) (rw (c .before .before .before .before .before .before .wide .ensures) at (c .before .before .before .before .before .take-child .ensures)) (not-false _ (c .before .before .if2 .left))
     (sym (c .before .has-second .ensures) ∙ not-true _ (c .if3 .taken))
 
 mul-wide-3 : tie.Need-mul-wide-3
@@ -83,8 +83,8 @@ same-length-3 : tie.Need-same-length-3
 same-length-3 c = search needs
 
 returns-4 : tie.Need-returns-4
-returns-4 c =
-    adopts-two _ _ _ _ _ (c .before .before .before .before .before .before .before .before .before .before .before .before .before .before .before .before .before .before .before .before .before .pre .1) (c .before .before .before .before .before .before .before .before .before .before .before .before .before .before .before .before .before .before .before .before .before .pre .2) (some-first (c .before .before .before .before .before .before .before .before .before .before .before .before .before .before .before)) (rw (c .before .before .before .before .before .before .before .before .before .before .before .before .wide .ensures) at (c .before .before .before .before .before .before .before .before .before .before .before .take-child .ensures)) (not-false _ (c .before .before .before .before .before .before .before .before .if2 .left))
+returns-4 c roots taken =
+    adopts-two roots _ _ _ _ _ (c .before .before .before .before .before .before .before .before .before .before .before .before .before .before .before .before .before .before .before .before .before .pre .1) taken (some-first (c .before .before .before .before .before .before .before .before .before .before .before .before .before .before .before)) (rw (c .before .before .before .before .before .before .before .before .before .before .before .before .wide .ensures) at (c .before .before .before .before .before .before .before .before .before .before .before .take-child .ensures)) (not-false _ (c .before .before .before .before .before .before .before .before .if2 .left))
     (sym (c .before .before .before .before .before .before .before .has-second .ensures) ∙ not-false _ (c .before .before .before .before .before .before .if3 .left))
     (rw (c .before .before .before .wide2 .ensures) at (c .before .before .take-child2 .ensures))
 

@@ -1,42 +1,29 @@
--- the parents decide, and if they pass, the orphans
+-- the roots are marked, so that no parent takes one; then the marks are cleared
 use borrow.Author.Needs.{needs}
-use Rattle.tree.specs.TreeStages.{tree-refused, tree-orphans}
+use Rattle.tree.specs.Stamps.{none-taken}
+use Rattle.tree.specs.TreeStages.{owners-filled}
 use Rattle.tree.proofs.fill_owners.Statement.{statement}
 use Rattle.tree.proofs.fill_owners.Tie as tie
 
-adopt-all-requires : tie.Need-adopt-all-requires
-adopt-all-requires c κs = search needs
+stamp-requires : tie.Need-stamp-requires
+stamp-requires c κs = search needs
 
-enum-told : tie.Need-enum-told
-enum-told c = search needs
+take-all-requires : tie.Need-take-all-requires
+take-all-requires c κs = search needs
 
-find-orphan-requires : tie.Need-find-orphan-requires
-find-orphan-requires c κs = search needs
-
-enum-known-number : tie.Need-enum-known-number
-enum-known-number c = search needs
+stamp-requires-2 : tie.Need-stamp-requires-2
+stamp-requires-2 c κs = search needs
 
 same-length : tie.Need-same-length
 same-length c = search needs
 
 returns : tie.Need-returns
-returns c = tree-orphans _ _ _ _ _ (rw (c .before .before .enum-told .given .1) at (c .before .before .before .before .before .before .adopt-all .ensures)) (c .find-orphan .ensures)
-
-same-length-2 : tie.Need-same-length-2
-same-length-2 c = search needs
-
-returns-2 : tie.Need-returns-2
-returns-2 c = tree-refused _ _ _ _ _ _ (rw (c .before .number .given .1) at (c .before .before .before .before .before .adopt-all .ensures))
+returns c =
+    let given = c .before .before .before .before .before .before .before .before .before .before .before .before .before .before .before .pre in
+    owners-filled _ _ _ (given .1 .long)
+    (c .before .before .before .before .before .before .take-all .ensures _ (none-taken _ _ _ (given .0 .room .2) (given .2) (given .1 .long) (c .before .before .before .before .before .before .before .before .before .before .stamp .ensures)))
+    (c .before .before .stamp2 .ensures)
 
 pub fill-owners-spec : {M : Type 1} → statement M
 fill-owners-spec =
-    tie.close
-    (tie.spec
-    adopt-all-requires
-    enum-told
-    find-orphan-requires
-    enum-known-number
-    same-length
-    returns
-    same-length-2
-    returns-2)
+    tie.close (tie.spec stamp-requires take-all-requires stamp-requires-2 same-length returns)

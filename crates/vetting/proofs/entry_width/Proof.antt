@@ -10,7 +10,7 @@ use Rattle.bits.specs.IfSet.{ifSet}
 use Rattle.formula.specs.Kind
 use Rattle.formula.specs.Fields.{hasA, hasB, isModal}
 use Rattle.writing.specs.Spelling.{modal-fields, bits-stand}
-use Rattle.writing.specs.ClaimEnds.{entryWidth}
+use Rattle.writing.specs.EntryEnds.{entryWidth}
 use borrow.Author.Needs.{needs}
 use Rattle.vetting.proofs.entry_width.Statement.{statement}
 use Rattle.vetting.proofs.entry_width.Tie as tie

@@ -1,40 +1,65 @@
 -- The members before i rise, and the rest is walked over from here.
 use borrow.Author.Needs.{needs}
 use native.Mathlib.Omega.{arith}
-use mathlib.Core.Path.{_≡_, sym, _∙_}
-use mathlib.Core.List.{[]}
+use mathlib.Core.Path.{_≡_, sym, ap, _∙_}
+use mathlib.Core.List.{List, []}
 use mathlib.Core.Bool.{Bool}
-use Prim.Native.Nat.{ℕ, _-_, _≤_}
-use lib.ListN.{length}
+use Prim.Native.Nat.{ℕ, _+_, _*_, _-_, _<_, _≤_}
+use lib.ListN.{length, getD, take, drop}
 use borrow.Author.Tests.{not-true, not-false}
 use Rattle.formula.specs.Members.{isFormula}
 use Rattle.encoding.specs.Parse.{fits-from}
 use Rattle.proof_files.specs.ProofParts.{kindTable}
+use Rattle.writing.specs.Ends.{next}
 use Rattle.vetting.specs.StepLaws.{finds-stop, finds-next}
-use Rattle.vetting.specs.WalkLaws.{RisingLeft, rising-begins, rising-stop, rising-on, rising-end}
+use Rattle.vetting.specs.WalkLaws.{RisingLeft, rising-begins, rising-stop, rising-on, rising-end, part-long, part-at}
 use Rattle.vetting.specs.KindTests.{may-follow-fits}
 use Rattle.vetting.proofs.judge_members.Statement.{statement}
 use Rattle.vetting.proofs.judge_members.Tie as tie
 
 abbrev Inv-loop : tie.InvT-loop
-Inv-loop kinds count members at floor₀ i₀ floor i = (i ≤ length members) × RisingLeft (isFormula (kindTable kinds count)) 14 members at i floor
+Inv-loop kinds count members start listed at floor₀ i₀ floor i =
+    (i ≤ listed) × RisingLeft (isFormula (kindTable kinds count)) 14 (take listed (drop start members)) at i floor
 
 abbrev μ-loop : tie.MeasureT-loop
-μ-loop kinds count members at floor₀ i₀ floor i = length members - i
+μ-loop kinds count members start listed at floor₀ i₀ floor i = listed - i
 
--- in a turn: the code's test of the member is the walk's
+-- the members that are walked over
+module _ (c : tie.Start Inv-loop μ-loop) where
+  abbrev goal : List ℕ
+  goal = take (c .args .listed) (drop (c .args .start) (c .args .members .now))
+
+  long : length goal ≡ c .args .listed
+  long = part-long (c .args .members .now) (c .args .start) (c .args .listed) (c .pre .1)
+
+-- in a turn: the member is read, and the code's test of it is the walk's
 module _ (c : tie.After-may-follow Inv-loop μ-loop) where
+  abbrev s : tie.Start Inv-loop μ-loop
+  s = c .before .before .before .before .before .before
+
   abbrev ok : ℕ → Bool
-  ok = isFormula (kindTable (c .before .before .before .before .before .before .args .kinds .now) (c .before .before .before .before .before .before .args .count))
+  ok = isFormula (kindTable (s .args .kinds .now) (s .args .count))
+
+  abbrev here : ℕ
+  here = c .before .before .before .before .loop .i
 
   abbrev floor : ℕ
   floor = c .before .before .before .before .loop .floor
+
+  inside : here < length (goal s)
+  inside = omega (arith, long s)
+
+  read : c .before .wide .result ≡ getD (goal s) here 0
+  read = c .before .wide .ensures ∙ part-at (s .args .members .now) (s .args .start) (s .args .listed) (s .pre .1) here (c .before .before .before .loop-test .taken)
 
   fits : fits-from ok floor (c .before .wide .result) ≡ c .may-follow .result
   fits = sym (c .may-follow .ensures ∙ may-follow-fits _ [] [] _ floor (c .before .wide .result))
 
 loop-holds : tie.Need-loop-holds Inv-loop μ-loop
 loop-holds c = (omega arith, rising-begins _ _ _ _)
+
+add-wide : tie.Need-add-wide Inv-loop μ-loop
+add-wide c = search needs
 
 mul-wide : tie.Need-mul-wide Inv-loop μ-loop
 mul-wide c = search needs
@@ -60,15 +85,13 @@ stop-requires c κs = search needs
 returns : tie.Need-returns Inv-loop μ-loop
 returns c =
     let t = c .before .before in
-    finds-stop (c .stop .result)
-    (rising-stop (t .before .before .before .before .loop .inv .1) (t .before .before .before .loop-test .taken) (t .before .wide .result) (t .before .wide .ensures)
-    (fits t ∙ not-true _ (c .before .if1 .taken)))
+    finds-stop (c .stop .result) (rising-stop (t .before .before .before .before .loop .inv .1) (inside t) (t .before .wide .result) (read t) (fits t ∙ not-true _ (c .before .if1 .taken)))
     (c .stop .ensures)
 
 add-floor : tie.Need-add-floor Inv-loop μ-loop
 add-floor c =
-    let t = c .before .before in
-    omega (arith, t .before .shared-slice-known2 .given (t .before .before .before .loop .i), t .wide .ensures)
+    let t = c .before in
+    omega (arith, t .before .before .shared-slice-known2 .given (s t .args .start + here t), t .before .wide .ensures)
 
 add-i : tie.Need-add-i Inv-loop μ-loop
 add-i c = search needs
@@ -78,20 +101,19 @@ loop-less c = search needs
 
 loop-again : tie.Need-loop-again Inv-loop μ-loop
 loop-again c =
-    let t = c .before in (
-      omega arith,
-      rising-on (t .before .before .before .before .loop .inv .1) (t .before .before .before .loop-test .taken) (t .before .wide .result) (t .before .wide .ensures)
-          (fits t ∙ not-false _ (c .if1 .left)),
-    )
+    let t = c .before in
+    (omega arith, rising-on (t .before .before .before .before .loop .inv .1) (inside t) (t .before .wide .result) (read t) (fits t ∙ not-false _ (c .if1 .left)))
 
-mul-t16 : tie.Need-mul-t16 Inv-loop μ-loop
-mul-t16 c = search needs
+mul-t18 : tie.Need-mul-t18 Inv-loop μ-loop
+mul-t18 c = search needs
 
-add-t17 : tie.Need-add-t17 Inv-loop μ-loop
-add-t17 c = search needs
+add-t19 : tie.Need-add-t19 Inv-loop μ-loop
+add-t19 c = search needs
 
 returns-2 : tie.Need-returns-2 Inv-loop μ-loop
-returns-2 c = finds-next (rising-end (c .before .loop .inv .1) (omega arith)) (omega arith)
+returns-2 c =
+    let s = c .before .before .before in
+    finds-next (rising-end (c .before .loop .inv .1) (omega (arith, long s)) ∙ ap (λ (m : ℕ). next (s .args .at + 2 * m)) (long s)) (omega arith)
 
 pub judge-members-spec : {M : Type 1} → statement M
 judge-members-spec =
@@ -100,6 +122,7 @@ judge-members-spec =
     Inv-loop
     μ-loop
     loop-holds
+    add-wide
     mul-wide
     shared-slice-read-wide
     wide-requires
@@ -112,6 +135,6 @@ judge-members-spec =
     add-i
     loop-less
     loop-again
-    mul-t16
-    add-t17
+    mul-t18
+    add-t19
     returns-2)

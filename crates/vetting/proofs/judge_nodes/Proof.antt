@@ -13,11 +13,11 @@ use Rattle.vetting.proofs.judge_nodes.Statement.{statement}
 use Rattle.vetting.proofs.judge_nodes.Tie as tie
 
 abbrev Inv-loop : tie.InvT-loop
-Inv-loop kinds entries rules links counts codes nodes at₀ start₀ v₀ at start v =
-    (v ≤ nodes) × NodesLeft (kindTable kinds entries) rules links counts codes nodes v start at
+Inv-loop kinds entries rules links counts codes nodes from at₀ start₀ v₀ at start v =
+    (v ≤ nodes) × NodesLeft (kindTable kinds entries) rules links counts codes nodes from v start at
 
 abbrev μ-loop : tie.MeasureT-loop
-μ-loop kinds entries rules links counts codes nodes at₀ start₀ v₀ at start v = nodes - v
+μ-loop kinds entries rules links counts codes nodes from at₀ start₀ v₀ at start v = nodes - v
 
 module _ (c : tie.After-judge-sequent Inv-loop μ-loop) where
   abbrev turn : tie.In-loop Inv-loop μ-loop
@@ -31,7 +31,7 @@ module _ (c : tie.After-judge-sequent Inv-loop μ-loop) where
       ∙ rw (← c .before .link-width .ensures .0) (sym (c .judge-sequent .ensures .found))
 
 loop-holds : tie.Need-loop-holds Inv-loop μ-loop
-loop-holds c = (omega arith, nodes-begin _ _ _ _ _ _)
+loop-holds c = (omega arith, nodes-begin _ _ _ _ _ _ _)
 
 shared-slice-read-rule : tie.Need-shared-slice-read-rule Inv-loop μ-loop
 shared-slice-read-rule c = search needs

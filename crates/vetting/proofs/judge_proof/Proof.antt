@@ -1,18 +1,22 @@
--- The bytes first, then the tree.
+-- The bytes first, then the trees.
 use native.Mathlib.Omega.{arith}
 use mathlib.Core.Path.{_≡_, refl, sym, ap, _∙_}
 use mathlib.Core.List.{List}
-use Prim.Native.Nat.{_≤_}
 use Rattle.verdict.specs.Shown.{shown}
 use Rattle.formula.specs.Table.{Table}
+use Rattle.formula.specs.Claim.{Form, formNumber}
+use Rattle.formula.specs.Nodes.{Proof}
 use Rattle.formula.specs.Records.{NodeRecord}
 use Rattle.proof_files.specs.ProofParts.{kindTable}
+use Rattle.proofs.specs.NamedForm.{namedForm, for-named}
 use Rattle.tree.specs.Owners.{tree-judged}
-use Rattle.writing.specs.Ends.{stop}
-use Rattle.writing.specs.ProofEnds.{nodesOver, nodesEnd, proofEnd}
+use Rattle.writing.specs.Goals.{rootsOf}
+use Rattle.writing.specs.Ends.{End}
+use Rattle.writing.specs.ProofEnds.{nodesOver, proofEnd}
 use Rattle.writing.specs.Held.{recordsOf}
+use Rattle.vetting.specs.Steps.{Finds}
 use Rattle.vetting.specs.StepLaws.{finds-stop, finds-next, found-stop, found-next, stops-there, judge-refuses, judge-accepts}
-use Rattle.vetting.specs.CountLaws.{proof-out, proof-in}
+use Rattle.vetting.specs.RootLaws.{ProofFound, proof-found}
 use Rattle.vetting.specs.Columns.{starts, nodes-of-columns}
 use Rattle.vetting.specs.declared.Step.the-variants.{Stop}
 use borrow.Author.Needs.{needs}
@@ -26,40 +30,44 @@ module _ (s : tie.Start) where
   abbrev records : List NodeRecord
   records = recordsOf (s .args .rules .now) (s .args .links .now) (s .args .counts .now) (s .args .nodes)
 
-  -- a node count out of range, and one in range: the nodes are walked over
-  out : ((1 ≤ s .args .nodes) × (s .args .nodes ≤ 1024) → ⊥) → proofEnd table (s .args .nodes) records (s .args .codes .now) ≡ stop 32 4
-  out = proof-out table (s .args .nodes) records (s .args .codes .now)
+  abbrev ends : Form → End
+  ends f = proofEnd f (s .args .goals) table (s .args .nodes) (s .args .roots .now) records (s .args .codes .now)
 
-  walked : (1 ≤ s .args .nodes) × (s .args .nodes ≤ 1024) → proofEnd table (s .args .nodes) records (s .args .codes .now) ≡ nodesEnd table records (s .args .codes .now) 6
-  walked = proof-in table (s .args .nodes) records (s .args .codes .now)
-
--- what the judge of the tree says of the columns, it says of the nodes
-module _ (c : tie.After-judge-tree) where
-  abbrev walk : tie.After-judge-nodes
-  walk = c .before .before .before .before
-
+-- the walk, as any form that the number names
+module _ (c : tie.After-judge-proof-bytes) where
   abbrev s : tie.Start
-  s = walk .before .before .before .before .before .before .before
+  s = c .before .before .before .before .before .before
 
-  tree-told : tree-judged (nodesOver (records s) (s .args .codes .now)) ≡ shown (c .judge-tree .result)
-  tree-told =
-      ap tree-judged (nodes-of-columns (s .args .rules .now) (s .args .links .now) (s .args .counts .now) (s .args .codes .now) (s .args .nodes))
-      ∙ sym (c .judge-tree .ensures (starts (s .args .counts .now) (s .args .nodes)) (s .args .codes .now))
+  walked : (f : Form) → s .args .form ≡ formNumber f → Finds (ends s f) 58406 (c .judge-proof-bytes .result)
+  walked = for-named (λ (f : Form). Finds (ends s f) 58406 (c .judge-proof-bytes .result)) (c .judge-proof-bytes .ensures)
 
-stop-requires : tie.Need-stop-requires
-stop-requires c κs = search needs
+-- past it, what it tells of the roots
+module _ (c : tie.After-end) where
+  abbrev bytes : tie.After-judge-proof-bytes
+  bytes = c .before .before
 
-returns : tie.Need-returns
-returns c = finds-stop (c .stop .result) (stops-there _ (out (c .before .before .before .before .before .before) (λ k. omega (arith, k .0)))) (c .stop .ensures)
+  found : (f : Form) → Finds (ends (s bytes) f) 58406 (bytes .judge-proof-bytes .result) → ProofFound f (s bytes .args .goals) (s bytes .args .nodes) (s bytes .args .roots .now)
+  found f w =
+      proof-found f (s bytes .args .goals) (table (s bytes)) (s bytes .args .nodes) (s bytes .args .roots .now) (records (s bytes)) (s bytes .args .codes .now) (s bytes .pre .0 .1)
+      (found-next w (c .end .given .1))
 
-stop-requires-2 : tie.Need-stop-requires-2
-stop-requires-2 c κs = search needs
+-- what the judge of the trees says of the columns, it says of the nodes
+module _ (c : tie.After-judge-tree) where
+  abbrev past : tie.After-end
+  past = c .before .before
 
-returns-2 : tie.Need-returns-2
-returns-2 c = finds-stop (c .stop2 .result) (stops-there _ (out (c .before .before .before .before .before .before .before) (λ k. omega (arith, k .1)))) (c .stop2 .ensures)
+  abbrev given : tie.Start
+  given = s (bytes past)
 
-judge-nodes-requires : tie.Need-judge-nodes-requires
-judge-nodes-requires c κs = let s = c .before .before .before .before .before .before in (s .pre .0, s .pre .1 (c .if2 .left))
+  tree-told : (f : Form) → given .args .form ≡ formNumber f
+      → tree-judged (rootsOf f (given .args .roots .now)) (nodesOver (records given) (given .args .codes .now)) ≡ shown (c .judge-tree .result)
+  tree-told f named =
+      ap (λ (p : Proof). tree-judged (rootsOf f (given .args .roots .now)) p)
+      (nodes-of-columns (given .args .rules .now) (given .args .links .now) (given .args .counts .now) (given .args .codes .now) (given .args .nodes))
+      ∙ sym (c .judge-tree .ensures f (given .pre .0 .2 f named) (found past f (walked (bytes past) f named) .fit) (starts (given .args .counts .now) (given .args .nodes)) (given .args .codes .now))
+
+judge-proof-bytes-requires : tie.Need-judge-proof-bytes-requires
+judge-proof-bytes-requires c κs = search needs
 
 enum-known-number : tie.Need-enum-known-number
 enum-known-number c = search needs
@@ -69,9 +77,10 @@ enum-known-end c = search needs
 
 judge-tree-requires : tie.Need-judge-tree-requires
 judge-tree-requires c κs =
-    let in-range = c .before .before .before .before in
-    let given = in-range .before .before .before .before .before .before .pre .1 (in-range .if2 .left) in
-    (omega arith, given .most, given .rules, given .links)
+    let s = c .before .before .before .before .before .before .before .before .before in
+    let f = found (c .before) (namedForm (s .args .form)) (c .before .before .before .judge-proof-bytes .ensures) in
+    let columns = s .pre .1 (f .nodes .1) in
+    (f .nodes .0, f .nodes .1, columns .rules, columns .links, s .pre .0 .1, f .roots)
 
 enum-known-number-2 : tie.Need-enum-known-number-2
 enum-known-number-2 c = search needs
@@ -79,39 +88,30 @@ enum-known-number-2 c = search needs
 enum-told : tie.Need-enum-told
 enum-told c = search needs
 
+returns : tie.Need-returns
+returns c f named = finds-stop (Stop _ _) (stops-there _ (found-stop (walked (c .before .before .before) f named) (c .before .number .given .1))) refl
+
+returns-2 : tie.Need-returns-2
+returns-2 c f named =
+    let e = found-next (walked (c .before .before .before .before .before .before .before) f named) (c .before .before .before .before .before .end .given .1) in
+    finds-stop (Stop _ _) (judge-refuses e (tree-told (c .before .before .before) f named ∙ ap shown (c .before .number2 .given .1))) refl
+
 returns-3 : tie.Need-returns-3
-returns-3 c =
-    let w = c .before .before .before in
-    let s = w .before .before .before .before .before .before .before in
-    finds-stop (Stop _ _) (stops-there _ (walked s (omega arith, omega arith) ∙ found-stop (w .judge-nodes .ensures) (c .before .number .given .1))) refl
-
-returns-4 : tie.Need-returns-4
-returns-4 c =
-    let t = c .before .before .before in
-    let e = found-next (walk t .judge-nodes .ensures) (t .before .before .end .given .1) in
-    finds-stop (Stop _ _) (judge-refuses (walked (s t) (omega arith, omega arith) ∙ e) (tree-told t ∙ ap shown (c .before .number2 .given .1))) refl
-
-returns-5 : tie.Need-returns-5
-returns-5 c =
-    let t = c .before .before in
-    let e = found-next (walk t .judge-nodes .ensures) (t .before .before .end .given .1) in
-    finds-next (judge-accepts (walked (s t) (omega arith, omega arith) ∙ e) (tree-told t ∙ ap shown (c .enum-told .given .1)))
-    (walk t .judge-nodes .ensures .near _ (t .before .before .end .given .1))
+returns-3 c f named =
+    let walk = walked (c .before .before .before .before .before .before) f named in
+    let e = found-next walk (c .before .before .before .before .end .given .1) in
+    finds-next (judge-accepts e (tree-told (c .before .before) f named ∙ ap shown (c .enum-told .given .1))) (walk .near _ (c .before .before .before .before .end .given .1))
 
 pub judge-proof-spec : {M : Type 1} → statement M
 judge-proof-spec =
     tie.close
     (tie.spec
-    stop-requires
-    returns
-    stop-requires-2
-    returns-2
-    judge-nodes-requires
+    judge-proof-bytes-requires
     enum-known-number
     enum-known-end
     judge-tree-requires
     enum-known-number-2
     enum-told
-    returns-3
-    returns-4
-    returns-5)
+    returns
+    returns-2
+    returns-3)

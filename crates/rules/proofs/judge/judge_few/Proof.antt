@@ -22,10 +22,12 @@ judge-in-requires c κs =
       start .pre .0,
       start .pre .1,
       record {
-        room = (omega (arith, few, length-replicate {A = ℕ} 32 0), omega (arith, few, length-replicate {A = ℕ} 32 0), omega (arith, few, length-replicate {A = ℕ} 32 1));
+        room = omega (arith, few, length-replicate {A = ℕ} 32 0);
         ownerless = λ w h. getD-replicate 32 w 0 0 (omega (arith, few));
-        first = getD-replicate 32 0 0 0 (omega arith);
-        ones = λ w h. getD-replicate 32 w 1 0 (omega (arith, few));
+        once = record {
+          room = (omega (arith, few, length-replicate {A = ℕ} 32 0), omega (arith, few, length-replicate {A = ℕ} 32 1));
+          ones = λ w h. getD-replicate 32 w 1 0 (omega (arith, few));
+        };
       },
       start .pre .3,
     )

@@ -1,4 +1,4 @@
--- before a node: every smaller one keeps its rule, whatever the claim's members
+-- before a node: every smaller one keeps its rule, whatever the claim's goals
 use mathlib.Core.Path.{sym, _∙_}
 use mathlib.Core.List.{List}
 use Prim.Native.Nat.{ℕ, _≤_, _-_}
@@ -6,6 +6,7 @@ use native.Mathlib.Omega.{arith}
 use borrow.Author.Count.{below-more}
 use borrow.Author.Needs.{needs}
 use borrow.Author.Tests.{not-true, not-false}
+use Rattle.formula.specs.Claim.{Form}
 use Rattle.formula.specs.Held.{heldClaim}
 use Rattle.formula.specs.PlainNodes.{proofOf}
 use Rattle.calculus.specs.View.{plain}
@@ -17,13 +18,13 @@ use Rattle.rules.proofs.judge.judge_nodes.Tie as tie
 
 abbrev Inv-loop : tie.InvT-loop
 Inv-loop kinds a b canon count rules links starts codes nodes entries exits v₀ v =
-    (v ≤ nodes) × ((ms : List ℕ) (k : ℕ) → Passed (keeps (heldClaim kinds a b count ms k) (plain (proofOf rules links starts codes nodes))) v)
+    (v ≤ nodes) × ((f : Form) (gs ms : List ℕ) (k : ℕ) → Passed (keeps (heldClaim f kinds a b count gs ms k) (plain (proofOf rules links starts codes nodes))) v)
 
 abbrev μ-loop : tie.MeasureT-loop
 μ-loop kinds a b canon count rules links starts codes nodes entries exits v₀ v = nodes - v
 
 loop-holds : tie.Need-loop-holds Inv-loop μ-loop
-loop-holds c = (omega arith, λ ms k w h. absurd (omega arith))
+loop-holds c = (omega arith, λ f gs ms k w h. absurd (omega arith))
 
 node-keeps-requires : tie.Need-node-keeps-requires Inv-loop μ-loop
 node-keeps-requires c κs = search needs
@@ -38,10 +39,11 @@ cast-t19 : tie.Need-cast-t19 Inv-loop μ-loop
 cast-t19 c = omega (arith, c .before .before .before .before .before .before .before .before .before .before .before .before .pre .judged .columns .few)
 
 returns : tie.Need-returns Inv-loop μ-loop
-returns c ms k =
+returns c f gs ms k =
     let keeps = c .before .before .before in
-    sym (rules-fail (c .before .before .before .before .before .before .before .before .before .before .before .before .pre .judged) _ _ _ (c .refusal-of .ensures .0) (c .refusal-of .ensures .1) (keeps .before .loop-test .taken) (keeps .before .before .loop .inv .1 ms k)
-    (sym (keeps .node-keeps .ensures ms k) ∙ not-true _ (c .before .before .if1 .taken)))
+    let s = c .before .before .before .before .before .before .before .before .before .before .before .before in
+    sym (rules-fail (s .pre .judged) _ _ _ (c .refusal-of .ensures .0) (c .refusal-of .ensures .1) (keeps .before .loop-test .taken) (keeps .before .before .loop .inv .1 f gs ms k)
+    (sym (keeps .node-keeps .ensures f gs ms k) ∙ not-true _ (c .before .before .if1 .taken)))
 
 add-v : tie.Need-add-v Inv-loop μ-loop
 add-v c = search needs
@@ -50,10 +52,10 @@ loop-less : tie.Need-loop-less Inv-loop μ-loop
 loop-less c = omega arith
 
 loop-again : tie.Need-loop-again Inv-loop μ-loop
-loop-again c = (omega arith, λ ms k. below-more _ _ (c .before .before .before .loop .inv .1 ms k) (sym (c .before .node-keeps .ensures ms k) ∙ not-false _ (c .if1 .left)))
+loop-again c = (omega arith, λ f gs ms k. below-more _ _ (c .before .before .before .loop .inv .1 f gs ms k) (sym (c .before .node-keeps .ensures f gs ms k) ∙ not-false _ (c .if1 .left)))
 
 returns-2 : tie.Need-returns-2 Inv-loop μ-loop
-returns-2 c ms k = sym (rules-pass (c .before .before .before .before .before .before .before .before .pre .judged) _ _ (c .loop-test .left) (c .before .loop .inv .1 ms k))
+returns-2 c f gs ms k = sym (rules-pass (c .before .before .before .before .before .before .before .before .pre .judged) _ _ (c .loop-test .left) (c .before .loop .inv .1 f gs ms k))
 
 pub judge-nodes-spec : {M : Type 1} → statement M
 judge-nodes-spec =

@@ -5,7 +5,7 @@ use Prim.Native.Nat.{ℕ}
 use native.Mathlib.Omega.{arith}
 use borrow.Author.Needs.{needs}
 use Rattle.verdict.specs.Verdict.{accepted}
-use Rattle.formula.specs.Claim.{Claim}
+use Rattle.formula.specs.Claim.{Form, clm1, Claim}
 use Rattle.formula.specs.Held.{heldClaim}
 use Rattle.formula.specs.Nodes.{Proof}
 use Rattle.formula.specs.PlainNodes.{proofOf, proofOf-length}
@@ -13,15 +13,18 @@ use Rattle.rules.specs.JudgeStages.{rules-judged, rules-linked, nodes-pa
 use Rattle.rules.proofs.judge.judge_rules.Statement.{statement}
 use Rattle.rules.proofs.judge.judge_rules.Tie as tie
 
--- the claim and the proof that the function is lent, whatever the claim's members
-abbrev claim : tie.Start → List ℕ → ℕ → Claim
-claim s ms k = heldClaim (s .args .kinds .now) (s .args .a .now) (s .args .b .now) (s .args .count) ms k
+-- the claim and the proof that the function is lent, whatever the claim's goals
+abbrev claim : tie.Start → Form → List ℕ → List ℕ → ℕ → Claim
+claim s f gs ms k = heldClaim f (s .args .kinds .now) (s .args .a .now) (s .args .b .now) (s .args .count) gs ms k
 
 abbrev proof : tie.Start → Proof
 proof s = proofOf (s .args .rules .now) (s .args .links .now) (s .args .starts .now) (s .args .codes .now) (s .args .nodes)
 
-passed : (c : tie.After-enum-told) (ms : List ℕ) (k : ℕ) → rules-judged (claim (c .before .before .before .before .before .before .before .before .before .before .before .before .before .before .before .before .before .before .before) ms k) (proof (c .before .before .before .before .before .before .before .before .before .before .before .before .before .before .before .before .before .before .before)) ≡ accepted
-passed c ms k = sym (rw (c .enum-told .given .1) at (c .before .before .judge-nodes .ensures) ms k)
+abbrev start : tie.After-enum-told → tie.Start
+start c = c .before .before .before .before .before .before .before .before .before .before .before .before .before .before .before .before .before .before .before
+
+passed : (c : tie.After-enum-told) (f : Form) (gs ms : List ℕ) (k : ℕ) → rules-judged (claim (start c) f gs ms k) (proof (start c)) ≡ accepted
+passed c f gs ms k = sym (rw (c .enum-told .given .1) at (c .before .before .judge-nodes .ensures) f gs ms k)
 
 fill-spans-requires : tie.Need-fill-spans-requires
 fill-spans-requires c κs = let start = c .before .before .before .before .before .before .before .before .before in (start .pre .0 .1, start .pre .1 .1)
@@ -47,7 +50,7 @@ judge-loops-requires c κs =
         room = (J .columns .rules, J .columns .starts, omega (arith, start .pre .1 .1 .room), omega (arith, start .pre .1 .1 .room));
         within = λ v h. J .rising v h .1;
       },
-      (J .columns .links, start .pre .1 .0 _ _, rules-linked (claim start [] 0) (proof start) (passed (c .before .before) [] 0)),
+      (J .columns .links, start .pre .1 .0 _ _, rules-linked (claim start clm1 [] [] 0) (proof start) (passed (c .before .before) clm1 [] [] 0)),
     )
 
 enum-known-number : tie.Need-enum-known-number
@@ -60,9 +63,9 @@ same-length-2 : tie.Need-same-length-2
 same-length-2 c = search needs
 
 returns : tie.Need-returns
-returns c ms k =
+returns c f gs ms k =
     let start = c .before .before .before .before .before .before .before .before .before .before .before .before .before .before .before .before .before .before .before .before .before .before .before .before .before .before in
-    c .before .before .before .before .judge-loops .ensures ∙ sym (nodes-passed (claim start ms k) (proof start) (passed (c .before .before .before .before .before .before .before) ms k))
+    c .before .before .before .before .judge-loops .ensures ∙ sym (nodes-passed (claim start f gs ms k) (proof start) (passed (c .before .before .before .before .before .before .before) f gs ms k))
 
 same-length-3 : tie.Need-same-length-3
 same-length-3 c = search needs
@@ -71,9 +74,9 @@ same-length-4 : tie.Need-same-length-4
 same-length-4 c = search needs
 
 returns-2 : tie.Need-returns-2
-returns-2 c ms k =
+returns-2 c f gs ms k =
     let start = c .before .before .before .before .before .before .before .before .before .before .before .before .before .before .before .before .before .before .before .before in
-    sym (nodes-refused (claim start ms k) (proof start) (sym (rw (c .before .number .given .1) at (c .before .before .before .judge-nodes .ensures) ms k)))
+    sym (nodes-refused (claim start f gs ms k) (proof start) (sym (rw (c .before .number .given .1) at (c .before .before .before .judge-nodes .ensures) f gs ms k)))
 
 pub judge-rules-spec : {M : Type 1} → statement M
 judge-rules-spec =
