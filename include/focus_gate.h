@@ -49,7 +49,7 @@ enum {
  * openings, which must be of one form. */
 enum {
     FOCUS_FORM_ONE = 1,    /* CLM1 and PRF1: one list of members, and node 0 is the root */
-    FOCUS_FORM_SEVERAL = 2 /* CLM2 and PRF2: 1 to 16 goals, and a tree with its root for each */
+    FOCUS_FORM_SEVERAL = 2 /* CLM2 and PRF2: 0 to 16 goals, and a tree with its root for each */
 };
 
 /* Refusals, with the place that comes with each in brackets. "Offset" counts the
@@ -91,7 +91,7 @@ enum {
 
     FOCUS_OUTPUT_SHORT = 70,  /* an output slice shorter than the file (0) */
     FOCUS_ACTION = 71,        /* an action above 15, or a 0 written out in B (entry) */
-    FOCUS_GOAL_COUNT = 72     /* a goal count over 16 or zero (its offset) */
+    FOCUS_GOAL_COUNT = 72     /* a goal count over 16 (its offset) */
 };
 
 /* The two parts of an answer that is not 0. */
@@ -163,7 +163,8 @@ uint64_t focus_evaluate(const uint8_t *claim, size_t claim_len,
                         uint64_t *words, size_t words_len);
 
 /* Judges a claim and proof of either form without any gate: 0 for accepted, each goal of the claim.
- * It writes nothing. */
+ * A claim without goals is accepted with a proof of no nodes, and nothing is promised of it. The
+ * call writes nothing. */
 uint32_t focus_check(const uint8_t *claim, size_t claim_len,
                      const uint8_t *proof, size_t proof_len);
 

@@ -1,7 +1,7 @@
 #!/usr/bin/env bash
 # The examples that call the gate, built as their comments say: the loader gives a
 # permit for a good pair only, and the number and place of what a bad one earns; the
-# evaluation prints each entry's states; the writer makes the files of two good pairs of
+# evaluation prints each entry's states; the writer makes the files of three good pairs of
 # its tables; the caller in Rust says what the loader says.
 set -euo pipefail
 cd "$(dirname "$0")/.."
@@ -31,13 +31,16 @@ failed=0
 program=loader
 
 # run NAME STATUS LINES ARGUMENTS...: both streams and the exit status, compared
-# as bytes. No line on standard error is expected unless LINES is empty.
+# as bytes. No line on standard error is expected unless LINES is empty and the
+# status is not 0.
 run() {
     local name=$1 expected=$2 lines=$3 status=0 good=yes
     shift 3
     timeout 10 "$scratch/$program" "$@" >"$scratch/out" 2>"$scratch/err" </dev/null || status=$?
     if [ -n "$lines" ]; then
         printf '%s\n' "$lines" | cmp -s - "$scratch/out" && [ ! -s "$scratch/err" ] || good=no
+    elif [ "$expected" -eq 0 ]; then
+        [ ! -s "$scratch/out" ] && [ ! -s "$scratch/err" ] || good=no
     else
         [ ! -s "$scratch/out" ] && [ "$(wc -l <"$scratch/err")" -eq 1 ] || good=no
     fi
@@ -94,6 +97,13 @@ pair two-goals
 granted 'two goals' 7 "${files[@]}"
 denied 'two goals with a proof of one' 'refuse 30 at 0' "${files[0]}" "$samples/nu-of-box/proof.bin"
 denied 'one goal with a proof of two' 'refuse 30 at 0' "$samples/nu-of-box/claim.bin" "${files[1]}"
+denied 'two goals with the proof of none' 'refuse 31 at 6' "${files[0]}" "$samples/no-goals/proof.bin"
+pair no-goals
+granted 'no goals' 7 "${files[@]}"
+denied 'no goals with a proof of one' 'refuse 30 at 0' "${files[0]}" "$samples/nu-of-box/proof.bin"
+denied 'one goal with the proof of none' 'refuse 30 at 0' "$samples/nu-of-box/claim.bin" "${files[1]}"
+printf 'PRF2\1\0\0\0' >"$scratch/node.bin"
+denied 'no goals and a node' 'refuse 35 at 0' "${files[0]}" "$scratch/node.bin"
 
 # The box of `slew` is entry 2, its action byte 18.
 pair slew
@@ -140,6 +150,8 @@ run 'mu of box on a dead end' 0 $'entry 0, kind 10: 0 1\nentry 1, kind 7: 0 1\ne
 run 'a box and a diamond of two actions on a mount' 0 $'entry 0, kind 2: 0 2\nentry 1, kind 3: 1\nentry 2, kind 7, action 1: 1 2\nentry 3, kind 6, action 2:' "$samples/slew-and-park/claim.bin" "$samples/evaluate/mount.bin"
 run 'actions that an old model does not have' 0 $'entry 0, kind 2:\nentry 1, kind 3: 0\nentry 2, kind 7, action 1: 0\nentry 3, kind 6, action 1:' "$samples/slew/claim.bin" "$samples/evaluate/circle.bin"
 run 'a claim of two goals on a circle' 0 $'entry 0, kind 10: 0\nentry 1, kind 7: 0\nentry 2, kind 9: 0\nentry 3, kind 2:\nentry 4, kind 3: 0' "$samples/two-goals/claim.bin" "$samples/evaluate/circle.bin"
+# No entry has a line.
+run 'a claim without entries on a mount' 0 '' "$samples/no-goals/claim.bin" "$samples/evaluate/mount.bin"
 run 'an unfit action in an evaluation' 1 'refuse 71 at 2' "$scratch/unfit.bin" "$samples/evaluate/mount.bin"
 run 'a proof in place of a model' 1 'refuse 60 at 0' "$samples/nu-of-box/claim.bin" "$samples/nu-of-box/proof.bin"
 
@@ -189,6 +201,10 @@ lines=$'claim: 38 bytes\nproof: 49 bytes\ncheck: accept'
 run 'two goals from their tables' 0 "$lines" "${made[@]}" goals
 same 'the written claim of two goals' "${made[0]}" "$samples/two-goals/claim.bin"
 same 'the written proof of two goals' "${made[1]}" "$samples/two-goals/proof.bin"
+lines=$'claim: 8 bytes\nproof: 6 bytes\ncheck: accept'
+run 'no goals from their tables' 0 "$lines" "${made[@]}" none
+same 'the written claim without goals' "${made[0]}" "$samples/no-goals/claim.bin"
+same 'the written proof without nodes' "${made[1]}" "$samples/no-goals/proof.bin"
 run 'a word that says nothing to the writer' 2 '' "${made[@]}" goal
 run 'a claim in a folder that is not there' 2 '' "$scratch/none/claim.bin" "${made[1]}"
 run 'a folder in place of a proof' 2 '' "${made[0]}" "$scratch"
@@ -200,6 +216,7 @@ run 'no arguments for the writer' 2 ''
 program=caller
 run 'a good pair from Rust' 0 'accept' "${files[@]}"
 run 'two goals from Rust' 0 'accept' "$samples/two-goals/claim.bin" "$samples/two-goals/proof.bin"
+run 'no goals from Rust' 0 'accept' "$samples/no-goals/claim.bin" "$samples/no-goals/proof.bin"
 run 'a cut proof from Rust' 1 'refuse 30 at 0' "$claim" /dev/null
 run 'a missing proof from Rust' 2 '' "$claim" "$scratch/none.bin"
 

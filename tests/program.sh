@@ -107,22 +107,26 @@ for claim in "$samples"/*/claim.bin; do
         slew) line='accept' ;;
         slew-and-park) line='refuse 37 at 0' ;;
         two-goals) line='accept' ;;
+        no-goals) line='accept' ;;
         *) line='(no line is written down for this sample)' ;;
     esac
     fresh "$sample"
     verdict "sample $sample" "$line"
 done
 
-# The two goals with one byte changed: their goal count is byte 26 of the claim, their roots are bytes 6 to 9 of the proof. The second
-# goal's first member is byte 34, the axiom that proves it node 2.
+# changed FILE OFFSET BYTE [SAMPLE]: a sample, two-goals if none is named, with one byte changed. Of the two goals their count is byte
+# 26 of the claim, their roots are bytes 6 to 9 of the proof. The second goal's first member is byte 34, the axiom that proves it node 2.
 changed() {
-    fresh two-goals
-    { head -c "$2" "$samples/two-goals/$1"; printf "$3"; tail -c +"$(($2 + 2))" "$samples/two-goals/$1"; } >"$work/$1"
+    local good="$samples/${4:-two-goals}/$1"
+    fresh "${4:-two-goals}"
+    { head -c "$2" "$good"; printf "$3"; tail -c +"$(($2 + 2))" "$good"; } >"$work/$1"
 }
-for goals in '\0' '\21' '\377'; do
+for goals in '\21' '\377'; do
     changed claim.bin 26 "$goals"
     verdict "goal count $goals" 'refuse 72 at 26'
 done
+changed claim.bin 26 '\0'
+verdict 'goals behind a count of none' 'refuse 11 at 28'
 changed claim.bin 34 '\4'
 verdict 'members of the second goal that do not rise' 'refuse 14 at 36'
 changed claim.bin 34 '\2'
@@ -141,6 +145,37 @@ verdict 'two goals with a proof of one' 'refuse 30 at 0'
 fresh
 cp "$samples/two-goals/proof.bin" "$work"
 verdict 'one goal with a proof of two' 'refuse 30 at 0'
+
+# No entries, no goals and no nodes, whose counts are bytes 4 and 6 of the claim and byte 4 of the proof.
+changed claim.bin 4 '\1' no-goals
+verdict 'an entry that is not there' 'refuse 11 at 8'
+changed claim.bin 6 '\1' no-goals
+verdict 'a goal that is not there' 'refuse 11 at 8'
+changed claim.bin 6 '\21' no-goals
+verdict 'seventeen goals over no entries' 'refuse 72 at 6'
+changed proof.bin 4 '\1' no-goals
+verdict 'a node that is not there' 'refuse 31 at 6'
+changed claim.bin 3 '1' no-goals
+verdict 'no entries in the form with one goal' 'refuse 12 at 4'
+changed proof.bin 3 '1' no-goals
+verdict 'no goals with a proof in the form with one' 'refuse 30 at 0'
+fresh no-goals
+printf '\1\0\0\0' | dd of="$work/claim.bin" bs=1 seek=6 conv=notrunc status=none
+verdict 'a goal without members over no entries' 'refuse 12 at 8'
+printf '\1\0\1\0\0\0' | dd of="$work/claim.bin" bs=1 seek=6 conv=notrunc status=none
+verdict 'a goal over no entries' 'refuse 14 at 10'
+fresh no-goals
+cp "$samples/two-goals/proof.bin" "$work"
+# The first root reads as a leaf without codes, the second is no node.
+verdict 'no goals with the proof of two' 'refuse 33 at 8'
+fresh no-goals
+printf 'PRF2\1\0\0\0' >"$work/proof.bin"
+verdict 'no goals and a node' 'refuse 35 at 0'
+fresh two-goals
+cp "$samples/no-goals/proof.bin" "$work"
+verdict 'two goals with the proof of none' 'refuse 31 at 6'
+printf '\0\0\0\0' >>"$work/proof.bin"
+verdict 'two goals, their roots and no nodes' 'refuse 34 at 6'
 
 fresh
 : >"$work/claim.bin"

@@ -35,6 +35,7 @@ pub fn checks() -> Vec<Case> {
         goals,
         many_loops(4, 120).1,
         named("small proof", small),
+        no_goals(),
         named("early refusal", early),
     ]
 }
@@ -42,6 +43,15 @@ pub fn checks() -> Vec<Case> {
 fn vectors() -> Vec<corpus::CheckRecord> {
     let file = Path::new(env!("CARGO_MANIFEST_DIR")).join("../tests/vectors/base/check.bin");
     corpus::read_checks(&std::fs::read(file).expect("the vectors")).expect("whole records")
+}
+
+/// No entries, no goals and no nodes: what a call costs before it has read anything.
+fn no_goals() -> Case {
+    Case {
+        name: "no goals",
+        claim: draft::goal_claim(&[], &[]).bytes,
+        proof: draft::goal_proof(&[], &[]).bytes,
+    }
 }
 
 /// The largest proof with its goal six times, in as many nodes. It leaves focus and

@@ -1,11 +1,13 @@
 /* A tool that holds claims and their proofs as tables and makes the files of them: nu
- * of box, as in examples/nu-of-box, or nu of box and beside it a letter with its
- * negation, the two goals of examples/two-goals. Build it from the top of the
- * repository, once target/staticlib/libgate.a is there:
+ * of box, as in examples/nu-of-box; or nu of box and beside it a letter with its
+ * negation, the two goals of examples/two-goals; or no goals at all, as in
+ * examples/no-goals. Build it from the top of the repository, once
+ * target/staticlib/libgate.a is there:
  *
  *     cc -std=c11 -Iinclude examples/writer/writer.c target/staticlib/libgate.a -o writer
  *     ./writer claim.bin proof.bin
  *     ./writer claim.bin proof.bin goals
+ *     ./writer claim.bin proof.bin none
  *
  * It prints the length of each file, and what the gate says of the two. Without the
  * last word that is
@@ -103,6 +105,10 @@ static const struct tables two_goals = {
     .codes = {FOCUSED(2), FOCUSED(2), FOCUSED(3), FOCUSED(4), FOCUSED(1), FOCUSED(2)},
 };
 
+/* No entries, no goals and no nodes: a motion program with no conditions. The slices of
+ * entries, nodes and codes are as long as ever. */
+static const struct tables no_goals = {.form = FOCUS_FORM_SEVERAL};
+
 static uint8_t claim[FOCUS_GOALS_CLAIM_BYTES];
 static uint8_t proof[FOCUS_GOALS_PROOF_BYTES];
 
@@ -139,14 +145,17 @@ static const struct tables *chosen(int count, char **arguments)
     if (count == 3) {
         return &one_goal;
     }
-    return count == 4 && strcmp(arguments[3], "goals") == 0 ? &two_goals : NULL;
+    if (count == 4 && strcmp(arguments[3], "goals") == 0) {
+        return &two_goals;
+    }
+    return count == 4 && strcmp(arguments[3], "none") == 0 ? &no_goals : NULL;
 }
 
 int main(int count, char **arguments)
 {
     const struct tables *t = chosen(count, arguments);
     if (t == NULL) {
-        fprintf(stderr, "usage: writer CLAIM PROOF [goals]\n");
+        fprintf(stderr, "usage: writer CLAIM PROOF [goals|none]\n");
         return NOT_WRITTEN;
     }
 

@@ -120,6 +120,8 @@ pub struct Claim {
     pub entries: Vec<Entry>,
     /// The members of all goals, one after another.
     pub members: Vec<u16>,
+    /// How many goals there are, in the form of several none at the least.
+    goals: usize,
     /// Where one goal's members end and the next one's begin.
     splits: Vec<usize>,
     /// The first box or diamond with "a 0 written out in B", which its record does
@@ -132,34 +134,42 @@ impl Claim {
     pub fn read(bytes: &[u8]) -> Result<Claim, Refusal> {
         let form = Form::of_claim(bytes).ok_or(CLAIM.refusal())?;
         let mut cursor = Cursor::after(form.claim(), bytes);
-        let count = cursor.count(1..=256)?;
-        let mut entries = Vec::with_capacity(count);
-        let mut written_out = None;
-        for number in 0..count {
-            let (entry, needless) = Entry::read(&mut cursor)?;
-            if needless && written_out.is_none() {
-                written_out = Some(number);
-            }
-            entries.push(entry);
-        }
         let mut claim = Claim {
             form,
-            entries,
+            entries: Vec::new(),
             members: Vec::new(),
+            goals: 1,
             splits: Vec::new(),
-            written_out,
+            written_out: None,
         };
+        claim.read_entries(&mut cursor)?;
         if form == Form::Several {
-            for _ in 1..goal_count(&mut cursor)? {
-                claim.read_goal(&mut cursor)?;
+            claim.goals = goal_count(&mut cursor)?;
+        }
+        for goal in 0..claim.goals {
+            if goal > 0 {
                 claim.splits.push(claim.members.len());
             }
+            claim.read_goal(&mut cursor)?;
         }
-        claim.read_goal(&mut cursor)?;
         cursor.finish()?;
         Ok(claim)
     }
 
+    fn read_entries(&mut self, cursor: &mut Cursor) -> Result<(), Refusal> {
+        let count = cursor.count(self.form.fewest()..=256)?;
+        self.entries.reserve_exact(count);
+        for number in 0..count {
+            let (entry, needless) = Entry::read(cursor)?;
+            if needless && self.written_out.is_none() {
+                self.written_out = Some(number);
+            }
+            self.entries.push(entry);
+        }
+        Ok(())
+    }
+
+    /// "A member list inside a goal still has at least one member."
     fn read_goal(&mut self, cursor: &mut Cursor) -> Result<(), Refusal> {
         let count = cursor.count(1..=24)?;
         self.members.reserve(count);
@@ -172,7 +182,7 @@ impl Claim {
     pub fn goals(&self) -> impl Iterator<Item = &[u16]> {
         let ends = self.splits.iter().copied().chain([self.members.len()]);
         let mut start = 0;
-        ends.map(move |end| {
+        ends.take(self.goals).map(move |end| {
             let goal = &self.members[start..end];
             start = end;
             goal
@@ -180,11 +190,12 @@ impl Claim {
     }
 }
 
-/// "72, goal count over 16 or zero, judged where it is read, place its offset"
+/// "72, goal count over 16 [...], judged where it is read, place its offset". T-06:
+/// "72 no longer" applies to zero.
 fn goal_count(cursor: &mut Cursor) -> Result<usize, Refusal> {
     let place = cursor.offset();
     match usize::from(cursor.two()?) {
-        count @ 1..=GOALS => Ok(count),
+        count @ 0..=GOALS => Ok(count),
         _ => Err(Refusal::new(72, place)),
     }
 }

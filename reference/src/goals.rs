@@ -1,7 +1,8 @@
 //! Claims and proofs of one goal and of several. T-05: "A claim opened by `CLM2`
 //! has, after the entries, a two-byte goal count of 1 to 16 and that many member
 //! lists. A proof opened by `PRF2` has, after the node count, as many strictly
-//! rising root numbers, and its nodes form one tree per goal."
+//! rising root numbers, and its nodes form one tree per goal." T-06: the count may
+//! be zero.
 
 use crate::bytes::{Opening, CLAIM, GOAL_CLAIM, GOAL_PROOF, PROOF};
 
@@ -14,7 +15,7 @@ pub const GOALS: usize = 16;
 pub enum Form {
     /// `CLM1` and `PRF1`: one list of members, and node 0 is the root.
     One = 1,
-    /// `CLM2` and `PRF2`.
+    /// `CLM2` and `PRF2`: any number of goals up to 16, and none.
     Several = 2,
 }
 
@@ -25,6 +26,16 @@ impl Form {
     pub fn from_number(number: u8) -> Option<Form> {
         let known = |form: &Form| *form as u8 == number;
         Form::ALL.into_iter().find(known)
+    }
+
+    /// The fewest entries and nodes. T-06: "In the `CLM2` form, zero entries and zero
+    /// goals are now good, and 12 and 72 no longer apply to zero there, nor 32 to a
+    /// `PRF2` node count of zero."
+    pub(crate) fn fewest(self) -> u16 {
+        match self {
+            Form::One => 1,
+            Form::Several => 0,
+        }
     }
 
     /// The form that a claim's opening tells.

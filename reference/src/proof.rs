@@ -97,6 +97,7 @@ impl Node {
 /// without gaps"
 #[derive(Clone, Debug, PartialEq, Eq)]
 pub struct Proof {
+    pub form: Form,
     /// The root numbers that the file has: none in the form with one goal.
     pub named_roots: Vec<u16>,
     pub nodes: Vec<Node>,
@@ -108,8 +109,9 @@ impl Proof {
     /// the claim's.
     pub fn read(bytes: &[u8], claim: &Claim) -> Result<Proof, Refusal> {
         let mut cursor = Cursor::open(bytes, claim.form.proof())?;
-        let count = cursor.count(1..=1024)?;
+        let count = cursor.count(claim.form.fewest()..=1024)?;
         let mut proof = Proof {
+            form: claim.form,
             named_roots: read_roots(&mut cursor, claim, count)?,
             nodes: Vec::with_capacity(count),
             codes: Vec::with_capacity((bytes.len() / 2).min(24 * count)),
@@ -146,11 +148,11 @@ impl Proof {
         Ok(())
     }
 
-    /// The root of each goal's tree.
+    /// The root of each goal's tree; without goals there is none.
     pub fn roots(&self) -> &[u16] {
-        match self.named_roots.is_empty() {
-            true => &[0],
-            false => &self.named_roots,
+        match self.form {
+            Form::One => &[0],
+            Form::Several => &self.named_roots,
         }
     }
 

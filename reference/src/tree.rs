@@ -20,6 +20,7 @@ impl Parents {
 /// "Every child is numbered above its parent; every node but [the roots] is a child
 /// once." A number used twice is found at its second user, and all child numbers
 /// come before any orphan. T-05: "a root named as a child is a bad child number".
+/// T-06: without goals "well-formed nodes get 35, as node 0 at least is an orphan".
 pub fn parents(nodes: &[Node], roots: &[u16]) -> Result<Parents, Refusal> {
     let mut parents = vec![NONE; nodes.len()];
     for &root in roots {

@@ -9,6 +9,7 @@ use crate::goals::{Form, GOALS};
 use crate::proof::{Node, Rule};
 use crate::refusal::Refusal;
 use crate::tree;
+use std::ops::RangeInclusive;
 
 /// The least lengths of lent record slices, and the most that a file has of each.
 const ENTRIES: usize = 256;
@@ -123,7 +124,7 @@ fn form_of(claim: ClaimRecords) -> Result<Form, Refusal> {
 /// The entries, and the length of their file.
 fn judge_claim(form: Form, claim: ClaimRecords) -> Result<(Vec<Entry>, usize), Refusal> {
     let mut walk = Walk::after(form.claim());
-    walk.count(claim.entry_count, ENTRIES, 2)?;
+    walk.count(claim.entry_count, form.records(ENTRIES), 2)?;
     let mut entries = Vec::with_capacity(claim.entry_count);
     for record in &claim.entries[..claim.entry_count] {
         let entry = record.entry().ok_or(walk.refusal(Fault::Map))?;
@@ -134,7 +135,7 @@ fn judge_claim(form: Form, claim: ClaimRecords) -> Result<(Vec<Entry>, usize), R
     let mut rest = claim.members;
     for &count in claim.goal_counts {
         let (members, others) = rest.split_at(count.into());
-        walk.count(members.len(), MEMBERS, 2)?;
+        walk.count(members.len(), 1..=MEMBERS, 2)?;
         walk.rising(members, |member| may_be_member(&entries, member))?;
         rest = others;
     }
@@ -142,15 +143,16 @@ fn judge_claim(form: Form, claim: ClaimRecords) -> Result<(Vec<Entry>, usize), R
     Ok((entries, walk.at))
 }
 
-/// The goal count, and the members "in a slice as long as these add up to (else 12
-/// at the goal count, after 72)". In the form with one goal no goal count is read,
-/// and the one member count is the length of the members' slice: what says anything
-/// else is 12 where that count stands.
+/// The goal count, which may be zero, and the members "in a slice as long as these
+/// add up to (else 12 at the goal count, after 72)": without goals there are none. In
+/// the form with one goal no goal count is read, and the one member count is the
+/// length of the members' slice: what says anything else is 12 where that count
+/// stands.
 fn judge_goal_counts(form: Form, claim: ClaimRecords, walk: &mut Walk) -> Result<(), Refusal> {
     let (counts, members) = (claim.goal_counts, claim.members.len());
     let add_up = match form {
         Form::One => matches!(counts, &[count] if usize::from(count) == members),
-        Form::Several if (1..=GOALS).contains(&counts.len()) => {
+        Form::Several if counts.len() <= GOALS => {
             counts
                 .iter()
                 .map(|&count| usize::from(count))
@@ -176,7 +178,7 @@ fn judge_proof(
     entries: &[Entry],
 ) -> Result<(Vec<Node>, usize), Refusal> {
     let mut walk = Walk::after(form.proof());
-    walk.count(proof.node_count, NODES, 2)?;
+    walk.count(proof.node_count, form.records(NODES), 2)?;
     judge_roots(form, goals, proof, &mut walk)?;
     let mut nodes = Vec::with_capacity(proof.node_count);
     let mut rest = proof.codes;
@@ -184,7 +186,7 @@ fn judge_proof(
         let node = record.node().ok_or(walk.refusal(Fault::Map))?;
         walk.head(node.rule.low_bits());
         if node.count > 0 {
-            walk.count(node.count.into(), MEMBERS, 1)?;
+            walk.count(node.count.into(), 1..=MEMBERS, 1)?;
             let (codes, others) = rest.split_at(node.count.into());
             walk.rising(codes, |code| may_be_member(entries, code / 2))?;
             rest = others;
@@ -215,6 +217,13 @@ fn judge_roots(
         return Err(walk.refusal(Fault::Member));
     }
     walk.rising(proof.roots, |root| usize::from(root) < proof.node_count)
+}
+
+impl Form {
+    /// How many entries or nodes there may be, up to so many.
+    fn records(self, most: usize) -> RangeInclusive<usize> {
+        self.fewest().into()..=most
+    }
 }
 
 impl EntryRecord {
@@ -289,9 +298,14 @@ impl Walk {
         Refusal::new(self.number + fault as u16, self.at)
     }
 
-    /// A count from 1, of so many bytes in the file.
-    fn count(&mut self, count: usize, most: usize, bytes: usize) -> Result<(), Refusal> {
-        if !(1..=most).contains(&count) {
+    /// A count, of so many bytes in the file.
+    fn count(
+        &mut self,
+        count: usize,
+        range: RangeInclusive<usize>,
+        bytes: usize,
+    ) -> Result<(), Refusal> {
+        if !range.contains(&count) {
             return Err(self.refusal(Fault::Count));
         }
         self.at += bytes;

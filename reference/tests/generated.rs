@@ -2,9 +2,10 @@
 //! outcome, proofs that are accepted, and claims that hold.
 
 use reference::corpus::CheckRecord;
-use reference::generate::{self, Tally};
+use reference::generate::{self, Empty, Tally};
 use reference::{check, corpus, describe, draft, evaluate, judge};
 use reference::{Claim, Entry, Form, Kind, Model, Proof, Rule};
+use std::collections::BTreeMap;
 
 #[test]
 fn the_same_seed_gives_the_same_inputs() {
@@ -424,4 +425,91 @@ fn accepted_claims_have_every_number_of_goals() {
     println!("of 10000 by goals: {counts:?}");
     assert!(counts[1..].iter().all(|&count| count > 0), "{counts:?}");
     assert!(counts[1] > 500 && counts[2..].iter().sum::<usize>() > 2_500);
+}
+
+/// What a run of claims and proofs has of each empty form: how often each answer.
+fn empty_forms(records: impl Iterator<Item = CheckRecord>) -> BTreeMap<Empty, Tally> {
+    let mut numbers: BTreeMap<Empty, Vec<u32>> = BTreeMap::new();
+    for record in records {
+        if let Some(empty) = Empty::of_files(&record.claim, &record.proof) {
+            numbers.entry(empty).or_default().push(record.number());
+        }
+    }
+    let tallied = |(empty, numbers): (Empty, Vec<u32>)| (empty, Tally::of(numbers.into_iter()));
+    numbers.into_iter().map(tallied).collect()
+}
+
+/// What is accepted with something empty, and what the rest must get.
+fn assert_empty_forms(found: &BTreeMap<Empty, Tally>, forms: &[Empty], least: usize) {
+    for (empty, tally) in found {
+        println!("lacks {empty:?}:\n{tally}");
+    }
+    for form in forms {
+        let tally = found.get(form).expect("a run has each of them");
+        assert!(tally.total() > least, "few of {form:?}");
+        let (accepted, numbers): (bool, &[u32]) = match form {
+            Empty::Everything => (true, &[]),
+            Empty::GoalsAndNodes => (true, &[20]),
+            Empty::Goals => (false, &[34, 35]),
+            Empty::Nodes => (false, &[31, 34]),
+            Empty::Entries => (false, &[12, 14, 72]),
+            Empty::OfOneGoal => (false, &[12, 32]),
+        };
+        assert_eq!(tally.count(0) > least / 2, accepted, "{form:?}");
+        assert!(accepted || tally.count(0) == 0, "{form:?}");
+        assert_occur(tally, numbers.iter().copied());
+    }
+}
+
+/// One in twenty at the least.
+#[test]
+fn files_that_lack_entries_goals_or_nodes() {
+    let found = empty_forms(generate::checks(21).take(20_000));
+    assert_empty_forms(&found, &Empty::ALL, 80);
+    let all: usize = found.values().map(Tally::total).sum();
+    println!("{all} of 20000 lack something");
+    assert!(all * 20 > 20_000);
+    let found = empty_forms(generate::goals(22).take(10_000));
+    assert_empty_forms(&found, &Empty::ALL[..5], 40);
+}
+
+/// "No goals but nodes: 35, at the first bad child number by rising parent, else at
+/// node 0."
+#[test]
+fn nodes_without_goals_are_refused_at_every_place() {
+    let (mut orphans, mut later) = (0, 0);
+    for record in generate::checks(24).take(20_000) {
+        let empty = Empty::of_files(&record.claim, &record.proof);
+        if empty == Some(Empty::Goals) && record.number() == 35 {
+            orphans += usize::from(record.answer & 0xffff == 0);
+            later += usize::from(record.answer & 0xffff != 0);
+        }
+    }
+    println!("of 20000 {orphans} without goals are refused at node 0, {later} at a later one");
+    assert!(orphans > 50 && later > 30);
+}
+
+/// Claims without goals and without entries, done and refused.
+#[test]
+fn evaluations_that_lack_entries_or_goals() {
+    let (mut no_entries, mut no_goals, mut refused) = (0, 0, [0; 2]);
+    for record in generate::evals(23).take(20_000) {
+        let Ok(claim) = Claim::read(&record.claim) else {
+            continue;
+        };
+        if claim.goals().count() > 0 {
+            continue;
+        }
+        let done = usize::from(record.answer == 0);
+        no_entries += done * usize::from(claim.entries.is_empty());
+        no_goals += done * usize::from(!claim.entries.is_empty());
+        refused[usize::from(record.number() >= 60)] += 1 - done;
+        assert_eq!(record.words.len(), done * claim.entries.len());
+    }
+    println!(
+        "of 20000 {no_entries} are done without entries, {no_goals} without goals, {refused:?} \
+         refused for their entries and for their model"
+    );
+    assert!(no_entries > 200 && no_goals > 200);
+    assert!(refused.iter().all(|&count| count > 50));
 }

@@ -84,10 +84,11 @@ fn two_goals() {
     assert_eq!(proof(&[0, 2], &nodes()), bytes);
 }
 
-/// "72, goal count over 16 or zero, judged where it is read, place its offset"
+/// "72, goal count over 16 [...], judged where it is read, place its offset"; by T-06
+/// not zero.
 #[test]
 fn the_goal_count() {
-    for count in [0u16, 17, 18, 255, 256, 257, 0x1000, 65_535] {
+    for count in [17u16, 18, 255, 256, 257, 0x1000, 65_535] {
         let mut claim = claim(&GOALS);
         claim[26..28].copy_from_slice(&count.to_le_bytes());
         assert_eq!(verdict(&claim, b""), "refuse 72 at 26");
@@ -99,8 +100,14 @@ fn the_goal_count() {
         let (claim, proof) = many_goals(goals, 24);
         assert_eq!(verdict(&claim.bytes, &proof.bytes), expected, "{goals}");
     }
+    // Nothing may follow a goal count of zero.
+    let mut none = claim(&GOALS);
+    none[26] = 0;
+    assert_eq!(verdict(&none, b""), "refuse 11 at 28");
+    assert_eq!(verdict(&none[..28], b""), "refuse 30 at 0");
+    assert_eq!(verdict(&none[..27], b""), "refuse 11 at 27");
     // "Judged where it is read": before 20 to 23, behind the entries' maps.
-    let mut late = claim(&[]);
+    let mut late = claim(&[&[2][..]; 17]);
     late[8] = 9;
     assert_eq!(verdict(&late, b""), "refuse 72 at 26");
     late[6] = 4;
@@ -148,8 +155,12 @@ fn root_lists() {
         let cut = verdict(&claim(&GOALS), &good[..length]);
         assert_eq!(cut, format!("refuse 31 at {length}"));
     }
-    // The node count stands before them.
-    assert_eq!(judged(&[0, 2], &[]), "refuse 32 at 4");
+    // The node count stands before them; by T-06 it may be zero, and no root is below.
+    assert_eq!(
+        judged(&[0, 2], &vec![nodes()[2].clone(); 1025]),
+        "refuse 32 at 4"
+    );
+    assert_eq!(judged(&[0, 2], &[]), "refuse 34 at 6");
 }
 
 /// "its nodes form one tree per goal": what is no root is a child once.

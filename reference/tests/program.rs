@@ -54,6 +54,9 @@ fn vectors_pass() {
         ("eval", "t04/eval.bin", 399),
         ("check", "t05/check.bin", 1506),
         ("write", "t05/write.bin", 598),
+        ("check", "t06/check.bin", 966),
+        ("eval", "t06/eval.bin", 274),
+        ("write", "t06/write.bin", 240),
     ] {
         let passed = run(&[form, &format!("{folder}/{file}")]);
         assert_eq!(passed, (format!("{count} passed, 0 failed\n"), Some(0)));

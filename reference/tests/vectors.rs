@@ -17,6 +17,7 @@ fn every_check_agrees() {
         ("t03/check.bin", 1534),
         ("t04/check.bin", 1435),
         ("t05/check.bin", 1506),
+        ("t06/check.bin", 966),
     ];
     for (file, count) in files {
         let checks = corpus::read_checks(&vectors(file)).expect("whole records");
@@ -53,9 +54,10 @@ fn every_evaluation_agrees() {
     assert_evaluated(file, &evals, 399);
     let far = |record: &&EvalRecord| record.answer as u32 > 65_535;
     assert_eq!(evals.iter().filter(far).count(), 10);
-    let file = "t05/eval.bin";
-    let evals = corpus::read_evals(&vectors(file)).expect("whole records");
-    assert_evaluated(file, &evals, 356);
+    for (file, count) in [("t05/eval.bin", 356), ("t06/eval.bin", 274)] {
+        let evals = corpus::read_evals(&vectors(file)).expect("whole records");
+        assert_evaluated(file, &evals, count);
+    }
 }
 
 #[test]
@@ -64,6 +66,7 @@ fn every_record_to_be_written_agrees() {
         ("t01/write.bin", 640),
         ("t04/write.bin", 337),
         ("t05/write.bin", 598),
+        ("t06/write.bin", 240),
     ] {
         let writes = corpus::read_writes(&vectors(file)).expect("whole records");
         assert_eq!(writes.len(), count, "{file}");

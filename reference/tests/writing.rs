@@ -2,7 +2,7 @@
 //! reader says of the file that the records stand for.
 
 use reference::corpus::WriteRecord;
-use reference::generate::{self, Tally};
+use reference::generate::{self, Empty, Tally};
 use reference::{
     check, judge, write_claim, write_proof, written, Claim, ClaimRecords, Decoded, EntryRecord,
     Kind, NodeRecord, ProofRecords, Records, Refusal, Rule,
@@ -398,10 +398,11 @@ fn goal_counts() {
         let counts = counts.to_vec();
         move |records: &mut Records| records.goal_counts = counts.clone()
     };
-    assert_refused_of_two(counts(&[]), 72, 26);
     assert_refused_of_two(counts(&[0; 17]), 72, 26);
     assert_refused_of_two(counts(&[1; 17]), 72, 26);
     assert_refused_of_two(counts(&[0; 65_538]), 72, 26);
+    // T-06: no goals are good, and add up to no members.
+    assert_refused_of_two(counts(&[]), 12, 26);
     assert_refused_of_two(counts(&[1, 1]), 12, 26);
     assert_refused_of_two(counts(&[1, 3]), 12, 26);
     assert_refused_of_two(counts(&[2]), 12, 26);
@@ -448,17 +449,21 @@ fn roots() {
     };
     for wrong in [&[][..], &[0], &[0, 2, 4], &[7; 65_538]] {
         assert_refused_of_two(roots(wrong), 34, 6);
-        let no_nodes = |records: &mut Records| {
-            roots(wrong)(records);
-            records.node_count = 0;
-        };
-        assert_refused_of_two(no_nodes, 32, 4);
+        for nodes in [1025, usize::MAX] {
+            let many_nodes = |records: &mut Records| {
+                roots(wrong)(records);
+                records.node_count = nodes;
+            };
+            assert_refused_of_two(many_nodes, 32, 4);
+        }
         let unfit = |records: &mut Records| {
             roots(wrong)(records);
             records.nodes[0].rule = 12;
         };
         assert_refused_of_two(unfit, 34, 6);
     }
+    // T-06: zero nodes are good, and no root is one of them.
+    assert_refused_of_two(|records| records.node_count = 0, 34, 6);
     assert_refused_of_two(roots(&[0, 0]), 34, 8);
     assert_refused_of_two(roots(&[2, 0]), 34, 8);
     assert_refused_of_two(roots(&[0, 5]), 34, 8);
@@ -485,6 +490,117 @@ fn one_goal_has_one_count_and_no_roots() {
         };
         assert_refused(no_nodes, 32, 4);
     }
+}
+
+/// No entries, no goals and no nodes, of the form that may have none.
+fn nothing() -> Records {
+    Records {
+        form: 2,
+        goal_counts: Vec::new(),
+        ..lent(&[], &[], &[], &[])
+    }
+}
+
+const EMPTY_CLAIM: &[u8] = b"CLM2\0\0\0\0";
+const EMPTY_PROOF: &[u8] = b"PRF2\0\0";
+
+#[test]
+fn nothing_is_laid_down() {
+    assert_eq!(nothing().write_claim(), Ok(EMPTY_CLAIM.to_vec()));
+    assert_eq!(nothing().write_proof(), Ok(EMPTY_PROOF.to_vec()));
+    assert_eq!(check(EMPTY_CLAIM, EMPTY_PROOF), 0);
+    assert_gives_back(&nothing(), EMPTY_CLAIM, EMPTY_PROOF);
+    // With entries, and no goals over them.
+    let mut records = two_goals();
+    records.goal_counts.clear();
+    records.members.clear();
+    records.roots.clear();
+    records.node_count = 0;
+    let claim = [&GOAL_CLAIM[..26], &[0, 0]].concat();
+    assert_eq!(records.write_claim(), Ok(claim.clone()));
+    assert_eq!(records.write_proof(), Ok(EMPTY_PROOF.to_vec()));
+    assert_eq!(check(&claim, EMPTY_PROOF), 0);
+}
+
+/// "Refusal 1 comes first", 70 last, and in between nothing is too short.
+#[test]
+fn nothing_in_short_slices() {
+    let records = nothing();
+    let (claim, proof) = (records.claim(), records.proof());
+    let mut out = [7; 20];
+    let entries = without_last(claim.entries);
+    let short = ClaimRecords { entries, ..claim };
+    assert_eq!(write_claim(short, &mut out), refusal(1, 0));
+    assert_eq!(write_proof(short, proof, &mut out), refusal(1, 0));
+    let nodes = without_last(proof.nodes);
+    let short = ProofRecords { nodes, ..proof };
+    assert_eq!(write_proof(claim, short, &mut out), refusal(1, 0));
+    for length in 0..EMPTY_CLAIM.len() {
+        let got = write_claim(claim, &mut out[..length]);
+        assert_eq!(got, refusal(70, 0));
+    }
+    for length in 0..EMPTY_PROOF.len() {
+        let got = write_proof(claim, proof, &mut out[..length]);
+        assert_eq!(got, refusal(70, 0));
+    }
+    assert_eq!(out, [7; 20]);
+    assert_eq!(write_claim(claim, &mut out[..8]), Ok(8));
+    assert_eq!(out[..], [EMPTY_CLAIM, &[7; 12]].concat());
+    assert_eq!(write_proof(claim, proof, &mut out[..6]), Ok(6));
+    assert_eq!(out[..], [EMPTY_PROOF, b"\0\0", &[7; 12]].concat());
+}
+
+/// Nothing but for one thing: the number and place that the reader would give.
+fn assert_refused_of_nothing(change: fn(&mut Records), number: u16, place: u32) {
+    assert_changed(nothing(), change, number, place);
+}
+
+#[test]
+fn a_claim_of_little() {
+    let refused = assert_refused_of_nothing;
+    refused(|records| records.form = 1, 12, 4);
+    refused(|records| records.form = 3, 10, 0);
+    refused(|records| records.entry_count = 257, 12, 4);
+    refused(|records| records.entry_count = 1 << 32, 12, 4);
+    // What stands beyond the count of zero was not to be read.
+    refused(|records| records.entry_count = 1, 13, 6);
+    refused(|records| records.goal_counts = vec![0; 17], 72, 6);
+    refused(|records| records.members = vec![0], 12, 6);
+    refused(|records| records.members = vec![0; 65_536], 12, 6);
+    refused(|records| records.goal_counts = vec![0], 12, 8);
+    refused(|records| records.goal_counts = vec![1], 12, 6);
+    let goal = |records: &mut Records| {
+        records.goal_counts = vec![1];
+        records.members = vec![0];
+    };
+    refused(goal, 14, 10);
+}
+
+#[test]
+fn a_proof_of_little() {
+    let refused = assert_refused_of_nothing;
+    refused(|records| records.roots = vec![0], 34, 6);
+    refused(|records| records.roots = vec![0; 65_536], 34, 6);
+    refused(|records| records.node_count = 1025, 32, 4);
+    refused(|records| records.node_count = 1 << 32, 32, 4);
+    refused(|records| records.node_count = 1, 33, 6);
+    let leaf = |records: &mut Records| {
+        records.nodes[0] = node(Rule::Ax2, [0; 4], 0);
+        records.node_count = 1;
+    };
+    refused(leaf, 35, 0);
+    let path = |records: &mut Records| {
+        records.nodes[0] = node(Rule::D, [0, 1, 0, 0], 0);
+        records.nodes[1] = node(Rule::D, [0, 1, 0, 0], 0);
+        records.node_count = 2;
+    };
+    refused(path, 35, 1);
+    let code = |records: &mut Records| {
+        records.nodes[0] = node(Rule::Ax2, [0; 4], 1);
+        records.codes[0] = 0;
+        records.node_count = 1;
+    };
+    refused(code, 34, 9);
 }
 
 /// "Reading a written file must give the records back".
@@ -549,6 +665,28 @@ fn every_outcome_of_writing_occurs() {
         assert!(proofs.count(number) > 0, "no refusal {number} in\n{proofs}");
     }
     assert!(proofs.count(0) * 4 > proofs.total(), "few in\n{proofs}");
+}
+
+/// One in twenty at the least lacks entries, goals or nodes.
+#[test]
+fn records_that_lack_entries_goals_or_nodes() {
+    let mut found = Empty::ALL.map(|empty| (empty, 0, 0));
+    for record in generate::writes(6).take(10_000) {
+        let lacks = Empty::of_records(&record.records);
+        for (empty, count, written) in &mut found {
+            let same = lacks == Some(*empty);
+            *count += usize::from(same);
+            *written += usize::from(same && record.claim.is_ok() && record.proof.is_ok());
+        }
+    }
+    println!("of 10000 these lack something, and so many are written: {found:?}");
+    for (empty, count, written) in found {
+        let good = matches!(empty, Empty::Everything | Empty::GoalsAndNodes);
+        assert!(count > 30, "few of {empty:?}");
+        assert_eq!(written > 20, good, "{empty:?}");
+        assert!(good || written == 0, "{empty:?}");
+    }
+    assert!(found.iter().map(|(_, count, _)| count).sum::<usize>() * 20 > 10_000);
 }
 
 #[test]

@@ -518,21 +518,23 @@ static const size_t short_records[][3] = {
 };
 enum { SHORT_RECORDS = sizeof short_records / sizeof short_records[0] };
 
-/* The writer over records of which none is set, in each form and in none. */
+/* The writer over records of which none is set, in each form and in none; with one of
+ * each that counts, or with nothing. */
 static struct tally write_short(void)
 {
     struct tally refused = {0, 0, 0};
-    for (size_t i = 0; i < 4 * SHORT_RECORDS; i++) {
-        const size_t *lengths = short_records[i / 4];
+    for (size_t i = 0; i < 8 * SHORT_RECORDS; i++) {
+        const size_t *lengths = short_records[i / 8];
         struct records records = {0};
         records.form = (uint8_t)(i % 4);
-        records.entry_count = 1;
-        records.node_count = 1;
+        size_t counted_records = i / 4 % 2;
+        records.entry_count = counted_records;
+        records.node_count = counted_records;
         records.entries = block(lengths[0], sizeof *records.entries);
-        records.goal_counts = new_list(2);
-        records.members = new_list(2);
+        records.goal_counts = new_list(2 * counted_records);
+        records.members = new_list(2 * counted_records);
         records.nodes = block(lengths[1], sizeof *records.nodes);
-        records.roots = new_list(2);
+        records.roots = new_list(2 * counted_records);
         records.codes = block(lengths[2], sizeof *records.codes);
         size_t out_len = FOCUS_GOALS_PROOF_BYTES;
         uint8_t *out = block(out_len, 1);

@@ -8,7 +8,8 @@ use Rattle.verdict.specs.Lists.{written}
 use Rattle.formula.specs.Table.{Entry, Table}
 use Rattle.formula.specs.Columns.{column, kindColumn, aColumn, bColumn, column-stored}
 use Rattle.formula.specs.Spelled.{Spelled, marked, markedOf, tableBy, by-length, by-more}
-use Rattle.encoding.specs.Parse.{Got, fault, times, count, two}
+use Rattle.formula.specs.Claim.{Form, fewest}
+use Rattle.encoding.specs.Parse.{Got, fault, times, listed, count, two}
 use Rattle.claim_files.specs.ReadClaim.{early, entry, entries}
 use Rattle.encoding.specs.Walk.{Reached, Walking, walk-begins, walk-steps, walk-stops, walk-ends, counted-starts, counted-cut}
 use Rattle.encoding.specs.Places.{InFile}
@@ -34,25 +35,31 @@ unfoldable pub entriesFrom : ℕ → List ℕ → ℕ → Got (List Spelled)
 entriesFrom n s at = times (λ _. entry) (λ _ _. 0) n 0 (drop at s) at
 
 -- the entries' part of a file
-unfoldable pub entriesAt : List ℕ → ℕ → Got (List Spelled)
-entriesAt s at = entries (drop at s) at
+unfoldable pub entriesAt : ℕ → List ℕ → ℕ → Got (List Spelled)
+unfolding times
+entriesAt least s at = listed (count least 256 12 (two early)) entry (drop at s) at
 
-module _ (s : List ℕ) (at : ℕ) where
-  pub entries-cut : {n q : ℕ} → countAt 256 12 early s at ≡ fault n q → entriesAt s at ≡ fault n q
-  unfolding entriesAt entries countAt
-  entries-cut h = counted-cut (λ _. entry) (λ _ _. 0) (count 256 12 (two early)) (drop at s) at h
+-- as the form has it
+pub form-entries : (f : Form) (s : List ℕ) (at : ℕ) → entries f (drop at s) at ≡ entriesAt (fewest f) s at
+unfolding entriesAt entries
+form-entries f s at = refl
 
-  pub entries-start : {n o limit : ℕ} → Reached s limit (countAt 256 12 early s at) n o → entriesAt s at ≡ entriesFrom n s o
-  unfolding entriesAt entries countAt entriesFrom
-  entries-start h = counted-starts (λ _. entry) (λ _ _. 0) (count 256 12 (two early)) (drop at s) at (h .found)
+module _ (least : ℕ) (s : List ℕ) (at : ℕ) where
+  pub entries-cut : {n q : ℕ} → countAt least 256 12 early s at ≡ fault n q → entriesAt least s at ≡ fault n q
+  unfolding entriesAt countAt
+  entries-cut h = counted-cut (λ _. entry) (λ _ _. 0) (count least 256 12 (two early)) (drop at s) at h
+
+  pub entries-start : {n o limit : ℕ} → Reached s limit (countAt least 256 12 early s at) n o → entriesAt least s at ≡ entriesFrom n s o
+  unfolding entriesAt countAt entriesFrom
+  entries-start h = counted-starts (λ _. entry) (λ _ _. 0) (count least 256 12 (two early)) (drop at s) at (h .found)
 
 -- the part begins at offset 4: no entry lies past offset 1,542
-module _ (s : List ℕ) {n o : ℕ} (h : Reached s (4 + 2) (countAt 256 12 early s 4) n o) where
+module _ (least : ℕ) (s : List ℕ) {n o : ℕ} (h : Reached s (4 + 2) (countAt least 256 12 early s 4) n o) where
   pub entries-place : InFile s 6 o × (n ≤ 256)
-  entries-place = (record { within = h .inside; low = h .near }, count-inside early s 4 256 12 h .1)
+  entries-place = (record { within = h .inside; low = h .near }, count-inside early s 4 least 256 12 h .1)
 
-  pub entries-tell : (Stored : List Spelled → Type 0) (r : Part) → PartTells s (o + 6 * n) 256 (entriesFrom n s o) Stored r → PartTells s 1542 256 (entriesAt s 4) Stored r
-  entries-tell Stored r t = part-as s 256 Stored r (omega (arith, h .near, count-inside early s 4 256 12 h)) (entries-start s 4 h) t
+  pub entries-tell : (Stored : List Spelled → Type 0) (r : Part) → PartTells s (o + 6 * n) 256 (entriesFrom n s o) Stored r → PartTells s 1542 256 (entriesAt least s 4) Stored r
+  entries-tell Stored r t = part-as s 256 Stored r (omega (arith, h .near, count-inside early s 4 least 256 12 h)) (entries-start least s 4 h) t
 
 -- i of n entries are read and stored
 pub record Entered (s : List ℕ) (from n : ℕ) (ks₀ xs₀ ys₀ : List ℕ) (i at : ℕ) (ks xs ys : List ℕ) : Type 0 where

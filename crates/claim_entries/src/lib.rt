@@ -151,19 +151,20 @@ fn store_entries(
     Part::Read { count, next: at }
 }
 
-// Two bytes, the entry count (1 to 256); the entries.
+// Two bytes, the entry count (from the least to 256); the entries.
 pub fn read_entries(
     bytes: &[u8],
+    least: u16,
     kinds: &mut [u8; 256],
     a: &mut [u16; 256],
     b: &mut [u16; 256],
 ) -> Part
     requires { ⌜ EntryArrays (now kinds) (now a) (now b) ⌝ }
     requires { ⌜ 4 ≤ length (now bytes) ⌝ }
-    ensures { λ r. ⌜ PartTells (now (bytes .entry)) 1542 256 (entriesAt (now (bytes .entry)) 4)
+    ensures { λ r. ⌜ PartTells (now (bytes .entry)) 1542 256 (entriesAt least (now (bytes .entry)) 4)
         (λ es. EntriesStored (now (kinds .entry)) (now (kinds .exit)) (now (a .entry)) (now (a .exit)) (now (b .entry)) (now (b .exit)) (markedOf es)) r ⌝ }
 {
-    match count_at(bytes, 4, 256, ClaimFault::COUNT, ClaimFault::LENGTH) {
+    match count_at(bytes, 4, least, 256, ClaimFault::COUNT, ClaimFault::LENGTH) {
         Number::Refused { number, place } => Part::Refused { number, place },
         Number::Read { value, next } => store_entries(bytes, next, value as usize, kinds, a, b),
     }

@@ -5,7 +5,7 @@ use Prim.Native.Nat.{ℕ, _+_, _<_}
 use lib.ListN.{length}
 use Rattle.verdict.specs.Lists.{Each, Rising}
 use Rattle.formula.specs.Spelled.{Spelled, aStands, bStands, recordsOf}
-use Rattle.formula.specs.Claim.{Form, clm2}
+use Rattle.formula.specs.Claim.{Form, clm2, fewest}
 use Rattle.formula.specs.Codes.{Formula}
 use Rattle.bits.specs.IfSet.{ifSet}
 use Rattle.encoding.specs.Encode.{TwoBytes, PairOfBytes, encodePair, encodeTwo, encodeAll, Counts}
@@ -36,27 +36,27 @@ width (at-goal-count es) = 2
 width (at-member-count es k gs) = 2
 width (at-member es k gs n ms) = 2
 
--- bytes that may not come next, and the number that they earn
-abbrev pub Wrong : ClaimStage → List ℕ → ℕ → Type 0
--- a count out of range
-Wrong at-entry-count = Unfit encodeTwo TwoBytes (Counts 256) 12
--- map or kind unfit
-Wrong (at-entry n es) = Unfit encodePair PairOfBytes FitKind 13
-Wrong (at-fields n es p) = λ _ _. ⊥
--- goal count over 16 or zero
-Wrong (at-goal-count es) = Unfit encodeTwo TwoBytes (Counts 16) 72
--- a count out of range
-Wrong (at-member-count es k gs) = Unfit encodeTwo TwoBytes (Counts 24) 12
--- a member not rising, out of range, or a name
-Wrong (at-member es k gs n ms) = Unfit encodeTwo TwoBytes (λ m. Rising (ms ++ (m ∷ [])) × Formula (recordsOf es) m) 14
-
--- some of n entries, well formed
-pub record SomeEntries (n : ℕ) (es : List Spelled) : Type 0 where
-  pub count : Counts 256 n
-  pub fewer : length es < n
-  pub each : Each FitEntry es
-
 module _ (f : Form) where
+  -- bytes that may not come next, and the number that they earn
+  abbrev pub Wrong : ClaimStage → List ℕ → ℕ → Type 0
+  -- a count out of range; in CLM2 none is an entry count too
+  Wrong at-entry-count = Unfit encodeTwo TwoBytes (Counts (fewest f) 256) 12
+  -- map or kind unfit
+  Wrong (at-entry n es) = Unfit encodePair PairOfBytes FitKind 13
+  Wrong (at-fields n es p) = λ _ _. ⊥
+  -- goal count over 16
+  Wrong (at-goal-count es) = Unfit encodeTwo TwoBytes (Counts 0 16) 72
+  -- a count out of range
+  Wrong (at-member-count es k gs) = Unfit encodeTwo TwoBytes (Counts 1 24) 12
+  -- a member not rising, out of range, or a name
+  Wrong (at-member es k gs n ms) = Unfit encodeTwo TwoBytes (λ m. Rising (ms ++ (m ∷ [])) × Formula (recordsOf es) m) 14
+
+  -- some of n entries, well formed
+  pub record SomeEntries (n : ℕ) (es : List Spelled) : Type 0 where
+    pub count : Counts (fewest f) 256 n
+    pub fewer : length es < n
+    pub each : Each FitEntry es
+
   -- the bytes read, from the opening on
   abbrev pub done : ClaimStage → List ℕ
   done at-entry-count = []
@@ -68,7 +68,7 @@ module _ (f : Form) where
 
   -- some of k goals, well formed
   pub record SomeGoals (es : List Spelled) (k : ℕ) (gs : List (List ℕ)) : Type 0 where
-    pub entries : FitEntries es
+    pub entries : FitEntries f es
     pub count : GoalCount f k
     pub fewer : length gs < k
     pub each : Each (FitMembers es) gs
@@ -76,7 +76,7 @@ module _ (f : Form) where
   -- some of n members of the next, well formed
   pub record SomeMembers (es : List Spelled) (k : ℕ) (gs : List (List ℕ)) (n : ℕ) (ms : List ℕ) : Type 0 where
     pub goals : SomeGoals es k gs
-    pub count : Counts 24 n
+    pub count : Counts 1 24 n
     pub fewer : length ms < n
     pub rising : Rising ms
     pub each : Each (Formula (recordsOf es)) ms
@@ -86,7 +86,7 @@ module _ (f : Form) where
   Reached at-entry-count = Unit
   Reached (at-entry n es) = SomeEntries n es
   Reached (at-fields n es p) = SomeEntries n es × FitKind p
-  Reached (at-goal-count es) = (f ≡ clm2) × FitEntries es
+  Reached (at-goal-count es) = (f ≡ clm2) × FitEntries f es
   Reached (at-member-count es k gs) = SomeGoals es k gs
   Reached (at-member es k gs n ms) = SomeMembers es k gs n ms
 

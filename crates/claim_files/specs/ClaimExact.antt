@@ -8,7 +8,7 @@ use lib.ListN.{getD}
 use Rattle.verdict.specs.Tells.{Tells, tells-as, and-tells, or-tells, leb-tells, eqb-tells, fails-holds}
 use Rattle.formula.specs.Kind
 use Rattle.formula.specs.Spelled.{Spelled, aStands, bStands, recordsOf, by-length, recordOf}
-use Rattle.formula.specs.Claim.{Form, clm1, clm2, SpelledClaim}
+use Rattle.formula.specs.Claim.{Form, clm1, clm2, fewest, SpelledClaim}
 use Rattle.bits.specs.IfSet.{if-set-le}
 use Rattle.formula.specs.Fields.{hasA, hasB, isModal, mapOf}
 use Rattle.encoding.specs.Encode.{FitField, Bytes, PairOfBytes, encodePair}
@@ -55,35 +55,35 @@ entry-exact =
     (λ e h. ((((fit-byte (e .map) (e .kind) (h .fits), omega (arith, h .known)), (h .known, h .fits)), (h .a-fits, h .b-fits)), refl, refl))
     (λ w h. (record { known = h .0 .1 .0; fits = h .0 .1 .1; a-fits = h .1 .0; b-fits = h .1 .1 }, refl))
 
-pub entries-exact : Exact entries encodeEntries FitEntries
+pub entries-exact : (f : Form) → Exact (entries f) encodeEntries (FitEntries f)
 unfolding entries
-entries-exact =
-    exact-as (λ es h. record { count = h .0 .1; each = h .1 }) (λ es f. ((omega (arith, f .count), f .count), f .each))
-    (listed-exact (count-exact 256 12 (two-exact early)) entry-exact)
+entries-exact f =
+    exact-as (λ es h. record { count = h .0 .1; each = h .1 }) (λ es k. ((omega (arith, k .count), k .count), k .each))
+    (listed-exact (count-exact (fewest f) 256 12 (two-exact early)) entry-exact)
 
-pub members-exact : (es : List Spelled) → FitEntries es → Exact (members es) encodeMembers (FitMembers es)
+pub members-exact : (f : Form) (es : List Spelled) → FitEntries f es → Exact (members es) encodeMembers (FitMembers es)
 unfolding members
-members-exact es f =
+members-exact f es k =
     exact-as
     (λ ms h. record { count = h .0 .1; rising = h .1; each = each-as (λ m (_, q). q) (h .2) })
-    (λ ms h. ((omega (arith, h .count), h .count), h .rising, each-as (λ m q. (omega (arith, q .inside, f .count, by-length recordOf es), q)) (h .each)))
-    (rising-exact (count-exact 24 12 (two-exact early)) (two-exact early) (formula-tells (recordsOf es)) 14)
+    (λ ms h. ((omega (arith, h .count), h .count), h .rising, each-as (λ m q. (omega (arith, q .inside, k .count, by-length recordOf es), q)) (h .each)))
+    (rising-exact (count-exact 1 24 12 (two-exact early)) (two-exact early) (formula-tells (recordsOf es)) 14)
 
 pub goal-count-exact : (f : Form) → Exact (goalCount f) (encodeGoalCount f) (GoalCount f)
 goal-count-exact clm1 = known-exact 1
-goal-count-exact clm2 = exact-as (λ n h. h .1) (λ n h. (omega arith, h)) (count-exact 16 72 (two-exact early))
+goal-count-exact clm2 = exact-as (λ n h. h .1) (λ n h. (omega arith, h)) (count-exact 0 16 72 (two-exact early))
 
-pub goals-exact : (f : Form) (es : List Spelled) → FitEntries es → Exact (goals f es) (encodeGoals f) (FitGoals f es)
+pub goals-exact : (f : Form) (es : List Spelled) → FitEntries f es → Exact (goals f es) (encodeGoals f) (FitGoals f es)
 unfolding goals
 goals-exact f es h =
-    exact-as (λ gs k. record { count = k .0; each = k .1 }) (λ gs k. (k .count, k .each)) (listed-exact (goal-count-exact f) (members-exact es h))
+    exact-as (λ gs k. record { count = k .0; each = k .1 }) (λ gs k. (k .count, k .each)) (listed-exact (goal-count-exact f) (members-exact f es h))
 
 module _ (f : Form) where
   pub body-exact : Exact (body f) encodeBody (FitIn f)
   unfolding body
   body-exact =
-      via-exact (seq-exact entries-exact (goals-exact f)) (claimOf f) (λ c. (c .spelling, c .goals))
-      (λ c (e, k). ((k .entries, rw (← e) (k .goals)), rw (← e) refl, rw (← e) refl))
+      via-exact (seq-exact (entries-exact f) (goals-exact f)) (claimOf f) (λ c. (c .spelling, c .goals))
+      (λ c (e, k). ((rw (← e) (k .entries), rw (← e) (k .goals)), rw (← e) refl, rw (← e) refl))
       (λ p h. ((refl, record { entries = h .0; goals = h .1 }), refl))
 
   -- a file of one form

@@ -1,4 +1,4 @@
--- claim files as document 01, T-04 and T-05 write them: the encoding in both forms, and which entries and goals a file may hold
+-- claim files as document 01, T-04, T-05 and T-06 write them: the encoding in both forms, and which entries and goals a file may hold
 use mathlib.Core.Path.{_≡_}
 use mathlib.Core.Logic.{_⊎_}
 use mathlib.Core.List.{List, [], _∷_, _++_}
@@ -7,7 +7,7 @@ use lib.ListN.{length}
 use Rattle.verdict.specs.Lists.{Each, Rising}
 use Rattle.formula.specs.Kind
 use Rattle.formula.specs.Spelled.{Spelled, aStands, bStands, recordsOf}
-use Rattle.formula.specs.Claim.{Form, clm1, clm2, SpelledClaim}
+use Rattle.formula.specs.Claim.{Form, clm1, clm2, fewest, SpelledClaim}
 use Rattle.formula.specs.Codes.{Formula}
 use Rattle.formula.specs.Fields.{mapOf}
 use Rattle.encoding.specs.Encode.{FitField, encodePair, encodeTwo, encodeField, encodeCounted, Counts}
@@ -63,30 +63,30 @@ pub record FitEntry (e : Spelled) : Type 0 where
   pub a-fits : FitField (aStands (e .map)) (e .a)
   pub b-fits : FitField (bStands (e .map)) (e .b)
 
-pub record FitEntries (es : List Spelled) : Type 0 where
-  -- the entry count (1 to 256)
-  pub count : Counts 256 (length es)
+pub record FitEntries (f : Form) (es : List Spelled) : Type 0 where
+  -- the entry count (1 to 256, in CLM2 from 0 on)
+  pub count : Counts (fewest f) 256 (length es)
   pub each : Each FitEntry es
 
 pub record FitMembers (es : List Spelled) (ms : List ℕ) : Type 0 where
   -- the member count (1 to 24)
-  pub count : Counts 24 (length ms)
+  pub count : Counts 1 24 (length ms)
   -- strictly rising
   pub rising : Rising ms
   -- entry numbers in range, no names
   pub each : Each (Formula (recordsOf es)) ms
 
--- the goal count (1 to 16); CLM1 has one goal
+-- the goal count (0 to 16); CLM1 has one goal
 abbrev pub GoalCount : Form → ℕ → Type 0
 GoalCount clm1 n = n ≡ 1
-GoalCount clm2 n = Counts 16 n
+GoalCount clm2 n = Counts 0 16 n
 
 pub record FitGoals (f : Form) (es : List Spelled) (gs : List (List ℕ)) : Type 0 where
   pub count : GoalCount f (length gs)
   pub each : Each (FitMembers es) gs
 
 pub record FitClaim (c : SpelledClaim) : Type 0 where
-  pub entries : FitEntries (c .spelling)
+  pub entries : FitEntries (c .form) (c .spelling)
   pub goals : FitGoals (c .form) (c .spelling) (c .goals)
 
 -- the claim fits, in this form

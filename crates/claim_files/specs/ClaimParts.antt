@@ -6,7 +6,7 @@ use Prim.Native.Nat.{ℕ, _+_}
 use native.Mathlib.Omega.{arith}
 use Rattle.verdict.specs.Lists.{Each}
 use Rattle.formula.specs.Spelled.{Spelled, aStands, bStands, recordsOf, recordOf, by-length}
-use Rattle.formula.specs.Claim.{Form, clm1, clm2, formNumber}
+use Rattle.formula.specs.Claim.{Form, clm1, clm2, formNumber, fewest}
 use Rattle.formula.specs.Codes.{Formula}
 use Rattle.bits.specs.IfSet.{ifSet}
 use Rattle.encoding.specs.Encode.{TwoBytes, PairOfBytes, encodePair, encodeTwo, encodeAll, Counts}
@@ -32,18 +32,18 @@ EntryParts =
     followed encodePair (λ p. PairOfBytes p × FitKind p) (tested 2 encodePair PairOfBytes FitKind 13)
     (λ p. raw (ifSet (aStands (p .0)) 2 + ifSet (bStands (p .0)) 2))
 
-abbrev CountPart : ℕ → Stages
-CountPart top = tested 2 encodeTwo TwoBytes (Counts top) 12
+abbrev CountPart : ℕ → ℕ → Stages
+CountPart least top = tested 2 encodeTwo TwoBytes (Counts least top) 12
 
-abbrev EntriesParts : Stages
-EntriesParts = listing encodeTwo (λ n. TwoBytes n × Counts 256 n) (CountPart 256) encodeEntry FitEntry EntryParts
+abbrev EntriesParts : Form → Stages
+EntriesParts f = listing encodeTwo (λ n. TwoBytes n × Counts (fewest f) 256 n) (CountPart (fewest f) 256) encodeEntry FitEntry EntryParts
 
 abbrev MembersParts : List Spelled → Stages
-MembersParts es = climbing encodeTwo (λ n. TwoBytes n × Counts 24 n) (CountPart 24) 2 encodeTwo TwoBytes (Formula (recordsOf es)) 14
+MembersParts es = climbing encodeTwo (λ n. TwoBytes n × Counts 1 24 n) (CountPart 1 24) 2 encodeTwo TwoBytes (Formula (recordsOf es)) 14
 
 -- the goal count stands in CLM2 alone
 abbrev GoalCountPart : Form → Stages
-GoalCountPart f = record { Stage = Unit; done = λ _. []; Reached = λ _. f ≡ clm2; width = λ _. 2; Wrong = λ _. Unfit encodeTwo TwoBytes (Counts 16) 72 }
+GoalCountPart f = record { Stage = Unit; done = λ _. []; Reached = λ _. f ≡ clm2; width = λ _. 2; Wrong = λ _. Unfit encodeTwo TwoBytes (Counts 0 16) 72 }
 
 abbrev GoalsParts : Form → List Spelled → Stages
 GoalsParts f es = listing (encodeGoalCount f) (GoalCount f) (GoalCountPart f) encodeMembers (FitMembers es) (MembersParts es)
@@ -55,13 +55,14 @@ entry-refuses =
     (λ p _. raw-refuses (seq-takes (field-takes early (aStands (p .0))) (λ _. field-takes early (bStands (p .0))))))
     made
 
-entries-refuse : Refuses early entries EntriesParts
+entries-refuse : (f : Form) → Refuses early (entries f) (EntriesParts f)
 unfolding entries
-entries-refuse = listed-refuses (count-exact 256 12 (two-exact early)) (count-refuses 256 12 (two-takes early) (two-exact early)) entry-exact entry-refuses
+entries-refuse f =
+    listed-refuses (count-exact (fewest f) 256 12 (two-exact early)) (count-refuses (fewest f) 256 12 (two-takes early) (two-exact early)) entry-exact entry-refuses
 
 members-refuse : (es : List Spelled) → Refuses early (members es) (MembersParts es)
 unfolding members
-members-refuse es = rising-refuses (count-exact 24 12 (two-exact early)) (count-refuses 24 12 (two-takes early) (two-exact early)) (two-exact early) (two-takes early) (formula-tells (recordsOf es)) 14
+members-refuse es = rising-refuses (count-exact 1 24 12 (two-exact early)) (count-refuses 1 24 12 (two-takes early) (two-exact early)) (two-exact early) (two-takes early) (formula-tells (recordsOf es)) 14
 
 goal-count-refuses : (f : Form) → Refuses early (goalCount f) (GoalCountPart f)
 goal-count-refuses clm1 = record { says = λ s at n q b h. absurd (fault-not-got (sym h)); holds = holds }
@@ -72,25 +73,25 @@ goal-count-refuses clm1 = record { says = λ s at n q b h. absurd (fault-not-got
     holds : (s : List ℕ) (at n q : ℕ) → Stopped early (GoalCountPart clm1) s at n q → _≡_ {A = Got ℕ} (got 1 s at) (fault n q)
     holds s at n q (ends-early σ t r i l) = absurd (other r)
     holds s at n q (wrong σ w t r i k) = absurd (other r)
-goal-count-refuses clm2 = refuses-as (renames-each into) (renames-each from) (count-refuses 16 72 (two-takes early) (two-exact early))
+goal-count-refuses clm2 = refuses-as (renames-each into) (renames-each from) (count-refuses 0 16 72 (two-takes early) (two-exact early))
   where
-    into : Stands (tested 2 encodeTwo TwoBytes (Counts 16) 72) (GoalCountPart clm2)
+    into : Stands (tested 2 encodeTwo TwoBytes (Counts 0 16) 72) (GoalCountPart clm2)
     into σ r = record { stage = tt; reached = refl; same = refl; wide = refl; wrongs = λ w n u. u }
 
-    from : Stands (GoalCountPart clm2) (tested 2 encodeTwo TwoBytes (Counts 16) 72)
+    from : Stands (GoalCountPart clm2) (tested 2 encodeTwo TwoBytes (Counts 0 16) 72)
     from σ r = record { stage = tt; reached = tt; same = refl; wide = refl; wrongs = λ w n u. u }
 
 module _ (f : Form) where
-  goals-refuse : (es : List Spelled) → FitEntries es → Refuses early (goals f es) (GoalsParts f es)
+  goals-refuse : (es : List Spelled) → FitEntries f es → Refuses early (goals f es) (GoalsParts f es)
   unfolding goals
-  goals-refuse es h = listed-refuses (goal-count-exact f) (goal-count-refuses f) (members-exact es h) (members-refuse es)
+  goals-refuse es h = listed-refuses (goal-count-exact f) (goal-count-refuses f) (members-exact f es h) (members-refuse es)
 
   abbrev Parts : Stages
-  Parts = followed encodeEntries FitEntries EntriesParts (GoalsParts f)
+  Parts = followed encodeEntries (FitEntries f) (EntriesParts f) (GoalsParts f)
 
   parts-refuse : Refuses early (body f) Parts
   unfolding body
-  parts-refuse = via-refuses (seq-refuses entries-refuse entries-exact goals-refuse) (claimOf f)
+  parts-refuse = via-refuses (seq-refuses (entries-refuse f) (entries-exact f) goals-refuse) (claimOf f)
 
   -- each part is a stage in the documents' words
   parts-stages : Stands Parts (claimStages f)

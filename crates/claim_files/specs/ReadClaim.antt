@@ -5,7 +5,7 @@ use Prim.Native.Nat.{ℕ}
 use lib.Dec.{eqb, leb}
 use Rattle.formula.specs.Kind
 use Rattle.formula.specs.Spelled.{Spelled, aStands, bStands, recordsOf}
-use Rattle.formula.specs.Claim.{Form, clm1, clm2, SpelledClaim}
+use Rattle.formula.specs.Claim.{Form, clm1, clm2, fewest, SpelledClaim}
 use Rattle.formula.specs.Fields.{isModal, mapOf}
 use Rattle.encoding.specs.Parse.{Parser, seq, guard, via, bytes, two, field, count, times, listed, rising}
 use Rattle.encoding.specs.File.{Reading, readFile}
@@ -35,18 +35,18 @@ made p = record { map = p .0 .0; kind = p .0 .1; a = p .1 .0; b = p .1 .1 }
 abbrev pub entry : Parser Spelled
 entry s at = via made (seq mapAndKind (λ p. fields (p .0))) s at
 
-unfoldable pub entries : Parser (List Spelled)
+unfoldable pub entries : Form → Parser (List Spelled)
 unfolding times
-entries s at = listed (count 256 12 (two early)) entry s at
+entries f s at = listed (count (fewest f) 256 12 (two early)) entry s at
 
 unfoldable pub members : List Spelled → Parser (List ℕ)
 unfolding times isFormula
-members es s at = rising (count 24 12 (two early)) (isFormula (recordsOf es)) 14 (two early) s at
+members es s at = rising (count 1 24 12 (two early)) (isFormula (recordsOf es)) 14 (two early) s at
 
 -- the goal count; CLM1 has one goal and writes no count
 abbrev pub goalCount : Form → Parser ℕ
 goalCount clm1 s at = known 1 s at
-goalCount clm2 s at = count 16 72 (two early) s at
+goalCount clm2 s at = count 0 16 72 (two early) s at
 
 -- and that many member lists
 unfoldable pub goals : Form → List Spelled → Parser (List (List ℕ))
@@ -58,7 +58,7 @@ claimOf f p = record { form = f; spelling = p .0; goals = p .1 }
 
 unfoldable pub body : Form → Parser SpelledClaim
 unfolding entries goals
-body f s at = via (claimOf f) (seq entries (goals f)) s at
+body f s at = via (claimOf f) (seq (entries f) (goals f)) s at
 
 -- a file of one form
 unfoldable pub readForm : Form → List ℕ → Reading SpelledClaim

@@ -42,7 +42,7 @@ goals-same f es old s at = ap (λ (p : Parser (List ℕ)). listed (goalCount f) 
 
 -- the count where there are several goals, and where there is one
 module _ (s : List ℕ) (at : ℕ) where
-  pub several-counted : {several : Bool} → several ≡ true → goalCountAt (formBy several) s at ≡ countAt 16 72 early s at
+  pub several-counted : {several : Bool} → several ≡ true → goalCountAt (formBy several) s at ≡ countAt 0 16 72 early s at
   unfolding goalCountAt countAt
   several-counted e = rw e refl
 
@@ -53,7 +53,7 @@ module _ (s : List ℕ) (at : ℕ) where
   few-goals : (f : Form) {limit k o : ℕ} → Reached s limit (goalCountAt f s at) k o → k ≤ 16
   unfolding goalCountAt countAt
   few-goals clm1 h = omega (arith, same-value (h .found))
-  few-goals clm2 h = count-inside early s at 16 72 h .1
+  few-goals clm2 h = count-inside early s at 0 16 72 h .1
 
   -- the part begins at offset 1,542 or before
   pub goals-place : (f : Form) → InFile s 1542 at → {k o : ℕ} → Reached s (at + 2) (goalCountAt f s at) k o → InFile s 1544 o × (k ≤ 16)

@@ -84,27 +84,27 @@ membersFrom ks n m s at = times (λ c. guard (fits-from (plainFormula ks n) c) 1
 -- the members of a goal, and where they are in a file
 unfoldable pub membersBy : List ℕ → ℕ → Parser (List ℕ)
 unfolding plainFormula times
-membersBy ks n s at = rising (count 24 12 (two early)) (plainFormula ks n) 14 (two early) s at
+membersBy ks n s at = rising (count 1 24 12 (two early)) (plainFormula ks n) 14 (two early) s at
 
 unfoldable pub membersAt : List ℕ → ℕ → List ℕ → ℕ → Got (List ℕ)
 unfolding membersBy
 membersAt ks n s at = membersBy ks n (drop at s) at
 
 -- the last of sixteen goals begins at offset 2,294 or before
-pub members-place : (s : List ℕ) (at : ℕ) → InFile s 2294 at → {m o : ℕ} → Reached s (at + 2) (countAt 24 12 early s at) m o → InFile s 2296 o × (m ≤ 24)
-members-place s at p h = (record { within = h .inside; low = omega (arith, h .near, p .low) }, count-inside early s at 24 12 h .1)
+pub members-place : (s : List ℕ) (at : ℕ) → InFile s 2294 at → {m o : ℕ} → Reached s (at + 2) (countAt 1 24 12 early s at) m o → InFile s 2296 o × (m ≤ 24)
+members-place s at p h = (record { within = h .inside; low = omega (arith, h .near, p .low) }, count-inside early s at 1 24 12 h .1)
 
 module _ (ks : List ℕ) (n : ℕ) (s : List ℕ) (at : ℕ) where
-  pub members-cut : {m q : ℕ} → countAt 24 12 early s at ≡ fault m q → membersAt ks n s at ≡ fault m q
+  pub members-cut : {m q : ℕ} → countAt 1 24 12 early s at ≡ fault m q → membersAt ks n s at ≡ fault m q
   unfolding membersAt countAt plainFormula times
-  members-cut h = counted-cut (λ c. guard (fits-from (plainFormula ks n) c) 14 (two early)) (λ _ x. suc x) (count 24 12 (two early)) (drop at s) at h
+  members-cut h = counted-cut (λ c. guard (fits-from (plainFormula ks n) c) 14 (two early)) (λ _ x. suc x) (count 1 24 12 (two early)) (drop at s) at h
 
-  module _ {m o : ℕ} (h : Reached s (at + 2) (countAt 24 12 early s at) m o) where
+  module _ {m o : ℕ} (h : Reached s (at + 2) (countAt 1 24 12 early s at) m o) where
     pub members-tell : (Stored : List ℕ → Type 0) (r : Part) → PartTells s (o + 2 * m) 24 (membersFrom ks n m s o) Stored r → PartTells s (at + 50) 24 (membersAt ks n s at) Stored r
     unfolding membersAt membersFrom countAt plainFormula times
     members-tell Stored r t =
-        part-as s 24 Stored r (omega (arith, h .near, count-inside early s at 24 12 h))
-        (counted-starts (λ c. guard (fits-from (plainFormula ks n) c) 14 (two early)) (λ _ x. suc x) (count 24 12 (two early)) (drop at s) at (h .found)) t
+        part-as s 24 Stored r (omega (arith, h .near, count-inside early s at 1 24 12 h))
+        (counted-starts (λ c. guard (fits-from (plainFormula ks n) c) 14 (two early)) (λ _ x. suc x) (count 1 24 12 (two early)) (drop at s) at (h .found)) t
 
 -- i of m members are read and stored, and the next is not below the floor
 pub record Listed (ks : List ℕ) (n : ℕ) (s : List ℕ) (from m start : ℕ) (ms₀ : List ℕ) (i at floor : ℕ) (ms : List ℕ) : Type 0 where
@@ -178,6 +178,6 @@ same-kinds (e ∷ es) = ap (λ (l : List ℕ). e .kind ∷ l) (same-kinds es)
 pub members-same : (es : List Spelled) (old : List ℕ) → members es ≡ membersBy (written (kindColumn (markedOf es)) old) (length es)
 unfolding members membersBy times isFormula plainFormula
 members-same es old =
-    ap (λ (ok : ℕ → Bool). rising (count 24 12 (two early)) ok 14 (two early)) (fun-ext (λ e. same-formula (recordsOf es) old e))
+    ap (λ (ok : ℕ → Bool). rising (count 1 24 12 (two early)) ok 14 (two early)) (fun-ext (λ e. same-formula (recordsOf es) old e))
     ∙ ap (λ (ks : List ℕ). membersBy (written ks old) (length (recordsOf es))) (same-kinds es)
     ∙ ap (λ (n : ℕ). membersBy (written (kindColumn (markedOf es)) old) n) (by-length recordOf es)

@@ -14,13 +14,13 @@ use file_parts::Number;
 use file_parts::Part;
 use file_parts::count_at;
 
-// Two bytes, the goal count (1 to 16); where there is one goal, nothing.
+// Two bytes, the goal count (0 to 16); where there is one goal, nothing.
 fn goal_count(bytes: &[u8], at: usize, several: bool) -> Number
     requires { ⌜ InFile (now bytes) 1542 at ⌝ }
     ensures { λ r. ⌜ NumberTells (now (bytes .entry)) (at + 2) (goalCountAt (formBy several) (now (bytes .entry)) at) r ⌝ }
 {
     if several {
-        return count_at(bytes, at, 16, ClaimFault::GOALS, ClaimFault::LENGTH);
+        return count_at(bytes, at, 0, 16, ClaimFault::GOALS, ClaimFault::LENGTH);
     }
     Number::Read { value: 1, next: at }
 }

@@ -94,7 +94,7 @@ pub fn read_members(
     ensures { λ r. ⌜ PartTells (now (bytes .entry)) (at + 50) 24 (membersAt (now (kinds .entry)) entries (now (bytes .entry)) at)
         (MembersStored start (now (members .entry)) (now (members .exit))) r ⌝ }
 {
-    match count_at(bytes, at, 24, ClaimFault::COUNT, ClaimFault::LENGTH) {
+    match count_at(bytes, at, 1, 24, ClaimFault::COUNT, ClaimFault::LENGTH) {
         Number::Refused { number, place } => Part::Refused { number, place },
         Number::Read { value, next } => store_members(
             bytes,

@@ -9,7 +9,8 @@ use lib.ListN.{length, drop, length-append}
 use Rattle.verdict.specs.Lists.{written}
 use Rattle.verdict.specs.Tests.{choose}
 use Rattle.formula.specs.Table.{Entry, Table}
-use Rattle.formula.specs.Claim.{Form, clm1, clm2, formNumber, Claim, SpelledClaim, markedClaim}
+use Rattle.formula.specs.Claim.{Form, clm1, clm2, formNumber, fewest, Claim, SpelledClaim, markedClaim}
+use Rattle.formula.specs.NamedForm.{namedForm, names}
 use Rattle.formula.specs.Spelled.{Spelled, marked, markedOf, by-length}
 use Rattle.formula.specs.Plain.{tableOf}
 use Rattle.formula.specs.Held.{goalsOf, ClaimHeld}
@@ -24,7 +25,7 @@ use Rattle.claim_files.specs.ClaimExact.{form-opens}
 use Rattle.claim_files.specs.ClaimFaults as files
 use Rattle.encoding.specs.Walk.{file-opens, bytes-follow, none-follow}
 use Rattle.file_parts.specs.Parts.{ListRead}
-use Rattle.claim_entries.specs.ClaimEntries.{EntryArrays, EntriesStored, entriesAt}
+use Rattle.claim_entries.specs.ClaimEntries.{EntryArrays, EntriesStored, entriesAt, form-entries}
 use Rattle.claim_members.specs.GoalColumns.{GoalsStored}
 use Rattle.claim_members.specs.ClaimGoals.{goalsAt, goals-same}
 use Rattle.claims.specs.declared.ClaimRead.{ClaimRead}
@@ -146,6 +147,7 @@ module _ (s : List ℕ) {f : ℕ} (o : Opened s f) where
   pub claim-long : 4 ≤ length s
   claim-long = omega (arith, begins-tells (claimOpening (formOf s)) s .says (o .letters) .long, opening-length (formOf s))
 
+module _ (s : List ℕ) {f : ℕ} (o : Opened s f) {least : ℕ} (as-form : least ≡ fewest (namedForm f)) where
   -- the goals are read in sight of the entries
   abbrev after-entries : Got (List Spelled) → Reading SpelledClaim
   after-entries g = ending early (bind (bind g (λ es r z. bind (goals (formOf s) es r z) (λ gs t w. got (es, gs) t w))) (λ c t w. got (claimOf (formOf s) c) t w))
@@ -153,16 +155,18 @@ module _ (s : List ℕ) {f : ℕ} (o : Opened s f) where
   abbrev after-goals : List Spelled → Got (List (List ℕ)) → Reading SpelledClaim
   after-goals es g = ending early (bind (bind g (λ gs t w. got (es, gs) t w)) (λ c t w. got (claimOf (formOf s) c) t w))
 
-  claim-entries : readClaim s ≡ after-entries (entriesAt s 4)
-  unfolding readClaim readForm body entriesAt
+  claim-entries : readClaim s ≡ after-entries (entriesAt least s 4)
+  unfolding readClaim readForm body
   claim-entries =
       file-opens (claimOpening (formOf s)) 10 early (body (formOf s)) s (o .letters)
       ∙ ap (λ (n : ℕ). ending early (body (formOf s) (drop n s) n)) (opening-length (formOf s))
+      ∙ ap after-entries (form-entries (formOf s) s 4)
+      ∙ ap (λ (k : ℕ). after-entries (entriesAt k s 4)) (sym (as-form ∙ ap fewest (names (formOf s) (sym (o .number)))))
 
-  pub claim-no-entries : {n q : ℕ} → entriesAt s 4 ≡ fault n q → readClaim s ≡ refused n q
+  pub claim-no-entries : {n q : ℕ} → entriesAt least s 4 ≡ fault n q → readClaim s ≡ refused n q
   claim-no-entries e = claim-entries ∙ ap after-entries e
 
-  module _ {ks₀ ks xs₀ xs ys₀ ys : List ℕ} {n z : ℕ} (x : ListRead s 1542 256 (entriesAt s 4) (λ es. EntriesStored ks₀ ks xs₀ xs ys₀ ys (markedOf es)) n z) where
+  module _ {ks₀ ks xs₀ xs ys₀ ys : List ℕ} {n z : ℕ} (x : ListRead s 1542 256 (entriesAt least s 4) (λ es. EntriesStored ks₀ ks xs₀ xs ys₀ ys (markedOf es)) n z) where
     claim-goals : readClaim s ≡ after-goals (x .list) (goalsAt (formBy (eqb f 2)) ks n s z)
     claim-goals =
         claim-entries ∙ ap after-entries (x .reached .found) ∙ ap (after-goals (x .list)) (goals-same (formOf s) (x .list) ks₀ s z)

@@ -100,7 +100,7 @@ pub fn read_claim(
     if form == 0 {
         return refuse(ClaimFault::OPENING, 0);
     }
-    match read_entries(bytes, kinds, a, b) {
+    match read_entries(bytes, Form::fewest(form), kinds, a, b) {
         Part::Refused { number, place } => refuse(number, place),
         Part::Read {
             count: entries,
@@ -127,21 +127,32 @@ pub fn read_claim(
     }
 }
 
-// What the first bytes of a claim earn: its opening, its entry count and its first entry. That takes no arrays, so a claim that is refused
-// here is refused before any are cleared for it. Acceptance says nothing of the file: `read_claim` judges all of it, these bytes too.
+// What the first bytes of a claim earn: its opening, its entry count and its first entry, if there is one. That takes no arrays, so a claim
+// that is refused here is refused before any are cleared for it. Acceptance says nothing of the file: `read_claim` judges all of it, these bytes too.
 pub fn judge_beginning(bytes: &[u8]) -> Verdict
     ensures { λ r. ⌜ Begun (now (bytes .entry)) (shown r) ⌝ }
 {
-    if opening_form(bytes) == 0 {
+    let form = opening_form(bytes);
+    if form == 0 {
         return Verdict::Refused {
             number: ClaimFault::OPENING,
             place: 0,
         };
     }
-    let count = count_at(bytes, 4, 256, ClaimFault::COUNT, ClaimFault::LENGTH);
+    let count = count_at(
+        bytes,
+        4,
+        Form::fewest(form),
+        256,
+        ClaimFault::COUNT,
+        ClaimFault::LENGTH,
+    );
     match count {
         Number::Refused { number, place } => Verdict::Refused { number, place },
-        Number::Read { next, .. } => {
+        Number::Read { value, next } => {
+            if value == 0 {
+                return Verdict::Accepted;
+            }
             match entry_at(bytes, next) {
                 EntryRead::Refused { number, place } => Verdict::Refused { number, place },
                 EntryRead::Read { .. } => Verdict::Accepted,

@@ -1,10 +1,10 @@
 -- the demands on the gate over the definitions, each with its proof; `Bytes s`: the numbers of s are below 256
--- what to read to believe them: `Correct`, `Irrefutable` and `Earned` rest on 873 lines of definitions, all contracts of the calls on 2135 lines;
+-- what to read to believe them: `Correct`, `Irrefutable` and `Earned` rest on 876 lines of definitions, all contracts of the calls on 2138 lines;
 -- tests/believed.sh counts and lists them
 use mathlib.Core.Path.{_≡_}
 use mathlib.Core.Logic.{_↔_, _⊎_}
 use mathlib.Core.Bool.{true, false, _||_}
-use mathlib.Core.List.{List}
+use mathlib.Core.List.{List, []}
 use Prim.Native.Nat.{ℕ, suc, _<_, _≤_}
 use lib.ListN.{length, getD, take, drop}
 use Rattle.verdict.specs.Verdict.{accepted, refused}
@@ -13,7 +13,7 @@ use Rattle.encoding.specs.Encode.{Bytes}
 use Rattle.encoding.specs.File.{Reading, good, refused as refused-reading}
 use Rattle.formula.specs.Kind
 use Rattle.formula.specs.Table.{Table, entry, kind, action}
-use Rattle.formula.specs.Claim.{Form, formNumber, Claim, SpelledClaim, claimOf as recorded, Derivation}
+use Rattle.formula.specs.Claim.{Form, clm2, formNumber, Claim, SpelledClaim, claimOf as recorded, Derivation}
 use Rattle.formula.specs.Shape.{mu, nu}
 use Rattle.formula.specs.ShapeLaws.{mu-shape, nu-shape}
 use Rattle.formula.specs.Codes.{entryOf}
@@ -29,10 +29,11 @@ use Rattle.meaning.specs.KindMeaning as by-kind
 use Rattle.claim_files.specs.ClaimFile.{ClaimFile, FitClaim, encodeClaim}
 use Rattle.claim_files.specs.ReadClaim.{readClaim}
 use Rattle.claim_files.specs.ClaimExact.{claim-decodes, claim-encodes, one-claim}
-use Rattle.proof_files.specs.ProofFile.{FitProof, encodeProof}
+use Rattle.proof_files.specs.ProofFile.{FitProof, ProofFile, encodeProof}
 use Rattle.proof_files.specs.ReadProof.{readProof}
 use Rattle.proof_files.specs.ProofExact.{proof-decodes, proof-encodes}
 use Rattle.reader.specs.Files.{Files, readFormed, files}
+use Rattle.reader.specs.WellFormed.{ClaimFormed}
 use Rattle.calculus.specs.Sequents.{listed}
 use Rattle.calculus.specs.Goals.{goal}
 use Rattle.tree.specs.Owners.{tree-judged}
@@ -56,6 +57,8 @@ use Rattle.demands.specs.EvaluationEarned.{EvaluationEarned, Evaluable}
 use Rattle.demands.specs.CheckExact as check
 use Rattle.demands.specs.EvaluateExact as evaluation
 use Rattle.demands.specs.Sound as soundness
+use Rattle.demands.specs.Goalless as goalless
+use Rattle.demands.specs.Goalless.{nothing}
 use Rattle.demands.specs.Written as written
 use Rattle.demands.specs.Refutable.{muOfBox, falseAlone, secondFalse, mu-of-box-refuted, false-refuted, second-refuted}
 
@@ -112,6 +115,20 @@ false-alone = false-refuted
 -- nor is a claim of which one goal is not (T-05)
 pub second-false : Irrefutable secondFalse → ⊥
 second-false = second-refuted
+
+-- T-06: a claim with no goals. The gate promises nothing of it: it is irrefutable as it stands, whatever its entries are
+module _ {claim : List ℕ} {c : Claim} (formed : ClaimFormed claim c) (no-goals : c .goals ≡ []) where
+  pub nothing-promised : Irrefutable claim
+  nothing-promised = goalless.irrefutable formed no-goals
+
+  module _ (proof : List ℕ) (bc : Bytes claim) (bp : Bytes proof) where
+    -- it is accepted with a PRF2 proof of zero nodes and no roots, and only with that
+    pub nothing-proved : (verdict claim proof ≡ accepted) ↔ (proof ≡ encodeProof clm2 nothing)
+    nothing-proved = goalless.accepted-exact formed no-goals proof bc bp
+
+    -- well-formed nodes get 35
+    pub nodes-refused : {d : Derivation} → ProofFile c proof d → (d .nodes ≡ [] → ⊥) → (q : ℕ) × (verdict claim proof ≡ refused 35 q)
+    nodes-refused = goalless.nodes-refused formed no-goals proof bc bp
 
 -- 2: an evaluation of a claim in a model, with the slices it is lent
 module _ (claim model : List ℕ) (l : LentWords) (bc : Bytes claim) (bm : Bytes model) where
@@ -222,17 +239,22 @@ module _ (w : Reading (List ℕ)) (out : List ℕ) where
   file-stands-in-front = written.file-in-front w out
 
 -- what the reader makes of records that stand for a file of a form (T-05). Where the goals' member counts add up to the members, and CLM1 has one,
--- it is what the reader says of that file; else 12 where the goal count stands, unless the reader finds a fault up to there
+-- it is what the reader says of that file; else 12 where the goal count stands, unless the reader finds a fault up to there. The file that stops
+-- there ends early, or is whole, where there is no goal (T-06)
 module _ (f : Form) (c : ClaimRecords) where
   pub claim-as-file : goalsFit f (c .counts) (c .members) ≡ true → claimReading f c ≡ readFormed (claimFile f c)
   claim-as-file = written.fitting-goals f c
 
   module _ (unfit : goalsFit f (c .counts) (c .members) ≡ false) where
-    pub claim-unfit : {p : ℕ} → readFormed (claimHead f (c .count) (take (c .count) (c .entries)) (length (c .counts))) ≡ refused-reading 11 p
+    pub claim-unfit : {p : ℕ} → readClaim (claimHead f (c .count) (take (c .count) (c .entries)) (length (c .counts))) ≡ refused-reading 11 p
         → claimReading f c ≡ refused-reading 12 (goalPlace c)
     claim-unfit = written.unfit-goals f c unfit
 
-    pub claim-unfit-later : {m p : ℕ} → (m ≡ 11 → ⊥) → readFormed (claimHead f (c .count) (take (c .count) (c .entries)) (length (c .counts))) ≡ refused-reading m p
+    pub claim-unfit-whole : {x : SpelledClaim} → readClaim (claimHead f (c .count) (take (c .count) (c .entries)) (length (c .counts))) ≡ good x
+        → claimReading f c ≡ refused-reading 12 (goalPlace c)
+    claim-unfit-whole = written.unfit-whole f c unfit
+
+    pub claim-unfit-later : {m p : ℕ} → (m ≡ 11 → ⊥) → readClaim (claimHead f (c .count) (take (c .count) (c .entries)) (length (c .counts))) ≡ refused-reading m p
         → claimReading f c ≡ refused-reading m p
     claim-unfit-later = written.unfit-before f c unfit
 
@@ -244,6 +266,9 @@ module _ (f : Form) (d : ProofRecords) (k : Claim) where
   module _ (unfit : rootsFit f (length (k .goals)) (d .roots) ≡ false) where
     pub roots-unfit : {p : ℕ} → readProof k (proofHead f (d .count)) ≡ refused-reading 31 p → proofReading f d k ≡ refused-reading 34 6
     roots-unfit = written.unfit-roots f d k unfit
+
+    pub roots-unfit-whole : {x : Derivation} → readProof k (proofHead f (d .count)) ≡ good x → proofReading f d k ≡ refused-reading 34 6
+    roots-unfit-whole = written.unfit-empty f d k unfit
 
     pub roots-unfit-later : {m p : ℕ} → (m ≡ 31 → ⊥) → readProof k (proofHead f (d .count)) ≡ refused-reading m p → proofReading f d k ≡ refused-reading m p
     roots-unfit-later = written.unfit-count f d k unfit

@@ -13,6 +13,7 @@ pub mod EvaluateExact
 pub mod Sound
 pub mod Written
 pub mod Refutable
+pub mod Goalless
 pub mod PresentLaws
 -- the page
 pub mod Demands

@@ -11,7 +11,7 @@ use Rattle.encoding.specs.Stages.{Stages, Unfit, unfit}
 use Rattle.encoding.specs.File as file
 use Rattle.formula.specs.Table.{Table}
 use Rattle.conditions.specs.Formed as table
-use Rattle.formula.specs.Claim.{Claim, Derivation}
+use Rattle.formula.specs.Claim.{Form as ClaimForm, Claim, Derivation}
 use Rattle.claim_files.specs.ClaimDocument as claims
 use Rattle.claim_files.specs.ClaimDocument.{ClaimStage, at-entry-count, at-entry, at-fields, at-goal-count, at-member-count, at-member}
 use Rattle.proof_files.specs.ProofDocument as proofs
@@ -31,13 +31,13 @@ use Rattle.demands.specs.CheckExact.{verdict-earned}
 unfit-number : {A : Type 0} {e : A → List ℕ} {P Q : A → Type 0} {k n : ℕ} {w : List ℕ} → Unfit e P Q k w n → n ≡ k
 unfit-number (unfit x p q) = refl
 
-claim-wrong : (σ : ClaimStage) (w : List ℕ) (n : ℕ) → claims.Wrong σ w n → 10 ≤ n
-claim-wrong at-entry-count w n x = omega (arith, unfit-number x)
-claim-wrong (at-entry m es) w n x = omega (arith, unfit-number x)
-claim-wrong (at-fields m es k) w n x = absurd x
-claim-wrong (at-goal-count es) w n x = omega (arith, unfit-number x)
-claim-wrong (at-member-count es k gs) w n x = omega (arith, unfit-number x)
-claim-wrong (at-member es k gs m ms) w n x = omega (arith, unfit-number x)
+claim-wrong : (f : ClaimForm) (σ : ClaimStage) (w : List ℕ) (n : ℕ) → claims.Wrong f σ w n → 10 ≤ n
+claim-wrong f at-entry-count w n x = omega (arith, unfit-number x)
+claim-wrong f (at-entry m es) w n x = omega (arith, unfit-number x)
+claim-wrong f (at-fields m es k) w n x = absurd x
+claim-wrong f (at-goal-count es) w n x = omega (arith, unfit-number x)
+claim-wrong f (at-member-count es k gs) w n x = omega (arith, unfit-number x)
+claim-wrong f (at-member es k gs m ms) w n x = omega (arith, unfit-number x)
 
 node-wrong : (t : Table) (σ : NodeStage) (w : List ℕ) (n : ℕ) → proofs.NodeWrong t σ w n → 10 ≤ n
 node-wrong t at-rule w n x = omega (arith, unfit-number x)
@@ -90,7 +90,7 @@ rules-number (rules.bad-loop a b c d e f g h) = omega arith
 
 claim-number : {claim : List ℕ} {n q : ℕ} → ClaimUnformed claim n q → 10 ≤ n
 claim-number (by-bytes (claims.no-opening h)) = omega arith
-claim-number (by-bytes (claims.by-form f o e)) = file-number (omega arith) (omega arith) claim-wrong e
+claim-number (by-bytes (claims.by-form f o e)) = file-number (omega arith) (omega arith) (claim-wrong f) e
 claim-number (by-table c f e) = table-number e
 
 pub earned-number : {claim proof : List ℕ} {n q : ℕ} → Earned claim proof n q → 10 ≤ n

@@ -13,7 +13,8 @@ use Rattle.verdict.specs.VerdictLaws.{scan-holds}
 use Rattle.encoding.specs.Encode.{Bytes}
 use Rattle.encoding.specs.File.{Reading, refused, good}
 use Rattle.formula.specs.Nodes.{Proof}
-use Rattle.formula.specs.Claim.{Form, clm1, clm2, formNumber, Claim, Derivation}
+use Rattle.formula.specs.Claim.{Form, clm1, clm2, formNumber, Claim, SpelledClaim, Derivation}
+use Rattle.claim_files.specs.ReadClaim.{readClaim}
 use Rattle.proof_files.specs.ReadProof.{readProof}
 use Rattle.reader.specs.Files.{Files, firstly, andThen, files, readFormed}
 use Rattle.reader.specs.FilesExact.{files-exactly, formed-exactly}
@@ -47,6 +48,9 @@ no-form {n} next h = rw (ne-eqb n (formNumber clm1) (h clm1), ne-eqb n (formNumb
 stopped-early : {A B : Type 0} {r : Reading A} (early n q : ℕ) {p : ℕ} → r ≡ refused early p → stopped {B = B} early n q r ≡ refused n q
 stopped-early early n q h = rw (h, eq-eqb early early refl) refl
 
+stopped-whole : {A B : Type 0} {r : Reading A} (early n q : ℕ) {x : A} → r ≡ good x → stopped {B = B} early n q r ≡ refused n q
+stopped-whole early n q h = rw h refl
+
 stopped-before : {A B : Type 0} {r : Reading A} (early n q : ℕ) {m p : ℕ} → (m ≡ early → ⊥) → r ≡ refused m p → stopped {B = B} early n q r ≡ refused m p
 stopped-before early n q {m} other h = rw (h, ne-eqb m early other) refl
 
@@ -57,12 +61,17 @@ module _ (f : Form) (c : ClaimRecords) where
   fitting-goals fit = rw fit refl
 
   module _ (unfit : goalsFit f (c .counts) (c .members) ≡ false) where
-    pub unfit-goals : {p : ℕ} → readFormed (claimHead f (c .count) (take (c .count) (c .entries)) (length (c .counts))) ≡ refused 11 p
+    pub unfit-goals : {p : ℕ} → readClaim (claimHead f (c .count) (take (c .count) (c .entries)) (length (c .counts))) ≡ refused 11 p
         → claimReading f c ≡ refused 12 (goalPlace c)
     unfolding claimReading
     unfit-goals h = rw unfit (stopped-early 11 12 (goalPlace c) h)
 
-    pub unfit-before : {m p : ℕ} → (m ≡ 11 → ⊥) → readFormed (claimHead f (c .count) (take (c .count) (c .entries)) (length (c .counts))) ≡ refused m p
+    pub unfit-whole : {x : SpelledClaim} → readClaim (claimHead f (c .count) (take (c .count) (c .entries)) (length (c .counts))) ≡ good x
+        → claimReading f c ≡ refused 12 (goalPlace c)
+    unfolding claimReading
+    unfit-whole h = rw unfit (stopped-whole 11 12 (goalPlace c) h)
+
+    pub unfit-before : {m p : ℕ} → (m ≡ 11 → ⊥) → readClaim (claimHead f (c .count) (take (c .count) (c .entries)) (length (c .counts))) ≡ refused m p
         → claimReading f c ≡ refused m p
     unfolding claimReading
     unfit-before other h = rw unfit (stopped-before 11 12 (goalPlace c) other h)
@@ -77,6 +86,10 @@ module _ (f : Form) (d : ProofRecords) (k : Claim) where
     pub unfit-roots : {p : ℕ} → readProof k (proofHead f (d .count)) ≡ refused 31 p → proofReading f d k ≡ refused 34 6
     unfolding proofReading
     unfit-roots h = rw unfit (stopped-early 31 34 6 h)
+
+    pub unfit-empty : {x : Derivation} → readProof k (proofHead f (d .count)) ≡ good x → proofReading f d k ≡ refused 34 6
+    unfolding proofReading
+    unfit-empty h = rw unfit (stopped-whole 31 34 6 h)
 
     pub unfit-count : {m p : ℕ} → (m ≡ 31 → ⊥) → readProof k (proofHead f (d .count)) ≡ refused m p → proofReading f d k ≡ refused m p
     unfolding proofReading

@@ -54,6 +54,6 @@ encodeAll enc (x ∷ l) = enc x ++ encodeAll enc l
 abbrev pub encodeCounted : {A : Type 0} → (ℕ → List ℕ) → (A → List ℕ) → List A → List ℕ
 encodeCounted count enc l = count (length l) ++ encodeAll enc l
 
--- a count's range: 1 to the top
-abbrev pub Counts : ℕ → ℕ → Type 0
-Counts top n = (1 ≤ n) × (n ≤ top)
+-- a count's range: from the least to the top
+abbrev pub Counts : ℕ → ℕ → ℕ → Type 0
+Counts least top n = (least ≤ n) × (n ≤ top)

@@ -70,9 +70,9 @@ module _ {A : Type 0} {early : ℕ} {p : ℕ → Parser A} {next : ℕ → A →
   unfolding times
   counted-refuses E′ R′ = then-refuses R′ E′ {B = List A} {k = λ m. times p next m 0} {Y = λ m. items e P next X m 0} (λ m _. times-refuses m 0)
 
-pub count-refuses : {early : ℕ} (top k : ℕ) {p : Parser ℕ} {w : ℕ} {e : ℕ → List ℕ} {P : ℕ → Type 0} → Takes early p w → Exact p e P
-    → Refuses early (count top k p) (tested w e P (Counts top) k)
-count-refuses top k T X = tested-refuses T X k (range-tells top)
+pub count-refuses : {early : ℕ} (least top k : ℕ) {p : Parser ℕ} {w : ℕ} {e : ℕ → List ℕ} {P : ℕ → Type 0} → Takes early p w → Exact p e P
+    → Refuses early (count least top k p) (tested w e P (Counts least top) k)
+count-refuses least top k T X = tested-refuses T X k (range-tells least top)
 
 -- a count, then as many values, with what is known of those before the next
 abbrev Counted : {A : Type 0} → (ℕ → List ℕ) → (ℕ → Type 0) → Stages → (A → List ℕ) → (ℕ → List A → Type 0) → (List A → Stages) → Stages

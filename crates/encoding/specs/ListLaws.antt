@@ -14,11 +14,11 @@ use Rattle.encoding.specs.ChainLaws.{From, chain-each, each-chain, chain
 use Rattle.encoding.specs.GotLaws.{same-value, same-left, bind-got}
 use Rattle.encoding.specs.ParseLaws.{Exact, Wrote, exact-as, guard-exact}
 
-pub range-tells : (top n : ℕ) → Tells (in-range top n) (Counts top n)
-range-tells top n = and-tells (leb-tells 1 n) (leb-tells n top)
+pub range-tells : (least top n : ℕ) → Tells (in-range least top n) (Counts least top n)
+range-tells least top n = and-tells (leb-tells least n) (leb-tells n top)
 
-pub count-exact : (top k : ℕ) {p : Parser ℕ} {e : ℕ → List ℕ} {P : ℕ → Type 0} → Exact p e P → Exact (count top k p) e (λ n. P n × Counts top n)
-count-exact top k X = guard-exact X k (range-tells top)
+pub count-exact : (least top k : ℕ) {p : Parser ℕ} {e : ℕ → List ℕ} {P : ℕ → Type 0} → Exact p e P → Exact (count least top k p) e (λ n. P n × Counts least top n)
+count-exact least top k X = guard-exact X k (range-tells least top)
 
 pub from-tells : {ok : ℕ → Bool} {Q : ℕ → Type 0} → ((x : ℕ) → Tells (ok x) (Q x)) → (c x : ℕ) → Tells (fits-from ok c x) ((c ≤ x) × Q x)
 from-tells T c x = and-tells (leb-tells c x) (T x)

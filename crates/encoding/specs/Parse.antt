@@ -64,12 +64,12 @@ abbrev pub rising : Parser ℕ → (ℕ → Bool) → ℕ → Parser ℕ → Par
 unfolding times
 rising number ok n p s at = counted number (λ c. guard (fits-from ok c) n p) (λ _ x. suc x) s at
 
--- a count: a number from 1 to the top
-abbrev pub in-range : ℕ → ℕ → Bool
-in-range top n = leb 1 n && leb n top
+-- a count: a number from the least to the top
+abbrev pub in-range : ℕ → ℕ → ℕ → Bool
+in-range least top n = leb least n && leb n top
 
-abbrev pub count : ℕ → ℕ → Parser ℕ → Parser ℕ
-count top k p s at = guard (in-range top) k p s at
+abbrev pub count : ℕ → ℕ → ℕ → Parser ℕ → Parser ℕ
+count least top k p s at = guard (in-range least top) k p s at
 
 -- a number of two bytes: the low one, the high one
 abbrev pub word : ℕ × ℕ → ℕ

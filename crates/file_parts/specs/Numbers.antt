@@ -6,6 +6,7 @@ use Prim.Native.Nat.{ℕ, _+_, _-_, _<_, _≤_}
 use native.Mathlib.Omega.{arith}
 use lib.ListN.{length, drop}
 use Rattle.verdict.specs.Tells.{fails-holds}
+use Rattle.encoding.specs.Encode.{Counts}
 use Rattle.encoding.specs.Parse.{Got, fault, got, two, field, in-range, count}
 use Rattle.encoding.specs.ListLaws.{range-tells}
 use Rattle.encoding.specs.Places.{InFile, wordAt, two-at, two-end}
@@ -20,8 +21,8 @@ twoAt early s at = two early (drop at s) at
 unfoldable pub fieldAt : ℕ → Bool → List ℕ → ℕ → Got ℕ
 fieldAt early b s at = field early b (drop at s) at
 
-unfoldable pub countAt : ℕ → ℕ → ℕ → List ℕ → ℕ → Got ℕ
-countAt top unfit early s at = count top unfit (two early) (drop at s) at
+unfoldable pub countAt : ℕ → ℕ → ℕ → ℕ → List ℕ → ℕ → Got ℕ
+countAt least top unfit early s at = count least top unfit (two early) (drop at s) at
 
 abbrev pub NumberTells : List ℕ → ℕ → Got ℕ → Number → Type 0
 NumberTells s limit g (Read v o) = Reached s limit g v o
@@ -53,20 +54,20 @@ module _ (early : ℕ) (s : List ℕ) (at : ℕ) where
   unfolding fieldAt twoAt
   field-stands e = rw e refl
 
-  module _ (top unfit : ℕ) where
-    pub count-cut : {n q : ℕ} → twoAt early s at ≡ fault n q → countAt top unfit early s at ≡ fault n q
+  module _ (least top unfit : ℕ) where
+    pub count-cut : {n q : ℕ} → twoAt early s at ≡ fault n q → countAt least top unfit early s at ≡ fault n q
     unfolding twoAt countAt
-    count-cut h = guard-cut (in-range top) unfit (two early) (drop at s) at h
+    count-cut h = guard-cut (in-range least top) unfit (two early) (drop at s) at h
 
     module _ {limit v o : ℕ} (h : Reached s limit (twoAt early s at) v o) where
-      pub count-read : 1 ≤ v → v ≤ top → Reached s limit (countAt top unfit early s at) v o
+      pub count-read : least ≤ v → v ≤ top → Reached s limit (countAt least top unfit early s at) v o
       unfolding twoAt countAt
-      count-read l m = record { found = guard-passes (in-range top) unfit (two early) (drop at s) at (h .found) (range-tells top v .holds (l, m)); inside = h .inside; near = h .near }
+      count-read l m = record { found = guard-passes (in-range least top) unfit (two early) (drop at s) at (h .found) (range-tells least top v .holds (l, m)); inside = h .inside; near = h .near }
 
-      pub count-unfit : ((1 ≤ v) × (v ≤ top) → ⊥) → countAt top unfit early s at ≡ fault unfit at
+      pub count-unfit : (Counts least top v → ⊥) → countAt least top unfit early s at ≡ fault unfit at
       unfolding twoAt countAt
-      count-unfit n = guard-fails (in-range top) unfit (two early) (drop at s) at (h .found) (fails-holds (range-tells top v) n)
+      count-unfit n = guard-fails (in-range least top) unfit (two early) (drop at s) at (h .found) (fails-holds (range-tells least top v) n)
 
-  pub count-inside : (top unfit : ℕ) {limit v o : ℕ} → Reached s limit (countAt top unfit early s at) v o → (1 ≤ v) × (v ≤ top)
+  pub count-inside : (least top unfit : ℕ) {limit v o : ℕ} → Reached s limit (countAt least top unfit early s at) v o → Counts least top v
   unfolding countAt
-  count-inside top unfit {v = v} h = range-tells top v .says (guard-holds (in-range top) unfit (two early) (drop at s) at (h .found))
+  count-inside least top unfit {v = v} h = range-tells least top v .says (guard-holds (in-range least top) unfit (two early) (drop at s) at (h .found))

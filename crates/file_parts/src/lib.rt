@@ -42,15 +42,15 @@ pub fn field_at(bytes: &[u8], at: usize, stands: bool, early: u16) -> Number
     Number::Read { value: 0, next: at }
 }
 
-// A count is from 1 to the top, or refused where it begins.
-pub fn count_at(bytes: &[u8], at: usize, top: u16, unfit: u16, early: u16) -> Number
+// A count is from the least to the top, or refused where it begins.
+pub fn count_at(bytes: &[u8], at: usize, least: u16, top: u16, unfit: u16, early: u16) -> Number
     requires { ⌜ InFile (now bytes) 65500 at ⌝ }
-    ensures { λ r. ⌜ NumberTells (now (bytes .entry)) (at + 2) (countAt top unfit early (now (bytes .entry)) at) r ⌝ }
+    ensures { λ r. ⌜ NumberTells (now (bytes .entry)) (at + 2) (countAt least top unfit early (now (bytes .entry)) at) r ⌝ }
 {
     match two_at(bytes, at, early) {
         Number::Refused { number, place } => Number::Refused { number, place },
         Number::Read { value, next } => {
-            if value < 1 {
+            if value < least {
                 return Number::Refused {
                     number: unfit,
                     place: at as u16,

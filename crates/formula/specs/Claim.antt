@@ -15,6 +15,11 @@ abbrev pub formNumber : Form → ℕ
 formNumber clm1 = 1
 formNumber clm2 = 2
 
+-- the least entry count and node count: the form for several goals may have none of either (T-06)
+abbrev pub fewest : Form → ℕ
+fewest clm1 = 1
+fewest clm2 = 0
+
 -- an entry table, and the goals: the members of each, of which at least one is to be true everywhere
 pub record Claim : Type 0 where
   pub form : Form

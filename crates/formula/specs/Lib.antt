@@ -6,6 +6,7 @@ pub mod Codes
 pub mod Nodes
 pub mod Spelled
 pub mod Claim
+pub mod NamedForm
 pub mod Fields
 pub mod FieldLaws
 pub mod Records

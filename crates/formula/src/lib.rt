@@ -3,6 +3,8 @@ ghost use mathlib.Core.Path.{_≡_};
 ghost use mathlib.Core.List.{List};
 ghost use Prim.Native.Nat.{ℕ, _+_, _<_, _≤_};
 ghost use Rattle.bits.specs.IfSet.{ifSet};
+ghost use Rattle.formula.specs.Claim as claims;
+ghost use Rattle.formula.specs.NamedForm.{namedForm};
 ghost use Rattle.formula.specs.Fields.{hasA, hasB, isModal, isFixpoint, hasPrincipal, hasFirst, hasSecond, hasBack, mapOf, lowMap, linkWidth};
 ghost use Rattle.formula.specs.Plain.{tableOf};
 ghost use Rattle.formula.specs.Target as targets;
@@ -82,6 +84,16 @@ impl Form {
     pub const CLM1: u8 = 1;
 
     pub const CLM2: u8 = 2;
+
+    // The least entry count and node count: only the form for several goals may have none of either.
+    pub fn fewest(form: u8) -> u16
+        ensures { λ r. ⌜ r ≡ claims.fewest (namedForm form) ⌝ }
+    {
+        if form == Form::CLM2 {
+            return 0;
+        }
+        1
+    }
 }
 
 pub struct Rule;

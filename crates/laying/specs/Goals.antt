@@ -11,7 +11,7 @@ use lib.Seq.{drop-cons, drop-drop, length-take-le, take-length}
 use Rattle.formula.specs.Claim.{clm2, formNumber}
 use Rattle.encoding.specs.Encode.{encodeTwo, encodeField, encodeAll}
 use Rattle.claim_files.specs.ClaimFile.{encodeMembers, encodeGoalCount}
-use Rattle.proofs.specs.NamedForm.{namedForm, names-several, names-one}
+use Rattle.formula.specs.NamedForm.{namedForm, names-several, names-one}
 use Rattle.writing.specs.RecordBytes.{split}
 use Rattle.writing.specs.Goals.{total}
 use Rattle.laying.specs.Laying.{numbersLeft}

@@ -10,7 +10,7 @@ ghost use Rattle.formula.specs.Claim.{Form, formNumber};
 ghost use Rattle.encoding.specs.Encode.{encodeTwo, encodeField};
 ghost use Rattle.claim_files.specs.ClaimFile.{claimOpening, encodeEntry, encodeMembers, encodeGoalCount, encodeClaim};
 ghost use Rattle.proof_files.specs.ProofFile.{proofOpening, encodeNode, encodeRoots, encodeProof};
-ghost use Rattle.proofs.specs.NamedForm.{namedForm};
+ghost use Rattle.formula.specs.NamedForm.{namedForm};
 ghost use Rattle.writing.specs.RecordBytes.{split};
 ghost use Rattle.writing.specs.Spelling.{mapFor, spelledAs};
 ghost use Rattle.laying.specs.Laying.{Fits, Put, numbersLeft, entriesLeft, entryAt, nodeAt, linkBytes, codesPart, NodeRoom, nodesLeft};

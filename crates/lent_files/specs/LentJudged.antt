@@ -12,10 +12,10 @@ use Rattle.verdict.specs.Shown.{shown}
 use Rattle.encoding.specs.Encode.{Bytes}
 use Rattle.encoding.specs.File.{Reading, refused, good}
 use Rattle.formula.specs.Table.{Table}
-use Rattle.formula.specs.Claim.{Form, Claim, Derivation}
+use Rattle.formula.specs.Claim.{Form, clm1, clm2, Claim, Derivation}
 use Rattle.formula.specs.Plain.{tableOf, tableOf-length}
 use Rattle.formula.specs.Held.{heldClaim, goalsOf}
-use Rattle.proof_files.specs.ProofRecords.{node-count}
+use Rattle.nodes.specs.ProofDecode.{nodesPlace}
 use Rattle.calculus.specs.Judge.{judge}
 use Rattle.records.specs.Records.{shownEntry, shownEntries, entriesOf, EntryRoom, EntriesLoaded}
 use Rattle.records.specs.Shown.{map-written, entries-shown, loaded-table}
@@ -56,29 +56,30 @@ pub early-stands : {before : Verdict} (claim proof : List ℕ) (es : List Entry)
 early-stands claim proof es vs cs accepted begun h = absurd h
 early-stands claim proof es vs cs (verdicts.refused n q) begun h = rw (begun .stands n q refl proof) (record { answer = λ tag. refl; lent = λ tag. refl })
 
--- a proof that is read has a node
-has-node : {ks xs ys : List ℕ} {n : ℕ} {gs ms : List ℕ} {k : ℕ} {os s : List ℕ} {at m : ℕ} → Readable ks xs ys n gs ms k os s at m → 1 ≤ m
-has-node r = omega (arith, r .nodes, node-count (r .file))
+-- nodes begin after the opening, also where there are none
+after-opening : (f : Form) (k : ℕ) → 4 ≤ nodesPlace f k
+after-opening clm1 k = omega arith
+after-opening clm2 k = omega arith
 
 module _ (claim proof : List ℕ) (bc : Bytes claim) (bp : Bytes proof) (ks xs ys gs ms os : List ℕ) (f : Found) where
   abbrev Got : Type 0
   Got = FilesGot (files claim proof) ks xs ys gs ms os (f .entries) (f .goals) (f .nodes) (f .at)
 
-  -- a node was found: nothing was refused, neither before the files nor in them
-  passed : (x : Reading (Files Derivation)) → files claim proof ≡ x → Tells x ks xs ys gs ms os f → (f .nodes ≡ 0 → ⊥) → Got
-  passed (refused n q) e u some = absurd (some (u .nodes))
+  -- a place was found: nothing was refused, neither before the files nor in them
+  passed : (x : Reading (Files Derivation)) → files claim proof ≡ x → Tells x ks xs ys gs ms os f → (f .at ≡ 0 → ⊥) → Got
+  passed (refused n q) e u some = absurd (some (u .place))
   passed (good fs) e g some = rw e g
 
-  pub nothing-refused : (before : Verdict) → Tells (firstly before (files claim proof)) ks xs ys gs ms os f → (f .nodes ≡ 0 → ⊥) → (before ≡ accepted) × Got
+  pub nothing-refused : (before : Verdict) → Tells (firstly before (files claim proof)) ks xs ys gs ms os f → (f .at ≡ 0 → ⊥) → (before ≡ accepted) × Got
   nothing-refused accepted told some = (refl, passed (files claim proof) refl told some)
-  nothing-refused (verdicts.refused n q) u some = absurd (some (u .nodes))
+  nothing-refused (verdicts.refused n q) u some = absurd (some (u .place))
 
-  module _ (es : List Entry) (vs : List Node) (cs : List ℕ) (none : f .nodes ≡ 0) where
-    -- no node was found: the files were refused, since a proof that is read has one
+  module _ (es : List Entry) (vs : List Node) (cs : List ℕ) (none : f .at ≡ 0) where
+    -- no place was found: the files were refused
     unread : (x : Reading (Files Derivation)) → files claim proof ≡ x → Tells x ks xs ys gs ms os f → LentJudged x es vs cs (shown (f .verdict)) es vs cs
     unread (refused n q) e u = record { answer = λ tag. u .verdict; lent = λ tag. refl }
     unread (good fs) e g =
-        let got : Got = rw e g in absurd (omega (arith, none, has-node (readable claim proof bc bp got)))
+        let got : Got = rw e g in absurd (omega (arith, none, got .place, after-opening (got .files .claim .form) (f .goals)))
 
     -- a refusal leaves the slices as they were
     pub refusal-stands : (before : Verdict) → Tells (firstly before (files claim proof)) ks xs ys gs ms os f

@@ -12,7 +12,7 @@ use records::store_entries;
 use standing::judge_stored;
 use verdict::Verdict;
 
-// The files behind what stands before them. A refusal before the rules finds no node.
+// The files behind what stands before them. A refusal before the rules finds no place of nodes.
 pub fn judge_read(
     before: Verdict,
     claim: &[u8],
@@ -42,7 +42,7 @@ pub fn judge_read(
         &mut members,
         &mut roots,
     );
-    if found.nodes == 0 {
+    if found.at == 0 {
         return found.verdict;
     }
     store_entries(entries, &kinds, &a, &b, found.entries);

@@ -38,7 +38,7 @@ HeaderThere f s at = There (header f (drop at s) at)
 
 -- a state is there, in a model of as many states as the file says
 pub record StateThere (f : Form) (s : List ℕ) (at : ℕ) : Type 0 where
-  pub size : Counts 64 (getD s 4 0)
+  pub size : Counts 1 64 (getD s 4 0)
   pub got-it : There (state f (getD s 4 0) (drop at s) at)
 
 -- k successors stand at a place
@@ -62,7 +62,7 @@ pub record ListAt (s : List ℕ) (begin n at : ℕ) : Type 0 where
   pub successors-there : SuccessorsAt s (at + 1) (getD s at 0)
   pub read : Reached s (at + 65) (list begin n (drop at s) at) (successorsAt s (at + 1) (getD s at 0)) (at + 1 + getD s at 0)
 
-module _ (s : List ℕ) (begin n at : ℕ) (c : Counts 64 n) (inside : at ≤ length s) (t : There (list begin n (drop at s) at)) where
+module _ (s : List ℕ) (begin n at : ℕ) (c : Counts 1 64 n) (inside : at ≤ length s) (t : There (list begin n (drop at s) at)) where
   counts-here : at < length s
   counts-here = go (decLt at (length s))
     where

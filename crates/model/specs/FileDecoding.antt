@@ -54,11 +54,11 @@ module _ (s : List ℕ) (g : GoodModel s) where
       go (yes h) = absurd (no-fault (count-cut f s begun h))
       go (no h) = omega arith
 
-  pub good-counts : Counts 64 n
-  good-counts = go (in-range 64 n) refl
+  pub good-counts : Counts 1 64 n
+  good-counts = go (in-range 1 64 n) refl
     where
-      go : (b : Bool) → in-range 64 n ≡ b → Counts 64 n
-      go true e = range-tells 64 n .says e
+      go : (b : Bool) → in-range 1 64 n ≡ b → Counts 1 64 n
+      go true e = range-tells 1 64 n .says e
       go false e = absurd (no-fault (count-unfit f s begun good-long e))
 
   -- the whole file is read

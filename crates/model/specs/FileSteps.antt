@@ -78,18 +78,18 @@ module _ (f : Form) (s : List ℕ) (begins : opens (opening f) s ≡ true) where
   unfolding times
   count-cut k =
       let long = letters f begins .0 in
-      by-count (guard-cut (in-range 64) 62 (byte early) (drop 4 s) 4 (byte-end early s 4 (omega arith)))
+      by-count (guard-cut (in-range 1 64) 62 (byte early) (drop 4 s) 4 (byte-end early s 4 (omega arith)))
 
   module _ (inside : 4 < length s) where
-    pub count-unfit : in-range 64 count ≡ false → readForm f s ≡ refused 62 4
+    pub count-unfit : in-range 1 64 count ≡ false → readForm f s ≡ refused 62 4
     unfolding times
-    count-unfit n = by-count (guard-fails (in-range 64) 62 (byte early) (drop 4 s) 4 (byte-at early s 4 inside) n)
+    count-unfit n = by-count (guard-fails (in-range 1 64) 62 (byte early) (drop 4 s) 4 (byte-at early s 4 inside) n)
 
-    module _ (fits : Counts 64 count) where
+    module _ (fits : Counts 1 64 count) where
       pub counted : readForm f s ≡ ending early (statesFrom f count s)
       unfolding statesFrom times
       counted =
-          by-count (guard-passes (in-range 64) 62 (byte early) (drop 4 s) 4 (byte-at early s 4 inside) (range-tells 64 count .holds fits))
+          by-count (guard-passes (in-range 1 64) 62 (byte early) (drop 4 s) 4 (byte-at early s 4 inside) (range-tells 1 64 count .holds fits))
           ∙ ap (ending early) (again (statesFrom f count s))
         where
           again : (g : Got (List State)) → bind (bind g (λ l t z. got (count, l) t z)) (λ (w : ℕ × List State) r o. got (w .1) r o) ≡ g

@@ -166,7 +166,7 @@ fn states_step(bytes: &[u8], acts: bool, states: usize) -> Step
 
 // Whether a model may have so many states.
 fn count_fits(states: usize) -> bool
-    ensures { λ r. ⌜ r ≡ in-range 64 states ⌝ }
+    ensures { λ r. ⌜ r ≡ in-range 1 64 states ⌝ }
 {
     if states == 0 {
         return false;

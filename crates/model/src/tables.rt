@@ -95,7 +95,7 @@ fn put_state(bytes: &[u8], at: usize, acts: bool, marks: &mut [u16; 64]) -> Put
 // The number of states.
 pub fn state_count(bytes: &[u8]) -> usize
     requires { ⌜ GoodModel (now bytes) ⌝ }
-    ensures { λ r. ⌜ (r ≡ length (statesOf (now (bytes .entry)))) × (Counts 64 r) ⌝ }
+    ensures { λ r. ⌜ (r ≡ length (statesOf (now (bytes .entry)))) × (Counts 1 64 r) ⌝ }
 {
     bytes[4] as usize
 }

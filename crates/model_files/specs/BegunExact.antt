@@ -30,7 +30,7 @@ below-few : (n c : ℕ) {l : List ℕ} → Numbers OneByte (λ (u : ℕ). u < n)
 below-few n c ends h = omega arith
 below-few n c (goes {x = x} f k) h = omega (arith, f .1, below-few n (suc x) k (f .1 .1))
 
-module _ (n : ℕ) (c : Counts 64 n) where
+module _ (n : ℕ) (c : Counts 1 64 n) where
   -- the number of a state fits a byte
   pub bytes-below : {l : List ℕ} → Each (λ (u : ℕ). u < n) l → Each (OneByteBelow n) l
   bytes-below e = each-as (λ u h. (omega (arith, c), h)) e
@@ -77,7 +77,7 @@ abbrev Next : ℕ → Bool → List ℕ → Type 0
 Next n true l = Some n l
 Next n false l = l ≡ []
 
-module _ (n : ℕ) (c : Counts 64 n) where
+module _ (n : ℕ) (c : Counts 1 64 n) where
   next-fits : (b : Bool) (l : List ℕ) → Next n b l → ListFits n b l
   next-fits true l h = record {
     some = not-tells (eqb-tells (length l) 0) .holds (h .number .1);

@@ -58,7 +58,7 @@ module _ {m : List State} (f : FitModel m) where
       each-lists e = each-as (λ x h. h .each) e
 
   -- the state count: 1 to 64
-  pub size-counts : Counts 64 (modelOf m .size)
+  pub size-counts : Counts 1 64 (modelOf m .size)
   unfolding modelOf
   size-counts = f .count
 

@@ -25,7 +25,7 @@ each-of : {A : Type 0} {P : A → Type 0} → ((x : A) → P x) → (l : List A)
 each-of f [] = none
 each-of f (x ∷ l) = more (f x) (each-of f l)
 
-module _ (n : ℕ) (c : Counts 64 n) where
+module _ (n : ℕ) (c : Counts 1 64 n) where
   list-short : {l : List ℕ} → FitList n l → length (encodeList l) ≤ 65
   list-short {l} h =
       part-short (hasList l) encodeSuccessors l 65

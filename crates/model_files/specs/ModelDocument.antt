@@ -103,7 +103,7 @@ module _ (f : Form) where
 
   -- some of n states, well formed
   pub record SomeStates (n : ℕ) (m : List State) : Type 0 where
-    pub count : Counts 64 n
+    pub count : Counts 1 64 n
     pub fewer : length m < n
     pub each : Each (λ (s : State). FitState n s × Holds f s) m
 
@@ -120,7 +120,7 @@ module _ (f : Form) where
   -- bytes that may not come next, and the number that they earn
   abbrev pub Wrong : ModelStage → List ℕ → ℕ → Type 0
   -- a count out of range
-  Wrong at-state-count = Unfit encodeByte OneByte (Counts 64) 62
+  Wrong at-state-count = Unfit encodeByte OneByte (Counts 1 64) 62
   Wrong (at-state n m σ) = StateWrong f n ACTIONS σ
 
   abbrev pub modelStages : Stages

@@ -41,7 +41,7 @@ Whole f n w = (length (w .1) ≡ ACTIONS) × FitBegun f n w
 abbrev pub StateIn : Form → ℕ → State → Type 0
 StateIn f n s = FitState n s × Holds f s
 
-pub state-exact : (f : Form) (n : ℕ) → Counts 64 n → Exact (state f n) (encodeState f) (StateIn f n)
+pub state-exact : (f : Form) (n : ℕ) → Counts 1 64 n → Exact (state f n) (encodeState f) (StateIn f n)
 unfolding state
 state-exact f n c = via-exact (begun-exact n c f ACTIONS) made begunOf to from
   where
@@ -70,11 +70,11 @@ state-exact f n c = via-exact (begun-exact n c f ACTIONS) made begunOf to from
       ap (λ (h : Head). encodeBegun f (h, w .1)) (sym (header-same f n w many b)) ∙ header-first f (made w),
     )
 
-pub count-exact : Exact stateCount encodeByte (λ n. OneByte n × Counts 64 n)
-count-exact = lists.count-exact _ _ (byte-exact early)
+pub count-exact : Exact stateCount encodeByte (λ n. OneByte n × Counts 1 64 n)
+count-exact = lists.count-exact _ _ _ (byte-exact early)
 
 abbrev Counted : Form → ℕ × List State → Type 0
-Counted f w = (OneByte (w .0) × Counts 64 (w .0)) × ((length (w .1) ≡ w .0) × Each (StateIn f (w .0)) (w .1))
+Counted f w = (OneByte (w .0) × Counts 1 64 (w .0)) × ((length (w .1) ≡ w .0) × Each (StateIn f (w .0)) (w .1))
 
 pub each-both : {A : Type 0} {P Q : A → Type 0} {l : List A} → Each P l → Each Q l → Each (λ x. P x × Q x) l
 each-both none none = none

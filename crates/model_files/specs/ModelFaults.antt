@@ -30,14 +30,14 @@ module _ (f : Form) where
   -- the stages as the parsers are joined
   abbrev Parts : Stages
   Parts =
-      followed encodeByte (λ n. OneByte n × Counts 64 n) (tested 1 encodeByte OneByte (Counts 64) 62)
+      followed encodeByte (λ n. OneByte n × Counts 1 64 n) (tested 1 encodeByte OneByte (Counts 1 64) 62)
       (λ n. listing nothing (λ k. k ≡ n) (raw 0) (encodeState f) (StateIn f n) (stateStages f n ACTIONS))
 
   parts-refuse : Refuses early (body f) Parts
   unfolding body
   parts-refuse =
       via-refuses
-      (seq-refuses (count-refuses _ _ (byte-takes early) (byte-exact early)) count-exact
+      (seq-refuses (count-refuses _ _ _ (byte-takes early) (byte-exact early)) count-exact
       (λ n c. listed-refuses (known-exact n) (known-refuses early n) (state-exact f n (c .1)) (state-refuses f n (c .1))))
       (λ (w : ℕ × List State). w .1)
 

@@ -84,7 +84,7 @@ pub record FitState (n : ℕ) (s : State) : Type 0 where
 
 pub record FitModel (m : List State) : Type 0 where
   -- the state count (1 to 64)
-  pub count : Counts 64 (length m)
+  pub count : Counts 1 64 (length m)
   pub each : Each (FitState (length m)) m
 
 -- MDL1 holds no successor by another action than 0

@@ -84,7 +84,7 @@ state f n s at = via made (begun f n ACTIONS) s at
 
 -- one byte, 1 to 64
 abbrev pub stateCount : Parser ℕ
-stateCount s at = count 64 62 (byte early) s at
+stateCount s at = count 1 64 62 (byte early) s at
 
 abbrev pub states : Form → ℕ → Parser (List State)
 unfolding times

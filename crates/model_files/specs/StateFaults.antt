@@ -41,7 +41,7 @@ none-yet : (f : Form) (n : ℕ) (s : List ℕ) (at : ℕ) → begun f n 0 s at �
 unfolding begun lists times
 none-yet f n s at = refl
 
-module _ (f : Form) (n : ℕ) (k : Counts 64 n) (c : ℕ) where
+module _ (f : Form) (n : ℕ) (k : Counts 1 64 n) (c : ℕ) where
   -- the stages of one list more, as the parsers are joined
   abbrev Fits : Begun → Type 0
   Fits w = (length (w .1) ≡ c) × FitBegun f n w
@@ -207,7 +207,7 @@ module _ (f : Form) (n : ℕ) (k : Counts 64 n) (c : ℕ) where
       refuses-same (λ s at. one-more n c at f s)
       (refuses-as (record { cut = parts-cut; wrong = parts-wrong }) (record { cut = stages-cut; wrong = stages-wrong }) (parts-refuse R))
 
-module _ (f : Form) (n : ℕ) (k : Counts 64 n) where
+module _ (f : Form) (n : ℕ) (k : Counts 1 64 n) where
   begun-refuses : (c : ℕ) → Refuses early (begun f n c) (stateStages f n c)
   begun-refuses zero = refuses-same (none-yet f n) (via-refuses (begun-none f n) (λ (h : Head). (h, [])))
   begun-refuses (suc c) = more-refuses f n k c (begun-refuses c)

@@ -11,7 +11,7 @@ use lib.ListN.{length, getD, drop}
 use Rattle.verdict.specs.Tells.{fails}
 use Rattle.formula.specs.Table.{Table}
 use Rattle.formula.specs.Nodes.{Node, Proof}
-use Rattle.formula.specs.Claim.{Form, clm1, clm2, Claim, Derivation}
+use Rattle.formula.specs.Claim.{Form, clm1, clm2, fewest, Claim, Derivation}
 use Rattle.encoding.specs.Encode.{Counts}
 use Rattle.encoding.specs.Parse.{Got, fault, got, bind, times, in-range, fits-from}
 use Rattle.encoding.specs.File.{refused, good}
@@ -88,18 +88,18 @@ module _ (t : Table) (s : List ℕ) where
   sequent-read : (at : ℕ) → at ≤ length s → Read (sequent t (drop at s) at) → Listed at
   sequent-read at h r = room (decLt at (length s))
     where
-      count : at < length s → (b : Bool) → in-range 24 (getD s at 0) ≡ b → Listed at
+      count : at < length s → (b : Bool) → in-range 1 24 (getD s at 0) ≡ b → Listed at
       count l true e =
           let same = sequent-codes t s at l e in
           let found = numbers-found (isCode t) s (getD s at 0) (at + 1) (omega arith) (record { value = r .value; rest = r .rest; place = r .place; was = sym same ∙ r .was }) in
           record {
-            few = range-tells 24 (getD s at 0) .says e .1;
+            few = range-tells 1 24 (getD s at 0) .says e .1;
             reached = record { found = same ∙ found .found; inside = found .inside; near = found .near };
           }
       count l false e = absurd (never r (sequent-unfit t s at l e))
 
       room : Dec (at < length s) → Listed at
-      room (yes l) = count l (in-range 24 (getD s at 0)) refl
+      room (yes l) = count l (in-range 1 24 (getD s at 0)) refl
       room (no l) = absurd (never r (sequent-cut t s at (omega arith)))
 
   -- a node that was read is the one that stands there
@@ -211,20 +211,20 @@ module _ (c : Claim) (s : List ℕ) where
       refuses : {n q : ℕ} → readProof c s ≡ refused n q → ⊥
       refuses e = refused-not-good (sym e ∙ h)
 
-      rooted : (o : opens (proofOpening (c .form)) s ≡ true) (l : 6 ≤ length s) (k : Counts 1024 (wordAt s 4))
+      rooted : (o : opens (proofOpening (c .form)) s ≡ true) (l : 6 ≤ length s) (k : Counts (fewest (c .form)) 1024 (wordAt s 4))
           → (g : Got (List ℕ)) → rootsOf (c .form) goals (wordAt s 4) s ≡ g → Decoded d
       rooted o l k (fault n q) e = absurd (refuses (roots-stop c s o l k e))
       rooted o l k (got rs r z) e =
           let roots = roots-found (c .form) goals (wordAt s 4) s l (record { value = rs; rest = r; place = z; was = e }) in
           nodes-found l (roots .inside) (k .1) refl (nodesOf (c .entries) (wordAt s 4) s place) refl (sym (roots-read c s o l k place (roots .found)) ∙ h)
 
-      count : (o : opens (proofOpening (c .form)) s ≡ true) (l : 6 ≤ length s) (b : Bool) → in-range 1024 (wordAt s 4) ≡ b → Decoded d
-      count o l true e = rooted o l (range-tells 1024 (wordAt s 4) .says e) (rootsOf (c .form) goals (wordAt s 4) s) refl
-      count o l false e = absurd (refuses (count-unfit c s o l (fails (range-tells 1024 (wordAt s 4)) e)))
+      count : (o : opens (proofOpening (c .form)) s ≡ true) (l : 6 ≤ length s) (b : Bool) → in-range (fewest (c .form)) 1024 (wordAt s 4) ≡ b → Decoded d
+      count o l true e = rooted o l (range-tells (fewest (c .form)) 1024 (wordAt s 4) .says e) (rootsOf (c .form) goals (wordAt s 4) s) refl
+      count o l false e = absurd (refuses (count-unfit c s o l (fails (range-tells (fewest (c .form)) 1024 (wordAt s 4)) e)))
 
       room : opens (proofOpening (c .form)) s ≡ true → Dec (length s < 6) → Decoded d
       room o (yes l) = absurd (refuses (no-count c s o l))
-      room o (no l) = count o (omega arith) (in-range 1024 (wordAt s 4)) refl
+      room o (no l) = count o (omega arith) (in-range (fewest (c .form)) 1024 (wordAt s 4)) refl
 
       opening : (b : Bool) → opens (proofOpening (c .form)) s ≡ b → Decoded d
       opening true o = room o (decLt (length s) 6)

@@ -8,7 +8,7 @@ use lib.Seq.{sets, take-append-seam}
 use Rattle.verdict.specs.Lists.{written}
 use Rattle.verdict.specs.WrittenLaws.{written-on}
 use Rattle.formula.specs.Claim.{Form, clm1, clm2, formNumber}
-use Rattle.proofs.specs.NamedForm.{names, names-several, names-one}
+use Rattle.formula.specs.NamedForm.{names, names-several, names-one}
 use Rattle.nodes.specs.ProofDecode.{wordsAt, wordsAt-length, rootsIn, nodesPlace}
 
 -- the roots of k goals stand in the file, in the form that a number names

@@ -26,7 +26,7 @@ use Rattle.proof_files.specs.ProofDocument.{at-rule, at-fields, at-code-
 
 -- the stages as the parsers are joined
 abbrev CodesParts : Table → Stages
-CodesParts t = climbing encodeByte (λ n. OneByte n × Counts 24 n) (tested 1 encodeByte OneByte (Counts 24) 32) 2 encodeTwo TwoBytes (λ c. Formula t (entryOf c)) 34
+CodesParts t = climbing encodeByte (λ n. OneByte n × Counts 1 24 n) (tested 1 encodeByte OneByte (Counts 1 24) 32) 2 encodeTwo TwoBytes (λ c. Formula t (entryOf c)) 34
 
 abbrev LinksPart : ℕ → Stages
 LinksPart r = raw (ifSet (hasPrincipal r) 2 + (ifSet (hasFirst r) 2 + (ifSet (hasSecond r) 2 + ifSet (hasBack r) 2)))
@@ -39,7 +39,7 @@ NodeParts t =
 sequent-refuses : (t : Table) → Refuses early (sequent t) (CodesParts t)
 unfolding sequent
 sequent-refuses t =
-    rising-refuses (count-exact 24 32 (byte-exact early)) (count-refuses 24 32 (byte-takes early) (byte-exact early)) (two-exact early) (two-takes early)
+    rising-refuses (count-exact 1 24 32 (byte-exact early)) (count-refuses 1 24 32 (byte-takes early) (byte-exact early)) (two-exact early) (two-takes early)
     (λ c. formula-tells t (entryOf c)) 34
 
 pub fields-take : (r : ℕ) → Takes early (fields r) (ifSet (hasPrincipal r) 2 + (ifSet (hasFirst r) 2 + (ifSet (hasSecond r) 2 + ifSet (hasBack r) 2)))

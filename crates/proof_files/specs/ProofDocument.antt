@@ -9,7 +9,7 @@ use Rattle.formula.specs.Rule
 use Rattle.formula.specs.Table.{Table}
 use Rattle.formula.specs.Codes.{Formula, entryOf}
 use Rattle.formula.specs.Nodes.{Proof}
-use Rattle.formula.specs.Claim.{Form, clm2, Claim}
+use Rattle.formula.specs.Claim.{Form, clm2, fewest, Claim}
 use Rattle.bits.specs.IfSet.{ifSet}
 use Rattle.formula.specs.Fields.{hasPrincipal, hasFirst, hasSecond, hasBack}
 use Rattle.encoding.specs.Encode.{OneByte, TwoBytes, PairOfBytes, encodeByte, encodePair, encodeTwo, encodeAll, Counts}
@@ -45,7 +45,7 @@ nodeWidth (at-code r v m cs) = 2
 module _ (t : Table) where
   -- some of m codes, well formed
   pub record SomeCodes (m : ℕ) (cs : List ℕ) : Type 0 where
-    pub count : Counts 24 m
+    pub count : Counts 1 24 m
     pub fewer : length cs < m
     pub rising : Rising cs
     pub each : Each (Code t) cs
@@ -63,7 +63,7 @@ module _ (t : Table) where
   NodeWrong at-rule = Unfit encodePair PairOfBytes FitRule 33
   NodeWrong (at-fields r b) = λ _ _. ⊥
   -- counts of node members belong to 32
-  NodeWrong (at-code-count r v) = Unfit encodeByte OneByte (Counts 24) 32
+  NodeWrong (at-code-count r v) = Unfit encodeByte OneByte (Counts 1 24) 32
   -- a member not rising, out of range, or a name
   NodeWrong (at-code r v m cs) = Unfit encodeTwo TwoBytes (λ c. Rising (cs ++ (c ∷ [])) × Formula t (entryOf c)) 34
 
@@ -108,7 +108,7 @@ module _ (c : Claim) where
 
   -- the roots and some of n nodes, well formed
   pub record SomeNodes (n : ℕ) (rs : List ℕ) (p : Proof) : Type 0 where
-    pub count : Counts 1024 n
+    pub count : Counts (fewest (c .form)) 1024 n
     pub roots : FitRoots (c .form) (length (c .goals)) n rs
     pub fewer : length p < n
     pub each : Each (FitNode (c .entries)) p
@@ -116,13 +116,13 @@ module _ (c : Claim) where
   -- and they are well formed
   abbrev pub Reached : ProofStage → Type 0
   Reached at-node-count = Unit
-  Reached (at-root n rs) = Counts 1024 n × SomeRoots (c .form) (length (c .goals)) n rs
+  Reached (at-root n rs) = Counts (fewest (c .form)) 1024 n × SomeRoots (c .form) (length (c .goals)) n rs
   Reached (at-node n rs p σ) = SomeNodes n rs p × NodeReached (c .entries) σ
 
   -- bytes that may not come next, and the number that they earn
   abbrev pub Wrong : ProofStage → List ℕ → ℕ → Type 0
-  -- a count out of range
-  Wrong at-node-count = Unfit encodeTwo TwoBytes (Counts 1024) 32
+  -- a count out of range; in PRF2 none is a node count too
+  Wrong at-node-count = Unfit encodeTwo TwoBytes (Counts (fewest (c .form)) 1024) 32
   Wrong (at-root n rs) = RootWrong n rs
   Wrong (at-node n rs p σ) = NodeWrong (c .entries) σ
 

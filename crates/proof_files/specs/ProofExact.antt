@@ -14,7 +14,7 @@ use Rattle.formula.specs.Rule
 use Rattle.formula.specs.Table.{Table}
 use Rattle.formula.specs.Codes.{entryOf}
 use Rattle.formula.specs.Nodes.{Proof}
-use Rattle.formula.specs.Claim.{Form, clm1, clm2, Claim, Derivation}
+use Rattle.formula.specs.Claim.{Form, clm1, clm2, fewest, Claim, Derivation}
 use Rattle.bits.specs.IfSet.{ifSet, if-set-le}
 use Rattle.formula.specs.Fields.{hasPrincipal, hasFirst, hasSecond, hasBack, lowMap}
 use Rattle.encoding.specs.Encode.{Bytes, TwoBytes, encodeTwo, encodePart, encodeAll, Counts}
@@ -67,7 +67,7 @@ fields-exact r =
 
 -- the codes of a sequent that is not empty
 pub record FitCodes (t : Table) (cs : List ℕ) : Type 0 where
-  pub count : Counts 24 (length cs)
+  pub count : Counts 1 24 (length cs)
   pub rising : Rising cs
   pub each : Each (Code t) cs
 
@@ -80,7 +80,7 @@ pub sequent-exact : (t : Table) → Exact (sequent t) encodeCodes (FitCodes t)
 unfolding sequent
 sequent-exact t =
     exact-as (λ cs h. record { count = h .0 .1; rising = h .1; each = h .2 }) (λ cs f. ((omega (arith, f .count), f .count), f .rising, f .each))
-    (rising-exact (lists.count-exact 24 32 (byte-exact early)) (two-exact early) (λ c. formula-tells t (entryOf c)) 34)
+    (rising-exact (lists.count-exact 1 24 32 (byte-exact early)) (two-exact early) (λ c. formula-tells t (entryOf c)) 34)
 
 pub codes-exact : (t : Table) (b : Bool) → Exact (part [] b (sequent t)) (encodePart b encodeCodes) (FitSequent t b)
 codes-exact t b = part-exact (FitSequent t) (sequent-exact t) refl (λ cs h. h) b
@@ -114,8 +114,8 @@ node-exact t =
       ap (λ (b : Bool). encodeRule (w .0 .0, b) ++ (encodeLinks (w .0 .0) (w .1 .0) ++ encodePart b encodeCodes cs)) (full-sequent t (w .0 .1) cs (h .1 .1)),
     ))
 
-pub count-exact : Exact nodeCount encodeTwo (λ n. TwoBytes n × Counts 1024 n)
-count-exact = lists.count-exact 1024 32 (two-exact early)
+pub count-exact : (f : Form) → Exact (nodeCount f) encodeTwo (λ n. TwoBytes n × Counts (fewest f) 1024 n)
+count-exact f = lists.count-exact (fewest f) 1024 32 (two-exact early)
 
 pub node-tells : (n r : ℕ) → Tells (isNode n r) (r < n)
 node-tells n r = ltb-tells r n
@@ -138,14 +138,14 @@ module _ (c : Claim) where
   -- node count, roots and nodes as they are read
   abbrev Counted : ℕ × (List ℕ × Proof) → Type 0
   Counted w =
-      (TwoBytes (w .0) × Counts 1024 (w .0))
+      (TwoBytes (w .0) × Counts (fewest (c .form)) 1024 (w .0))
       × (FitRoots (c .form) (length (c .goals)) (w .0) (w .1 .0) × ((length (w .1 .1) ≡ w .0) × Each (FitNode (c .entries)) (w .1 .1)))
 
   pub body-exact : Exact (body c) (encodeBody (c .form)) (FitProof c)
   unfolding body
   body-exact =
       via-exact
-      (seq-exact count-exact (λ n h. seq-exact (roots-exact (c .form) (length (c .goals)) n (h .1 .1)) (λ _ _. nodes-exact (c .entries) n)))
+      (seq-exact (count-exact (c .form)) (λ n h. seq-exact (roots-exact (c .form) (length (c .goals)) n (h .1 .1)) (λ _ _. nodes-exact (c .entries) n)))
       derivationOf
       (λ d. (length (d .nodes), (d .roots, d .nodes)))
       (λ d k. (((omega (arith, k .nodes .count), k .nodes .count), (k .roots, (refl, k .nodes .each))), refl, refl))

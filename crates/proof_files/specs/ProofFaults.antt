@@ -10,7 +10,7 @@ use Rattle.verdict.specs.Lists.{Each, Rising}
 use Rattle.verdict.specs.Tells.{fails}
 use Rattle.formula.specs.Table.{Table}
 use Rattle.formula.specs.Nodes.{Proof}
-use Rattle.formula.specs.Claim.{Form, clm1, clm2, formNumber, Claim, Derivation}
+use Rattle.formula.specs.Claim.{Form, clm1, clm2, formNumber, fewest, Claim, Derivation}
 use Rattle.encoding.specs.Encode.{Bytes, TwoBytes, encodeTwo, encodeAll, Counts}
 use Rattle.encoding.specs.Stages.{Stages, raw, tested, after, followed, climbing}
 use Rattle.encoding.specs.ChainLaws.{each-as, chain-each, each-chain}
@@ -85,7 +85,7 @@ nodes-refuse t n =
 module _ (c : Claim) where
   abbrev Parts : Stages
   Parts =
-      followed encodeTwo (λ n. TwoBytes n × Counts 1024 n) (tested 2 encodeTwo TwoBytes (Counts 1024) 32)
+      followed encodeTwo (λ n. TwoBytes n × Counts (fewest (c .form)) 1024 n) (tested 2 encodeTwo TwoBytes (Counts (fewest (c .form)) 1024) 32)
       (λ n. followed (encodeRoots (c .form)) (FitRoots (c .form) (length (c .goals)) n) (rootStages (c .form) (length (c .goals)) n) (λ _. NodesParts (c .entries) n))
 
   -- each part is a stage in the documents' words
@@ -116,7 +116,7 @@ module _ (c : Claim) where
   body-refuses =
       via-refuses
       (refuses-as (renames-each parts-proof) (renames-each proof-parts)
-      (seq-refuses (count-refuses 1024 32 (two-takes early) (two-exact early)) count-exact
+      (seq-refuses (count-refuses (fewest (c .form)) 1024 32 (two-takes early) (two-exact early)) (count-exact (c .form))
       (λ n k. seq-refuses (roots-refuse (c .form) (length (c .goals)) n (k .1 .1)) (roots-exact (c .form) (length (c .goals)) n (k .1 .1)) (λ _ _. nodes-refuse (c .entries) n))))
       derivationOf
 

@@ -10,7 +10,7 @@ use Rattle.formula.specs.Rule
 use Rattle.formula.specs.Table.{Table}
 use Rattle.formula.specs.Codes.{Formula, entryOf}
 use Rattle.formula.specs.Nodes.{Node, Proof}
-use Rattle.formula.specs.Claim.{Form, clm1, clm2, Claim, Derivation}
+use Rattle.formula.specs.Claim.{Form, clm1, clm2, fewest, Claim, Derivation}
 use Rattle.bits.specs.IfSet.{ifSet}
 use Rattle.formula.specs.Fields.{hasPrincipal, hasFirst, hasSecond, hasBack, lowMap}
 use Rattle.encoding.specs.Encode.{FitField, TwoBytes, encodeByte, encodeTwo, encodePart, encodeField, encodeAll, encodeCounted, Counts}
@@ -85,9 +85,9 @@ pub record FitNode (t : Table) (v : Node) : Type 0 where
   -- members are never name entries
   pub members : Each (Code t) (v .codes)
 
-pub record FitNodes (t : Table) (p : Proof) : Type 0 where
-  -- node count (1 to 1,024)
-  pub count : Counts 1024 (length p)
+pub record FitNodes (f : Form) (t : Table) (p : Proof) : Type 0 where
+  -- node count (1 to 1,024, in PRF2 from 0 on)
+  pub count : Counts (fewest f) 1024 (length p)
   pub each : Each (FitNode t) p
 
 -- the roots of n nodes that prove g goals
@@ -104,7 +104,7 @@ FitRoots clm1 g n rs = rs ≡ 0 ∷ []
 FitRoots clm2 g n rs = Rooted g n rs
 
 pub record FitProof (c : Claim) (d : Derivation) : Type 0 where
-  pub nodes : FitNodes (c .entries) (d .nodes)
+  pub nodes : FitNodes (c .form) (c .entries) (d .nodes)
   pub roots : FitRoots (c .form) (length (c .goals)) (length (d .nodes)) (d .roots)
 
 -- the bytes are a proof file with these roots and nodes, beside this claim

@@ -9,12 +9,11 @@ use Rattle.verdict.specs.EachLaws.{each-at, each-member}
 use Rattle.formula.specs.Rule
 use Rattle.formula.specs.Codes.{Formula, entryOf}
 use Rattle.formula.specs.Nodes.{node}
-use Rattle.formula.specs.Claim.{Form, clm1, clm2, Claim, Derivation}
-use Rattle.encoding.specs.Encode.{Counts}
+use Rattle.formula.specs.Claim.{Form, clm1, clm2, fewest, Claim, Derivation}
 use Rattle.proof_files.specs.ProofFile.{FitNode, Rooted, FitRoots, FitProof, ProofFile}
 
 -- the root of PRF1 is that of one goal
-one-root : (f : Form) {g n : ℕ} {rs : List ℕ} → (f ≡ clm1 → g ≡ 1) → 1 ≤ n → FitRoots f g n rs → Rooted g n rs
+one-root : (f : Form) {g n : ℕ} {rs : List ℕ} → (f ≡ clm1 → g ≡ 1) → fewest f ≤ n → FitRoots f g n rs → Rooted g n rs
 one-root clm1 one some e = rw e (record { as-many = sym (one refl); rising = λ i h. absurd (omega arith); each = more {x = 0} some none })
 one-root clm2 one some r = r
 
@@ -23,8 +22,8 @@ pub rooted : {c : Claim} {d : Derivation} → (c .form ≡ clm1 → length (c .g
 rooted {c} one f = one-root (c .form) one (f .nodes .count .0) (f .roots)
 
 module _ {c : Claim} {bytes : List ℕ} {d : Derivation} (f : ProofFile c bytes d) where
-  pub node-count : Counts 1024 (length (d .nodes))
-  node-count = f .fits .nodes .count
+  pub node-count : length (d .nodes) ≤ 1024
+  node-count = f .fits .nodes .count .1
 
   -- past the last node the record is blank, and fits too
   pub node-fits : (v : ℕ) → FitNode (c .entries) (node (d .nodes) v)

@@ -8,7 +8,7 @@ use Rattle.formula.specs.Rule
 use Rattle.formula.specs.Table.{Table}
 use Rattle.formula.specs.Codes.{entryOf}
 use Rattle.formula.specs.Nodes.{Node, Proof}
-use Rattle.formula.specs.Claim.{Form, clm1, clm2, Claim, Derivation}
+use Rattle.formula.specs.Claim.{Form, clm1, clm2, fewest, Claim, Derivation}
 use Rattle.formula.specs.Fields.{hasPrincipal, hasFirst, hasSecond, hasBack, lowMap}
 use Rattle.encoding.specs.Parse.{Parser, seq, guard, via, part, byte, bytes, two, field, count, times, listed, rising}
 use Rattle.encoding.specs.File.{Reading, readFile}
@@ -41,7 +41,7 @@ isCode t c = isFormula t (entryOf c)
 
 unfoldable pub sequent : Table → Parser (List ℕ)
 unfolding times isFormula
-sequent t s at = rising (count 24 32 (byte early)) (isCode t) 34 (two early) s at
+sequent t s at = rising (count 1 24 32 (byte early)) (isCode t) 34 (two early) s at
 
 abbrev pub made : (ℕ × Bool) × (Links × List ℕ) → Node
 made w =
@@ -52,9 +52,9 @@ unfoldable pub node : Table → Parser Node
 unfolding sequent
 node t s at = via made (seq ruleByte (λ h. seq (fields (h .0)) (λ _. part [] (h .1) (sequent t)))) s at
 
--- two bytes, 1 to 1,024
-abbrev pub nodeCount : Parser ℕ
-nodeCount s at = count 1024 32 (two early) s at
+-- two bytes, 1 to 1,024, in PRF2 from 0 on
+abbrev pub nodeCount : Form → Parser ℕ
+nodeCount f s at = count (fewest f) 1024 32 (two early) s at
 
 -- a number of one of n nodes
 abbrev pub isNode : ℕ → ℕ → Bool
@@ -77,7 +77,7 @@ derivationOf w = record { roots = w .1 .0; nodes = w .1 .1 }
 
 unfoldable pub body : Claim → Parser Derivation
 unfolding roots nodes
-body c s at = via derivationOf (seq nodeCount (λ n. seq (roots (c .form) (length (c .goals)) n) (λ _. nodes (c .entries) n))) s at
+body c s at = via derivationOf (seq (nodeCount (c .form)) (λ n. seq (roots (c .form) (length (c .goals)) n) (λ _. nodes (c .entries) n))) s at
 
 unfoldable pub readProof : Claim → List ℕ → Reading Derivation
 unfolding readFile body

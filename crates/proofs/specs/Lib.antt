@@ -1,4 +1,3 @@
-pub mod NamedForm
 pub mod ProofHead
 pub mod ProofLaws
 pub mod ProofSteps

@@ -51,7 +51,7 @@ module _ {t : Table} {ks : List ℕ} {n : ℕ} (k : Kinds t ks n) where
 
   sequent-same : sequent t ≡ sequent (kindTable ks n)
   unfolding sequent
-  sequent-same = ap {B = Parser (List ℕ)} (λ (ok : ℕ → Bool) (s : List ℕ) (at : ℕ). rising (count 24 32 (byte early)) ok 34 (two early) s at) code-same
+  sequent-same = ap {B = Parser (List ℕ)} (λ (ok : ℕ → Bool) (s : List ℕ) (at : ℕ). rising (count 1 24 32 (byte early)) ok 34 (two early) s at) code-same
 
   node-same : node t ≡ node (kindTable ks n)
   unfolding node
@@ -65,4 +65,4 @@ by-kinds c {ks} {n} k s =
   where
     -- by a reading of nodes and a number of goals
     by : Parser Node → ℕ → Reading Derivation
-    by q g = readFile (proofOpening (c .form)) 30 early (λ s at. via derivationOf (seq nodeCount (λ n. seq (roots (c .form) g n) (λ _ s at. listed (known n) q s at))) s at) s
+    by q g = readFile (proofOpening (c .form)) 30 early (λ s at. via derivationOf (seq (nodeCount (c .form)) (λ n. seq (roots (c .form) g n) (λ _ s at. listed (known n) q s at))) s at) s

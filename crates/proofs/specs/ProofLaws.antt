@@ -147,20 +147,20 @@ module _ (t : Table) (s : List ℕ) (at n : ℕ) where
 module _ (t : Table) (s : List ℕ) (at : ℕ) where
   pub sequent-cut : at ≡ length s → sequent t (drop at s) at ≡ fault early (length s)
   unfolding sequent
-  sequent-cut h = counted-cut (numberFrom (isCode t)) afterNumber (guard (in-range 24) 32 (byte early)) (drop at s) at (guard-cut (in-range 24) 32 (byte early) (drop at s) at (byte-end early s at h))
+  sequent-cut h = counted-cut (numberFrom (isCode t)) afterNumber (guard (in-range 1 24) 32 (byte early)) (drop at s) at (guard-cut (in-range 1 24) 32 (byte early) (drop at s) at (byte-end early s at h))
 
   module _ (inside : at < length s) where
-    pub sequent-unfit : in-range 24 (getD s at 0) ≡ false → sequent t (drop at s) at ≡ fault 32 at
+    pub sequent-unfit : in-range 1 24 (getD s at 0) ≡ false → sequent t (drop at s) at ≡ fault 32 at
     unfolding sequent
     sequent-unfit k =
-        counted-cut (numberFrom (isCode t)) afterNumber (guard (in-range 24) 32 (byte early)) (drop at s) at
-        (guard-fails (in-range 24) 32 (byte early) (drop at s) at (byte-at early s at inside) k)
+        counted-cut (numberFrom (isCode t)) afterNumber (guard (in-range 1 24) 32 (byte early)) (drop at s) at
+        (guard-fails (in-range 1 24) 32 (byte early) (drop at s) at (byte-at early s at inside) k)
 
-    pub sequent-codes : in-range 24 (getD s at 0) ≡ true → sequent t (drop at s) at ≡ codesOf t (getD s at 0) s (at + 1)
+    pub sequent-codes : in-range 1 24 (getD s at 0) ≡ true → sequent t (drop at s) at ≡ codesOf t (getD s at 0) s (at + 1)
     unfolding sequent numbersOf
     sequent-codes k =
-        counted-starts (numberFrom (isCode t)) afterNumber (guard (in-range 24) 32 (byte early)) (drop at s) at
-        (guard-passes (in-range 24) 32 (byte early) (drop at s) at (byte-at early s at inside) k)
+        counted-starts (numberFrom (isCode t)) afterNumber (guard (in-range 1 24) 32 (byte early)) (drop at s) at
+        (guard-passes (in-range 1 24) 32 (byte early) (drop at s) at (byte-at early s at inside) k)
 
 -- the roots of PRF1 are known, those of PRF2 are numbers of nodes
 pub roots-known : (g n : ℕ) (s : List ℕ) → rootsOf clm1 g n s ≡ got (0 ∷ []) (drop 6 s) 6

@@ -8,7 +8,7 @@ use lib.ListN.{length, drop}
 use Rattle.verdict.specs.Tells.{fails-holds}
 use Rattle.formula.specs.Table.{Table}
 use Rattle.formula.specs.Nodes.{Proof}
-use Rattle.formula.specs.Claim.{Form, clm1, clm2, Claim, Derivation}
+use Rattle.formula.specs.Claim.{Form, clm1, clm2, fewest, Claim, Derivation}
 use Rattle.encoding.specs.Encode.{Counts}
 use Rattle.encoding.specs.Parse.{Got, fault, got, bind, seq, two, in-range}
 use Rattle.encoding.specs.File.{Reading, refused, ending}
@@ -73,34 +73,34 @@ module _ (c : Claim) (s : List ℕ) where
   not-opened h = file-closed (proofOpening (c .form)) 30 early (body c) s h
 
   module _ (begins : opens (proofOpening (c .form)) s ≡ true) where
-    opened : readProof c s ≡ afterCount (c .form) goals (c .entries) (nodeCount (drop 4 s) 4)
+    opened : readProof c s ≡ afterCount (c .form) goals (c .entries) (nodeCount (c .form) (drop 4 s) 4)
     unfolding readProof body
     opened =
         file-opens (proofOpening (c .form)) 30 early (body c) s begins
         ∙ ap (λ (n : ℕ). ending early (body c (drop n s) n)) (four-letters (c .form))
-        ∙ by-count (c .form) goals (c .entries) (nodeCount (drop 4 s) 4)
+        ∙ by-count (c .form) goals (c .entries) (nodeCount (c .form) (drop 4 s) 4)
 
     pub no-count : length s < 6 → readProof c s ≡ refused 31 (length s)
     unfolding afterCount
     no-count h =
         let long : 4 ≤ length s = omega (arith, begins-tells (proofOpening (c .form)) s .says begins .long, four-letters (c .form)) in
-        opened ∙ ap (afterCount (c .form) goals (c .entries)) (guard-cut (in-range 1024) 32 (two early) (drop 4 s) 4 (two-end early s 4 long h))
+        opened ∙ ap (afterCount (c .form) goals (c .entries)) (guard-cut (in-range (fewest (c .form)) 1024) 32 (two early) (drop 4 s) 4 (two-end early s 4 long h))
 
     module _ (long : 6 ≤ length s) where
-      pub count-unfit : (Counts 1024 (wordAt s 4) → ⊥) → readProof c s ≡ refused 32 4
+      pub count-unfit : (Counts (fewest (c .form)) 1024 (wordAt s 4) → ⊥) → readProof c s ≡ refused 32 4
       unfolding afterCount
       count-unfit n =
           opened
           ∙ ap (afterCount (c .form) goals (c .entries))
-          (guard-fails (in-range 1024) 32 (two early) (drop 4 s) 4 (two-at early s 4 (omega arith)) (fails-holds (range-tells 1024 (wordAt s 4)) n))
+          (guard-fails (in-range (fewest (c .form)) 1024) 32 (two early) (drop 4 s) 4 (two-at early s 4 (omega arith)) (fails-holds (range-tells (fewest (c .form)) 1024 (wordAt s 4)) n))
 
-      module _ (k : Counts 1024 (wordAt s 4)) where
+      module _ (k : Counts (fewest (c .form)) 1024 (wordAt s 4)) where
         counted : readProof c s ≡ afterRoots (c .entries) (wordAt s 4) (rootsOf (c .form) goals (wordAt s 4) s)
         unfolding afterCount
         counted =
             opened
             ∙ ap (afterCount (c .form) goals (c .entries))
-            (guard-passes (in-range 1024) 32 (two early) (drop 4 s) 4 (two-at early s 4 (omega arith)) (range-tells 1024 (wordAt s 4) .holds k))
+            (guard-passes (in-range (fewest (c .form)) 1024) 32 (two early) (drop 4 s) 4 (two-at early s 4 (omega arith)) (range-tells (fewest (c .form)) 1024 (wordAt s 4) .holds k))
 
         pub roots-stop : {n q : ℕ} → rootsOf (c .form) goals (wordAt s 4) s ≡ fault n q → readProof c s ≡ refused n q
         unfolding afterRoots

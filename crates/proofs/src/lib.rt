@@ -12,7 +12,7 @@ ghost use Rattle.encoding.specs.Outcome.{verdictOf};
 ghost use Rattle.proof_files.specs.ProofFile.{proofOpening};
 ghost use Rattle.proof_files.specs.ReadProof.{early, rule-fits, isCode, isNode, sequent, node, readProof};
 ghost use Rattle.proof_files.specs.ProofParts.{kindTable, kindClaim, numbersOf, codesOf, rootsOf, nodesOf};
-ghost use Rattle.proofs.specs.NamedForm.{namedForm};
+ghost use Rattle.formula.specs.NamedForm.{namedForm};
 ghost use Rattle.proofs.specs.ProofSteps.{Finds, FindsHead};
 use encoding::opens;
 use encoding::word_at;
@@ -315,7 +315,7 @@ pub fn judge_proof(bytes: &[u8], form: u8, goals: usize, kinds: &[u8; 256], coun
         };
     }
     let n = word_at(bytes, 4);
-    if n == 0 {
+    if n < formula::Form::fewest(form) {
         return Verdict::Refused {
             number: ProofFault::COUNT,
             place: 4,

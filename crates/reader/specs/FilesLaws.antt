@@ -23,7 +23,7 @@ use Rattle.claims.specs.ClaimWalk.{ClaimGot, heldReading}
 use Rattle.proof_files.specs.ReadProof.{readProof}
 use Rattle.proof_files.specs.ProofParts.{kindClaim}
 use Rattle.proofs.specs.ProofKinds.{by-kinds}
-use Rattle.proofs.specs.NamedForm.{names}
+use Rattle.formula.specs.NamedForm.{names}
 use Rattle.nodes.specs.ProofDecode.{wordsAt-length, nodesPlace, rootsIn, derivationIn, proofIn, Decodes}
 use Rattle.nodes.specs.RootsStored.{RootsStored}
 use Rattle.nodes.specs.ProofGood.{good-decoded}

@@ -9,7 +9,6 @@ use Rattle.formula.specs.Table.{Entry, kind}
 use Rattle.formula.specs.Codes.{Formula}
 use Rattle.formula.specs.Spelled.{records-at}
 use Rattle.formula.specs.Claim.{clm1, Claim}
-use Rattle.encoding.specs.Encode.{Counts}
 use Rattle.claim_files.specs.ClaimRecords as files
 use Rattle.reader.specs.WellFormed.{ClaimFormed}
 
@@ -23,7 +22,7 @@ module _ {claim : List ℕ} {c : Claim} (F : ClaimFormed claim c) where
   member-formula g i m h = rw (F .records) (files.member-formula (F .claim-file) g (subst (λ (d : Claim). List·Memᴰ g (d .goals)) (F .records) i) m h)
 
   -- at most 16 goals, and one in the form for one
-  pub goal-count : Counts 16 (length (c .goals))
+  pub goal-count : length (c .goals) ≤ 16
   goal-count = rw (F .records) (files.goal-count (F .claim-file))
 
   pub one-goal : c .form ≡ clm1 → length (c .goals) ≡ 1

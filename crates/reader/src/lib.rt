@@ -121,8 +121,8 @@ pub fn read_beside(
     }
 }
 
-// What was found of a claim and a proof, by value: a refusal, and no node, or how many entries, goals and nodes there are, and where the
-// nodes begin.
+// What was found of a claim and a proof, by value: a refusal, and no place, or how many entries, goals and nodes there are, and where the
+// nodes begin, which is after the opening.
 pub struct Found {
     pub verdict: Verdict,
     pub entries: usize,

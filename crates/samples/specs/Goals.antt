@@ -1,4 +1,4 @@
--- files with several goals, for T-05
+-- files with several goals, for T-05, and with none, for T-06
 use mathlib.Core.List.{List, [], _∷_}
 use Prim.Native.Nat.{ℕ}
 use lib.ListN.{replicate}
@@ -43,3 +43,24 @@ firstSixteen = 0 ∷ 1 ∷ 2 ∷ 3 ∷ 4 ∷ 5 ∷ 6 ∷ 7 ∷ 8 ∷ 9 ∷ 10 �
 -- true, and these goals
 abbrev pub goalsOfTrue : List (List ℕ) → List ℕ
 goalsOfTrue goals = claimOfGoals (truth ∷ []) goals
+
+-- these entries and no goal; a proof of nothing, in either form; one node without codes
+abbrev pub noGoals : List (List ℕ) → List ℕ
+noGoals entries = claimOfGoals entries []
+
+abbrev pub nothing : List ℕ
+nothing = proofOfTrees [] []
+
+abbrev pub nothingInOneForm : List ℕ
+nothingInOneForm = proofOf []
+
+abbrev pub oneNode : List ℕ
+oneNode = proofOfTrees [] ((0 ∷ 0 ∷ []) ∷ [])
+
+-- true, and a node that is its own child
+abbrev pub ownChild : List ℕ
+ownChild = proofOfTrees [] (axiom2 (1 ∷ []) ∷ discharge 1 (1 ∷ []) ∷ [])
+
+-- no entries, and these goals
+abbrev pub goalsOfNothing : List (List ℕ) → List ℕ
+goalsOfNothing goals = claimOfGoals [] goals

@@ -1,4 +1,4 @@
--- document 01's proved samples, then near misses, as one table computed from the definitions: files, models and the gate; formulas alike (T-03), actions (T-04) and several goals (T-05) among them
+-- document 01's proved samples, then near misses, as one table computed from the definitions: files, models and the gate; formulas alike (T-03), actions (T-04), several goals (T-05) and none (T-06) among them
 use mathlib.Core.Path.{_≡_, refl}
 use mathlib.Core.List.{List, [], _∷_, _++_}
 use Prim.Native.Nat.{ℕ}
@@ -23,6 +23,8 @@ use Rattle.samples.specs.Twins.{twoTrue, bothByAx2, letterTwice, allByAx
 use Rattle.samples.specs.Twins.{trueAndMuOfTrue, trueInEitherFocus, boxAndMuOfBox, boxInEitherFocus, nus, nestedNus, loopOfOther, leafOfOther, loopByTurns}
 use Rattle.samples.specs.Actions.{boxAndDiamond, boxThenAx1, actionThenBounds, actionAndBounds, unguardedThenAction, letterWithB, boxesOfLetter, twoWays, oneWay}
 use Rattle.samples.specs.Goals.{nuGoals, twice, twoLoops, oneForm, byTurns, trueGoals, leaves, firstSixteen, goalsOfTrue}
+use Rattle.samples.specs.Goals.{noGoals, nothing, nothingInOneForm, oneNode, ownChild, goalsOfNothing}
+use Rattle.samples.specs.Parts.{truth}
 use Rattle.samples.specs.NearMisses.{endsAtEntryCount, endsAtMemberCount, endsAtNodeCount, endsAtCodeCount, endsAtStateCount}
 
 -- what a sample asks, and what a definition answers
@@ -211,10 +213,9 @@ samples =
     ∷ record { question = check twice (twoLoops (0 ∷ 3 ∷ []) 4); answer = verdictIs (refused 35 2) }
     -- a leaf of the second tree linked into the first: with a climb past the root: accepted
     ∷ record { question = check twice (twoLoops (0 ∷ 4 ∷ []) 0); answer = verdictIs (refused 38 7) }
-    -- 16 goals pass; 17, and none, give 72 at the goal count
+    -- 16 goals pass; 17 give 72 at the goal count
     ∷ record { question = check (trueGoals 16) (leaves firstSixteen 16); answer = verdictIs accepted }
     ∷ record { question = check (trueGoals 17) (leaves firstSixteen 16); answer = verdictIs (refused 72 8) }
-    ∷ record { question = check (trueGoals 0) (leaves [] 1); answer = verdictIs (refused 72 8) }
     -- each goal has at least one member, judged at its own count, and its members rise for themselves
     ∷ record { question = check (goalsOfTrue ((0 ∷ []) ∷ [] ∷ [])) (leaves (0 ∷ 1 ∷ []) 2); answer = verdictIs (refused 12 14) }
     ∷ record { question = check (goalsOfTrue ((0 ∷ []) ∷ (0 ∷ 0 ∷ []) ∷ [])) (leaves (0 ∷ 1 ∷ []) 2); answer = verdictIs (refused 14 18) }
@@ -229,6 +230,26 @@ samples =
     ∷ record { question = check onlyTrue (leaves (0 ∷ []) 1); answer = verdictIs (refused 30 0) }
     -- either form is evaluated
     ∷ record { question = evaluate twice ownSuccessor; answer = wordsAre accepted (1 ∷ 1 ∷ 1 ∷ []) }
+    -- T-06: no goals are accepted with no nodes and no roots, without entries and with them, and a permit is given for them; with zero entries refused:
+    -- 12 at 4, with zero goals refused: 72 at 6, with zero nodes refused: 32 at 4
+    ∷ record { question = check (noGoals []) nothing; answer = verdictIs accepted }
+    ∷ record { question = check (noGoals (truth ∷ [])) nothing; answer = verdictIs accepted }
+    ∷ record { question = takeTwice 7 (noGoals []) nothing; answer = permitsAre (granted 7) (denied 52 0) }
+    -- and only with that: node 0 at least is an orphan, a bad child number comes before it; where no goals ask for no trees: accepted
+    ∷ record { question = check (noGoals []) oneNode; answer = verdictIs (refused 35 0) }
+    ∷ record { question = check (noGoals (truth ∷ [])) (leaves [] 1); answer = verdictIs (refused 35 0) }
+    ∷ record { question = check (noGoals (truth ∷ [])) ownChild; answer = verdictIs (refused 35 1) }
+    -- PRF1 is of another form
+    ∷ record { question = check (noGoals []) nothingInOneForm; answer = verdictIs (refused 30 0) }
+    -- zero entries with a goal: its first member is out of range, and it has one
+    ∷ record { question = check (goalsOfNothing ((0 ∷ []) ∷ [])) nothing; answer = verdictIs (refused 14 10) }
+    ∷ record { question = check (goalsOfNothing ([] ∷ [])) nothing; answer = verdictIs (refused 12 8) }
+    -- a goal with zero nodes: its root is out of range, or is not there
+    ∷ record { question = check (trueGoals 1) (leaves (0 ∷ []) 0); answer = verdictIs (refused 34 6) }
+    ∷ record { question = check (trueGoals 1) nothing; answer = verdictIs (refused 31 6) }
+    -- an evaluation without entries is done and writes no word; without goals it writes those of the entries
+    ∷ record { question = evaluate (noGoals []) ownSuccessor; answer = wordsAre accepted (0 ∷ 0 ∷ 0 ∷ []) }
+    ∷ record { question = evaluate (noGoals (truth ∷ [])) ownSuccessor; answer = wordsAre accepted (1 ∷ 0 ∷ 0 ∷ []) }
     -- bits 5 to 7 of a node's map are zero, and an entry's map has no bit but its kind's: unread bits: accepted
     ∷ record { question = check onlyTrue (mapOfAx2 0x30); answer = verdictIs (refused 33 6) }
     ∷ record { question = check onlyTrue (mapOfAx2 0x50); answer = verdictIs (refused 33 6) }
@@ -237,7 +258,7 @@ samples =
     -- no bytes follow: unread bytes: accepted
     ∷ record { question = check (onlyTrue ++ (0 ∷ [])) (byAx2 1); answer = verdictIs (refused 11 12) }
     ∷ record { question = check onlyTrue (byAx2 1 ++ (0 ∷ [])); answer = verdictIs (refused 31 11) }
-    -- the counts: 1 to 256 entries, 24 members, 1,024 nodes, 24 codes, 64 states; one in range is read past, to the early end of the file
+    -- the counts in CLM1 and PRF1: 1 to 256 entries, 24 members, 1,024 nodes, 24 codes, 64 states; one in range is read past, to the early end of the file
     ∷ record { question = check (endsAtEntryCount 0 0) (byAx2 1); answer = verdictIs (refused 12 4) }
     ∷ record { question = check (endsAtEntryCount 0 1) (byAx2 1); answer = verdictIs (refused 11 6) }
     ∷ record { question = check (endsAtEntryCount 1 1) (byAx2 1); answer = verdictIs (refused 12 4) }

@@ -6,5 +6,5 @@ ghost use Rattle.samples.specs.Samples.{samples};
 pub fn count() -> usize
     ensures { λ r. ⌜ r ≡ length samples ⌝ }
 {
-    114
+    126
 }

@@ -41,7 +41,7 @@ module _ (ks xs ys : List ℕ) (n : ℕ) where
 -- the goals are walked over the same with another table, of which the same entries may be members
 module _ (t u : Table) (same : isFormula t ≡ isFormula u) where
   listed-alike : (k : ℕ) (ms : List ℕ) (at : ℕ) → listedEnd t k ms at ≡ listedEnd u k ms at
-  listed-alike k ms at = ap (λ (ok : ℕ → Bool). goOn (countEnd 24 12 k at) (λ o. risingEnd ok 14 ms o)) same
+  listed-alike k ms at = ap (λ (ok : ℕ → Bool). goOn (countEnd 1 24 12 k at) (λ o. risingEnd ok 14 ms o)) same
 
   lists-alike : (gs ms : List ℕ) (at : ℕ) → listsEnd t gs ms at ≡ listsEnd u gs ms at
   unfolding listsEnd

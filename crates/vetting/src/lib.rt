@@ -13,7 +13,7 @@ ghost use Rattle.formula.specs.Claim.{Form, clm1, clm2, formNumber};
 ghost use Rattle.claim_files.specs.ClaimFile.{GoalCount};
 ghost use Rattle.proof_files.specs.ReadProof.{isCode, isNode};
 ghost use Rattle.proof_files.specs.ProofParts.{kindTable};
-ghost use Rattle.proofs.specs.NamedForm.{namedForm};
+ghost use Rattle.formula.specs.NamedForm.{namedForm};
 ghost use Rattle.tree.specs.Owners.{tree-judged};
 ghost use Rattle.writing.specs.Ends as ends;
 ghost use Rattle.writing.specs.FieldEnds.{mayHold, risingEnd};
@@ -211,14 +211,11 @@ fn judge_goal(kinds: &[u8; 256], count: usize, sizes: &[u16], members: &[u16], a
     judge_listed(kinds, count, members, 0, members.len(), at)
 }
 
-// CLM2: the goal count (1 to 16, 72), sizes that add up to the members (12), then the goals.
+// CLM2: the goal count (at most 16, 72), sizes that add up to the members (12), then the goals.
 fn judge_goals(kinds: &[u8; 256], count: usize, sizes: &[u16], members: &[u16], at: usize) -> Step
     requires { ⌜ (count ≤ 256) × (at ≤ 1542) ⌝ }
     ensures { λ r. ⌜ Finds (goalsEnd clm2 (kindTable (now (kinds .entry)) count) (now (sizes .entry)) (now (members .entry)) at) 2344 r ⌝ }
 {
-    if sizes.len() < 1 {
-        return stop(ClaimFault::GOALS, at);
-    }
     if 16 < sizes.len() {
         return stop(ClaimFault::GOALS, at);
     }
@@ -228,7 +225,7 @@ fn judge_goals(kinds: &[u8; 256], count: usize, sizes: &[u16], members: &[u16], 
     judge_lists(kinds, count, sizes, members, at + 2)
 }
 
-// What the bytes of a claim would earn: its entry count (1 to 256), the entries, the goals.
+// What the bytes of a claim would earn: its entry count (1 to 256, in CLM2 from 0 on), the entries, the goals.
 fn judge_claim_bytes(
     form: u8,
     kinds: &[u8; 256],
@@ -241,7 +238,7 @@ fn judge_claim_bytes(
     ensures { λ r. ⌜ Finds (claimEnd (namedForm form) count (tableOf (now (kinds .entry)) (now (a .entry)) (now (b .entry)) count) (now (sizes .entry))
         (now (members .entry))) 2344 r ⌝ }
 {
-    if count < 1 {
+    if count < wide(formula::Form::fewest(form)) {
         return stop(ClaimFault::COUNT, 4);
     }
     if 256 < count {
@@ -426,7 +423,7 @@ fn judge_nodes(
     Step::Next(at)
 }
 
-// What the bytes of a proof would earn: its node count (1 to 1,024), the roots, the nodes.
+// What the bytes of a proof would earn: its node count (1 to 1,024, in PRF2 from 0 on), the roots, the nodes.
 fn judge_proof_bytes(
     form: u8,
     goals: usize,
@@ -443,7 +440,7 @@ fn judge_proof_bytes(
     ensures { λ r. ⌜ Finds (proofEnd (namedForm form) goals (kindTable (now (kinds .entry)) entries) nodes (now (roots .entry))
         (recordsOf (now (rules .entry)) (now (links .entry)) (now (counts .entry)) nodes) (now (codes .entry))) 58406 r ⌝ }
 {
-    if nodes < 1 {
+    if nodes < wide(formula::Form::fewest(form)) {
         return stop(ProofFault::COUNT, 4);
     }
     if 1024 < nodes {
@@ -469,7 +466,7 @@ fn copy_roots(roots: &[u16], into: &mut [u16; 16])
 
 // 35, in a table of owners of its own. Where no roots are given, node 0 is the root of the one goal.
 fn judge_tree(rules: &[u8], links: &[u16], nodes: usize, goals: usize, roots: &[u16]) -> Verdict
-    requires { ⌜ (1 ≤ nodes) × (nodes ≤ 1024) × (nodes ≤ length (now rules)) × (4 * nodes ≤ length (now links)) × (goals ≤ 16) × RootsFound (now roots) nodes ⌝ }
+    requires { ⌜ (nodes ≤ 1024) × (nodes ≤ length (now rules)) × (4 * nodes ≤ length (now links)) × (goals ≤ 16) × RootsFound (now roots) goals nodes ⌝ }
     ensures { λ r. ⌜ ((f : Form) → GoalCount f goals → rootsFit f goals (now (roots .entry)) ≡ true → (ss cs : List ℕ)
         → shown r ≡ tree-judged (rootsOf f (now (roots .entry))) (proofOf (now (rules .entry)) (now (links .entry)) ss cs nodes)) ⌝ }
 {

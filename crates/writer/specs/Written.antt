@@ -20,7 +20,7 @@ use Rattle.encoding.specs.File.{Reading, refused}
 use Rattle.claim_files.specs.ClaimFile.{GoalCount, encodeClaim}
 use Rattle.proof_files.specs.ProofFile.{encodeProof}
 use Rattle.proof_files.specs.ProofParts.{kindTable}
-use Rattle.proofs.specs.NamedForm.{namedForm, names}
+use Rattle.formula.specs.NamedForm.{namedForm, names}
 use Rattle.writing.specs.RecordBytes.{split}
 use Rattle.writing.specs.Goals.{rootsOf, goals-fit}
 use Rattle.writing.specs.Spelling.{spelledClaim}

@@ -5,7 +5,7 @@ ghost use Prim.Native.Nat.{_+_, _≤_, _^_};
 ghost use lib.ListN.{length};
 ghost use Rattle.verdict.specs.Verdict.{refused, packed};
 ghost use Rattle.proof_files.specs.ProofParts.{kindTable};
-ghost use Rattle.proofs.specs.NamedForm.{namedForm};
+ghost use Rattle.formula.specs.NamedForm.{namedForm};
 ghost use Rattle.writing.specs.Held.{recordsOf, Loadable, ColumnsFor, ClaimWritten, ProofWritten};
 ghost use Rattle.writer.specs.Written.{formed, Beside, Wrote, provedBy};
 use claim_files::ClaimFault;

@@ -12,7 +12,7 @@ use Rattle.verdict.specs.Verdict as verdicts
 use Rattle.verdict.specs.Verdict.{Verdict, accepted}
 use Rattle.verdict.specs.Lists.{valuesFrom-length}
 use Rattle.formula.specs.Table.{Table}
-use Rattle.formula.specs.Claim.{Form, clm1, clm2, formNumber, Derivation}
+use Rattle.formula.specs.Claim.{Form, clm1, clm2, formNumber, fewest, Derivation}
 use Rattle.formula.specs.Records.{NodeRecord}
 use Rattle.formula.specs.Plain.{tableOf, tableOf-length, tableOf-kind}
 use Rattle.encoding.specs.Parse.{pick}
@@ -76,7 +76,7 @@ module _ (form : ℕ) (es : Table) (n : ℕ) (ks xs ys gs ms : List ℕ) (held :
         where
           go : Dec (n ≤ 256) → claimJudged f n (take n es) gs ms ≡ claimJudged f n t gs ms
           go (yes few) = ap (λ (l : Table). claimJudged f n l gs ms) (held long few)
-          go (no many) = rw (out-of-range 256 n (λ w. omega (arith, w .1))) refl
+          go (no many) = rw (out-of-range (fewest f) 256 n (λ w. omega (arith, w .1))) refl
 
       read-as : {e : End} → claimJudged f n t gs ms ≡ e → claimReading f given ≡ readBy (claimOf f given) e
       read-as h = claim-reading f given enough-claim ∙ ap (readBy (claimOf f given)) (same-judged ∙ h)
@@ -155,7 +155,7 @@ module _ (form : ℕ) (es : Table) (n : ℕ) (ks xs ys gs ms : List ℕ) (held :
           where
             go : Dec (m ≤ 1024) → proofEnd f (length gs) (kindTable ks n) m os (take m vs) cs ≡ end
             go (yes few) = ap (λ (l : List NodeRecord). proofEnd f (length gs) (kindTable ks n) m os l cs) (same-nodes few)
-            go (no many) = rw (out-of-range 1024 m (λ w. omega (arith, w .1))) refl
+            go (no many) = rw (out-of-range (fewest f) 1024 m (λ w. omega (arith, w .1))) refl
 
         over-kinds : proofReading f beside (claimOf f over) ≡ proofReading f beside (kindClaim f ks n (length gs))
         over-kinds =
@@ -179,7 +179,7 @@ module _ (form : ℕ) (es : Table) (n : ℕ) (ks xs ys gs ms : List ℕ) (held :
         bytes-stop room e = rw (enough-all, form-named f (proved room) named, read-claim, read-proof e) refl
 
         few-nodes : {u : ℕ} → end ≡ next u → m ≤ 1024
-        few-nodes e = proof-passed f (length gs) (kindTable ks n) m os records cs (λ _. valuesFrom-length (plainRecord rs ls ns) 0 m) long-codes _ e .nodes .1
+        few-nodes e = proof-passed f (length gs) (kindTable ks n) m os records cs (λ _. valuesFrom-length (plainRecord rs ls ns) 0 m) long-codes _ e .nodes
 
         same-derived : {u : ℕ} → end ≡ next u → derivationOf f beside ≡ derived f
         same-derived e = ap (λ (l : List NodeRecord). record { roots = rootsOf f os; nodes = nodesOver l cs }) (same-nodes (few-nodes e))

@@ -18,13 +18,13 @@ use Rattle.claim_files.specs.ClaimExact.{form-opens, read-in}
 use Rattle.writing.specs.RecordBytes.{clipped, tableBytes, memberBytes, goalBytes, claimBytes, claimHead, split}
 use Rattle.writing.specs.Goals.{goalsFit, goals-fit}
 use Rattle.writing.specs.Spelling.{spellingOf, spelledClaim, records-spelled}
-use Rattle.writing.specs.Ends.{End, next, stop, goOn, walk, gotBy, readBy, after-opening, passed, went}
+use Rattle.writing.specs.Ends.{End, next, stop, goOn, cutEnd, walk, gotBy, readBy, after-opening, passed, went}
 use Rattle.writing.specs.EntryEnds.{tableEnd, table-read, table-past, entries-near}
-use Rattle.writing.specs.GoalEnds.{listsEnd, goalCountEnd, goalsEnd, lists-past, goals-read, goals-cut, goal-count-past}
+use Rattle.writing.specs.GoalEnds.{listsEnd, goalNumber, goalCountEnd, goalsEnd, lists-past, goals-read, goals-cut, goal-count-past}
 
 -- 12 to 14 and 72: where the claim ends
 abbrev pub claimEnd : Form → ℕ → Table → List ℕ → List ℕ → End
-claimEnd f n es gs ms = goOn (tableEnd n es 4) (λ o. goalsEnd f es gs ms o)
+claimEnd f n es gs ms = goOn (tableEnd f n es 4) (λ o. goalsEnd f es gs ms o)
 
 opening-long : (f : Form) → length (claimOpening f) ≡ 4
 opening-long clm1 = refl
@@ -54,9 +54,9 @@ module _ (f : Form) (n : ℕ) (es : Table) (long : n ≤ 256 → length es ≡ n
     table-end (stop m q) = refl
     table-end (next o) = ap (after-goals (spellingOf es)) (met o) ∙ goals-end (rest o)
 
-    follows : readClaim (claimOpening f ++ (tableBytes n es ++ bytes)) ≡ readBy (spelledClaim f es x) (goOn (tableEnd n es 4) rest)
+    follows : readClaim (claimOpening f ++ (tableBytes n es ++ bytes)) ≡ readBy (spelledClaim f es x) (goOn (tableEnd f n es 4) rest)
     unfolding body walk after-table
-    follows = opened f (tableBytes n es ++ bytes) ∙ ap after-table (table-read es bytes n 4 long) ∙ table-end (tableEnd n es 4)
+    follows = opened f (tableBytes n es ++ bytes) ∙ ap after-table (table-read es bytes f n 4 long) ∙ table-end (tableEnd f n es 4)
 
   pub claim-ends : (gs ms : List ℕ) → goalsFit f gs ms ≡ true → readClaim (claimBytes f n es (split gs ms)) ≡ readBy (spelledClaim f es (split gs ms)) (claimEnd f n es gs ms)
   unfolding listsEnd
@@ -65,9 +65,10 @@ module _ (f : Form) (n : ℕ) (es : Table) (long : n ≤ 256 → length es ≡ n
       (λ o. ap (λ (s : List ℕ). goals f (spellingOf es) s o) (sym (append-nil (goalBytes f (split gs ms)))) ∙ goals-read (spellingOf es) es (records-spelled es) f gs ms [] o fit)
 
   -- a file that stops after the goal count
-  pub claim-cut : (k : ℕ) → readClaim (claimHead f n es k) ≡ readBy (spelledClaim f es []) (goOn (tableEnd n es 4) (λ o. goOn (goalCountEnd f k o) (λ u. stop early u)))
+  pub claim-cut : (k : ℕ) → readClaim (claimHead f n es k)
+      ≡ readBy (spelledClaim f es []) (goOn (tableEnd f n es 4) (λ o. goOn (goalCountEnd f k o) (λ u. cutEnd early (goalNumber f k) u)))
   unfolding walk
-  claim-cut k = follows (encodeGoalCount f (clipped k)) [] (λ o. goOn (goalCountEnd f k o) (λ u. stop early u)) (goals-cut (spellingOf es) es (records-spelled es) f k)
+  claim-cut k = follows (encodeGoalCount f (clipped k)) [] (λ o. goOn (goalCountEnd f k o) (λ u. cutEnd early (goalNumber f k) u)) (goals-cut (spellingOf es) es (records-spelled es) f k)
 
 -- so no claim is longer
 abbrev pub longestClaim : Form → ℕ
@@ -76,7 +77,7 @@ longestClaim clm2 = 2344
 
 -- what a walk to the end tells: the counts are in range and fit, and it ends where the file does
 pub record ClaimPassed (f : Form) (n : ℕ) (es : Table) (gs ms : List ℕ) (o : ℕ) : Type 0 where
-  pub entries : (1 ≤ n) × (n ≤ 256)
+  pub entries : n ≤ 256
   pub goals : GoalCount f (length gs)
   pub fit : goalsFit f gs ms ≡ true
   pub few : Each (λ (k : ℕ). k ≤ 24) gs
@@ -90,8 +91,8 @@ goals-near clm2 k m at o few h l = omega (arith, few .1)
 pub claim-passed : (f : Form) (n : ℕ) (es : Table) (gs ms : List ℕ) (o : ℕ) → claimEnd f n es gs ms ≡ next o → ClaimPassed f n es gs ms o
 unfolding listsEnd walk
 claim-passed f n es gs ms o h =
-    let table = went (tableEnd n es 4) (λ o. goalsEnd f es gs ms o) h in
-    let (low, high, there) = table-past n es (table .place) (table .first) in
+    let table = went (tableEnd f n es 4) (λ o. goalsEnd f es gs ms o) h in
+    let (few, there) = table-past f n es (table .place) (table .first) in
     let counted = went (goalCountEnd f (length gs) (table .place)) (λ o. pick (goalsFit f gs ms) (listsEnd es gs ms o) (stop 12 (table .place))) (table .then) in
     let (fit, listed) = passed (goalsFit f gs ms) (listsEnd es gs ms (counted .place)) 12 (table .place) (counted .then) in
     let (may, sum) = goals-fit f gs ms fit in
@@ -99,7 +100,7 @@ claim-passed f n es gs ms o h =
     let (many, on) = goal-count-past f (length gs) m (table .place) (counted .place) may (counted .first) in
     let (each, end, near) = lists-past es gs ms (counted .place) o (omega arith) listed in
     record {
-      entries = (low, high);
+      entries = few;
       goals = many;
       fit = fit;
       few = each;

@@ -2,7 +2,7 @@
 use mathlib.Core.Path.{_≡_, refl, ap, _∙_}
 use mathlib.Core.List.{List, [], _∷_, _++_, map, append-assoc}
 use mathlib.Core.Bool.{Bool, true, false}
-use Prim.Native.Nat.{ℕ, _+_}
+use Prim.Native.Nat.{ℕ, zero, suc, _+_}
 use native.Mathlib.Omega.{arith}
 use lib.ListN.{length, length-append}
 use lib.Seq.{drop-append-seam}
@@ -20,6 +20,11 @@ pub data End : Type 0 where
 abbrev pub goOn : End → (ℕ → End) → End
 goOn (next o) f = f o
 goOn (stop n q) f = stop n q
+
+-- a file that stops where so many things are to follow is whole, if there are none
+abbrev pub cutEnd : ℕ → ℕ → ℕ → End
+cutEnd early zero at = next at
+cutEnd early (suc k) at = stop early at
 
 -- records one after the other, each in sight of a number that the one before sets
 unfoldable pub walk : {A : Type 0} → (ℕ → A → ℕ → End) → (ℕ → A → ℕ) → ℕ → List A → ℕ → End

@@ -12,15 +12,17 @@ use Rattle.bits.specs.IfSet.{ifSet, if-set-le}
 use Rattle.formula.specs.Kind
 use Rattle.formula.specs.Table.{Entry, Table}
 use Rattle.formula.specs.Spelled.{Spelled, aStands, bStands}
+use Rattle.formula.specs.Claim.{Form, fewest}
 use Rattle.formula.specs.Fields.{hasA, hasB, isModal, mapOf}
-use Rattle.encoding.specs.Encode.{encodeField, encodeAll}
+use Rattle.encoding.specs.Encode.{encodeField, encodeAll, Counts}
+use Rattle.encoding.specs.ListLaws.{range-tells}
 use Rattle.encoding.specs.Parse.{Got, fault, got, pick, bind, via, in-range, times}
 use Rattle.claim_files.specs.ClaimFile.{encodeEntry}
 use Rattle.claim_files.specs.ReadClaim.{early, kind-fits, fields, made, entry, entries}
 use Rattle.writing.specs.RecordBytes.{stands, entryBytes, tableBytes}
 use Rattle.writing.specs.Spelling.{mapFor, spelledAs, spellingOf, modal-fields, bits-stand}
 use Rattle.writing.specs.Ends.{End, next, stop, goOn, walk, gotBy, stop-not-next, passed, went, next-same, Meets, times-walk, walk-past}
-use Rattle.writing.specs.FieldEnds.{field-meets, field-long, mayHold, held-stands, stands-held, countEnd, in-range-tells, count-meets}
+use Rattle.writing.specs.FieldEnds.{field-meets, field-long, mayHold, held-stands, stands-held, countEnd, count-meets}
 
 -- a field that the kind lacks holds 0; B of a box or diamond is its action
 abbrev pub entryFits : Entry → Bool
@@ -143,38 +145,38 @@ entry-meets c e = record { reads = λ rest at. entry-read e rest at (entryFits e
 abbrev pub entriesEnd : Table → ℕ → End
 entriesEnd es at = walk entryEnd (λ _ _. 0) 0 es at
 
-abbrev pub tableEnd : ℕ → Table → ℕ → End
-tableEnd n es at = goOn (countEnd 256 12 n at) (λ o. entriesEnd es o)
+-- the entry count of the form, then the entries
+abbrev pub tableEnd : Form → ℕ → Table → ℕ → End
+tableEnd f n es at = goOn (countEnd (fewest f) 256 12 n at) (λ o. entriesEnd es o)
 
 module _ (es : Table) (rest : List ℕ) where
   entries-walked : (at : ℕ) → times (λ _. entry) (λ _ _. 0) (length es) 0 (encodeAll entryBytes es ++ rest) at ≡ gotBy (spellingOf es) rest (entriesEnd es at)
   unfolding walk
   entries-walked at = times-walk (λ _. entry) (λ _ _. 0) entryBytes spelledAs entryEnd (λ _ _. 0) (λ c x. refl) entry-meets es 0 rest at
 
-  pub table-read : (n at : ℕ) → (n ≤ 256 → length es ≡ n) → entries (tableBytes n es ++ rest) at ≡ gotBy (spellingOf es) rest (tableEnd n es at)
+  pub table-read : (f : Form) (n at : ℕ) → (n ≤ 256 → length es ≡ n) → entries f (tableBytes n es ++ rest) at ≡ gotBy (spellingOf es) rest (tableEnd f n es at)
   unfolding entries walk times
-  table-read n at long =
-      ap (λ (g : Got ℕ). bind g (λ n r o. times (λ _. entry) (λ _ _. 0) n 0 r o)) (count-meets early 256 12 (omega arith) n (encodeAll entryBytes es ++ rest) at)
-      ∙ go (in-range 256 n) (in-range-tells 256 n)
+  table-read f n at long =
+      ap (λ (g : Got ℕ). bind g (λ n r o. times (λ _. entry) (λ _ _. 0) n 0 r o)) (count-meets early (fewest f) 256 12 (omega arith) n (encodeAll entryBytes es ++ rest) at)
+      ∙ go (in-range (fewest f) 256 n) (range-tells (fewest f) 256 n)
     where
-      go : (b : Bool) → Tells b ((1 ≤ n) × (n ≤ 256)) → bind (gotBy n (encodeAll entryBytes es ++ rest) (pick b (next (at + 2)) (stop 12 at))) (λ n r o. times (λ _. entry) (λ _ _. 0) n 0 r o)
+      go : (b : Bool) → Tells b (Counts (fewest f) 256 n) → bind (gotBy n (encodeAll entryBytes es ++ rest) (pick b (next (at + 2)) (stop 12 at))) (λ n r o. times (λ _. entry) (λ _ _. 0) n 0 r o)
           ≡ gotBy (spellingOf es) rest (goOn (pick b (next (at + 2)) (stop 12 at)) (λ o. entriesEnd es o))
       go false t = refl
       go true t = ap (λ (m : ℕ). times (λ _. entry) (λ _ _. 0) m 0 (encodeAll entryBytes es ++ rest) (at + 2)) (sym (long (t .says refl .1))) ∙ entries-walked (at + 2)
 
 -- a table that passes ends after its bytes; one that does not is refused by 12 or 13
-pub table-past : (n : ℕ) (es : Table) (o : ℕ) → tableEnd n es 4 ≡ next o → (1 ≤ n) × (n ≤ 256) × (o ≡ 4 + length (tableBytes n es))
+pub table-past : (f : Form) (n : ℕ) (es : Table) (o : ℕ) → tableEnd f n es 4 ≡ next o → (n ≤ 256) × (o ≡ 4 + length (tableBytes n es))
 unfolding walk
-table-past n es o h =
-    let some = went (countEnd 256 12 n 4) (λ o. entriesEnd es o) h in
-    let (a, six) = passed (in-range 256 n) (next 6) 12 4 (some .first) in
-    let (low, high) = in-range-tells 256 n .says a in
+table-past f n es o h =
+    let some = went (countEnd (fewest f) 256 12 n 4) (λ o. entriesEnd es o) h in
+    let (a, six) = passed (in-range (fewest f) 256 n) (next 6) 12 4 (some .first) in
     let end = walk-past (λ _. entry) (λ _ _. 0) entryBytes spelledAs entryEnd (λ _ _. 0) (λ c x. refl) entry-meets es 0 (some .place) o (some .then) in
-    (low, high, omega (arith, next-same six, end))
+    (range-tells (fewest f) 256 n .says a .1, omega (arith, next-same six, end))
 
-pub table-refused : (n : ℕ) (es : Table) {m q : ℕ} → tableEnd n es 4 ≡ stop m q → (12 ≤ m) × (m ≤ 13)
+pub table-refused : (f : Form) (n : ℕ) (es : Table) {m q : ℕ} → tableEnd f n es 4 ≡ stop m q → (12 ≤ m) × (m ≤ 13)
 unfolding walk
-table-refused n es {m} {q} h = by-count (in-range 256 n) h
+table-refused f n es {m} {q} h = by-count (in-range (fewest f) 256 n) h
   where
     by-entries : (es : Table) (at : ℕ) → entriesEnd es at ≡ stop m q → m ≡ 13
     by-entries [] at h = absurd (stop-not-next (sym h))

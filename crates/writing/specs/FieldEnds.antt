@@ -7,10 +7,11 @@ use native.Mathlib.Omega.{arith}
 use borrow.Author.Tests.{eqb-true, leb-false}
 use lib.Dec.{eqb, leb}
 use lib.ListN.{length}
-use Rattle.verdict.specs.Tells.{Tells, and-tells, leb-tells, fails-holds}
+use Rattle.verdict.specs.Tells.{Tells, fails-holds}
 use Rattle.verdict.specs.Tests.{choose}
 use Rattle.bits.specs.IfSet.{ifSet}
-use Rattle.encoding.specs.Encode.{encodeTwo, encodeField, encodeAll}
+use Rattle.encoding.specs.Encode.{encodeTwo, encodeField, encodeAll, Counts}
+use Rattle.encoding.specs.ListLaws.{range-tells}
 use Rattle.encoding.specs.Parse.{Got, fault, got, pick, bind, guard, two, field, count, in-range, fits-from, times}
 use Rattle.writing.specs.RecordBytes.{stands, clipped}
 use Rattle.writing.specs.Ends.{End, next, stop, walk, gotBy, stop-not-next, Meets, times-walk, walk-past}
@@ -68,35 +69,32 @@ nothing-over true w h = record { says = λ _. refl; holds = λ _. refl }
 nothing-over false w h = record { says = λ e. absurd (false≢true e); holds = λ e. absurd (omega arith) }
 
 -- a count in its range, or refused where it begins
-abbrev pub countEnd : ℕ → ℕ → ℕ → ℕ → End
-countEnd top k n at = pick (in-range top n) (next (at + 2)) (stop k at)
+abbrev pub countEnd : ℕ → ℕ → ℕ → ℕ → ℕ → End
+countEnd least top k n at = pick (in-range least top n) (next (at + 2)) (stop k at)
 
-pub in-range-tells : (top n : ℕ) → Tells (in-range top n) ((1 ≤ n) × (n ≤ top))
-in-range-tells top n = and-tells (leb-tells 1 n) (leb-tells n top)
+pub out-of-range : (least top n : ℕ) → (Counts least top n → ⊥) → in-range least top n ≡ false
+out-of-range least top n h = fails-holds (range-tells least top n) h
 
-pub out-of-range : (top n : ℕ) → ((1 ≤ n) × (n ≤ top) → ⊥) → in-range top n ≡ false
-out-of-range top n h = fails-holds (in-range-tells top n) h
-
-pub inside : (top n : ℕ) → (1 ≤ n) × (n ≤ top) → in-range top n ≡ true
-inside top n h = in-range-tells top n .holds h
+pub inside : (least top n : ℕ) → Counts least top n → in-range least top n ≡ true
+inside least top n h = range-tells least top n .holds h
 
 -- a number that two bytes cannot hold is out of range, and so is what stands for it
-module _ (early top k : ℕ) (low : top ≤ 65534) (n : ℕ) (s : List ℕ) (at : ℕ) where
-  clipped-out : leb n 65535 ≡ false → (m : ℕ) → top < m → pick (in-range top m) (got m s (at + 2)) (fault k at) ≡ gotBy n s (countEnd top k n at)
+module _ (early least top k : ℕ) (low : top ≤ 65534) (n : ℕ) (s : List ℕ) (at : ℕ) where
+  clipped-out : leb n 65535 ≡ false → (m : ℕ) → top < m → pick (in-range least top m) (got m s (at + 2)) (fault k at) ≡ gotBy n s (countEnd least top k n at)
   clipped-out h m far =
-      let i : in-range top m ≡ false = out-of-range top m (λ w. omega (arith, w .1)) in
-      let j : in-range top n ≡ false = out-of-range top n (λ w. omega (arith, w .1, leb-false n 65535 h)) in
+      let i : in-range least top m ≡ false = out-of-range least top m (λ w. omega (arith, w .1)) in
+      let j : in-range least top n ≡ false = out-of-range least top n (λ w. omega (arith, w .1, leb-false n 65535 h)) in
       rw (i, j) refl
 
-  pub count-meets : count top k (two early) (encodeTwo (clipped n) ++ s) at ≡ gotBy n s (countEnd top k n at)
-  count-meets = ap (λ (g : Got ℕ). bind g (λ x r o. pick (in-range top x) (got x r o) (fault k at))) (two-meets early (clipped n) s at) ∙ go (leb n 65535) refl
+  pub count-meets : count least top k (two early) (encodeTwo (clipped n) ++ s) at ≡ gotBy n s (countEnd least top k n at)
+  count-meets = ap (λ (g : Got ℕ). bind g (λ x r o. pick (in-range least top x) (got x r o) (fault k at))) (two-meets early (clipped n) s at) ∙ go (leb n 65535) refl
     where
       picked : (b : Bool) → pick b (got n s (at + 2)) (fault k at) ≡ gotBy n s (pick b (next (at + 2)) (stop k at))
       picked true = refl
       picked false = refl
 
-      go : (b : Bool) → leb n 65535 ≡ b → pick (in-range top (choose b n 65535)) (got (choose b n 65535) s (at + 2)) (fault k at) ≡ gotBy n s (countEnd top k n at)
-      go true h = picked (in-range top n)
+      go : (b : Bool) → leb n 65535 ≡ b → pick (in-range least top (choose b n 65535)) (got (choose b n 65535) s (at + 2)) (fault k at) ≡ gotBy n s (countEnd least top k n at)
+      go true h = picked (in-range least top n)
       go false h = clipped-out h 65535 (omega arith)
 
 -- a list read by its own numbers

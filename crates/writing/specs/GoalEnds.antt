@@ -7,26 +7,26 @@ use native.Mathlib.Omega.{arith}
 use borrow.Author.Tests.{eqb-true}
 use lib.ListN.{length, take, drop, length-append, length-drop}
 use Rattle.verdict.specs.Lists.{Each, none, more}
-use Rattle.verdict.specs.Tells.{Tells}
 use Rattle.formula.specs.Table.{Table}
 use Rattle.formula.specs.Spelled.{Spelled, recordsOf}
 use Rattle.formula.specs.Claim.{Form, clm1, clm2}
 use Rattle.formula.specs.Members.{isFormula}
 use Rattle.encoding.specs.Encode.{encodeTwo, encodeAll}
+use Rattle.encoding.specs.ListLaws.{range-tells}
 use Rattle.encoding.specs.Parse.{Got, pick, bind, guard, two, count, in-range, fits-from, times}
 use Rattle.claim_files.specs.ClaimFile.{encodeGoalCount, GoalCount}
 use Rattle.claim_files.specs.ReadClaim.{early, members, goalCount, goals}
 use Rattle.writing.specs.RecordBytes.{clipped, memberBytes, goalBytes, split}
 use Rattle.writing.specs.Goals.{total, mayHave, goalsFit, goals-fit, split-count, first-there}
-use Rattle.writing.specs.Ends.{End, next, stop, goOn, walk, gotBy, passed, went, next-same, Meets, times-walk}
-use Rattle.writing.specs.FieldEnds.{countEnd, in-range-tells, count-meets, map-same, risingEnd, rising-met, rising-past, numbers-long}
+use Rattle.writing.specs.Ends.{End, next, stop, goOn, cutEnd, walk, gotBy, passed, went, next-same, Meets, times-walk}
+use Rattle.writing.specs.FieldEnds.{countEnd, count-meets, map-same, risingEnd, rising-met, rising-past, numbers-long}
 
 abbrev pub membersEnd : Table → List ℕ → ℕ → End
 membersEnd es ms at = risingEnd (isFormula es) 14 ms at
 
 -- the member count, then so many members
 abbrev pub listedEnd : Table → ℕ → List ℕ → ℕ → End
-listedEnd es k ms at = goOn (countEnd 24 12 k at) (λ o. membersEnd es ms o)
+listedEnd es k ms at = goOn (countEnd 1 24 12 k at) (λ o. membersEnd es ms o)
 
 -- the goals by their member counts: each has its members after those of the goals before it
 unfoldable pub listsEnd : Table → List ℕ → List ℕ → ℕ → End
@@ -37,7 +37,7 @@ listsEnd es (k ∷ gs) ms at = goOn (listedEnd es k (take k ms) at) (λ o. lists
 -- the goal count; CLM1 writes none
 abbrev pub goalCountEnd : Form → ℕ → ℕ → End
 goalCountEnd clm1 k at = next at
-goalCountEnd clm2 k at = countEnd 16 72 k at
+goalCountEnd clm2 k at = countEnd 0 16 72 k at
 
 -- 72, then the sum of the counts, then list by list
 abbrev pub goalsEnd : Form → Table → List ℕ → List ℕ → ℕ → End
@@ -48,9 +48,9 @@ module _ (es : Table) where
   listed-past : (k : ℕ) (ms : List ℕ) (at o : ℕ) → listedEnd es k ms at ≡ next o → (k ≤ 24) × (o ≡ at + length (memberBytes ms))
   unfolding walk
   listed-past k ms at o h =
-      let w = went (countEnd 24 12 k at) (λ o. membersEnd es ms o) h in
-      let (b, two) = passed (in-range 24 k) (next (at + 2)) 12 at (w .first) in
-      (in-range-tells 24 k .says b .1, omega (arith, next-same two, rising-past early (isFormula es) 14 ms (w .place) o (w .then)))
+      let w = went (countEnd 1 24 12 k at) (λ o. membersEnd es ms o) h in
+      let (b, two) = passed (in-range 1 24 k) (next (at + 2)) 12 at (w .first) in
+      (range-tells 1 24 k .says b .1, omega (arith, next-same two, rising-past early (isFormula es) 14 ms (w .place) o (w .then)))
 
   -- and so do all, none with more than 24 members
   pub lists-past : (gs ms : List ℕ) (at o : ℕ) → total gs ≤ length ms → listsEnd es gs ms at ≡ next o
@@ -67,7 +67,7 @@ module _ (es : Table) where
       )
 
 -- how many goals the reader looks for
-abbrev goalNumber : Form → ℕ → ℕ
+abbrev pub goalNumber : Form → ℕ → ℕ
 goalNumber clm1 k = 1
 goalNumber clm2 k = k
 
@@ -77,7 +77,7 @@ number-same clm2 k h = refl
 
 goal-count-read : (f : Form) (k : ℕ) (s : List ℕ) (at : ℕ) → goalCount f (encodeGoalCount f (clipped k) ++ s) at ≡ gotBy (goalNumber f k) s (goalCountEnd f k at)
 goal-count-read clm1 k s at = refl
-goal-count-read clm2 k s at = count-meets early 16 72 (omega arith) k s at
+goal-count-read clm2 k s at = count-meets early 0 16 72 (omega arith) k s at
 
 -- members are judged by the records of what was spelled
 module _ (ss : List Spelled) (es : Table) (same : recordsOf ss ≡ es) where
@@ -88,9 +88,9 @@ module _ (ss : List Spelled) (es : Table) (same : recordsOf ss ≡ es) where
   members-read : (ms rest : List ℕ) (at : ℕ) → members ss (memberBytes ms ++ rest) at ≡ gotBy ms rest (goalEnd 0 ms at)
   unfolding members walk times
   members-read ms rest at =
-      ap (λ (t : Table). bind (count 24 12 (two early) (memberBytes ms ++ rest) at) (then-members t)) same
-      ∙ ap (λ (g : Got ℕ). bind g (then-members es)) (count-meets early 24 12 (omega arith) (length ms) (encodeAll encodeTwo ms ++ rest) at)
-      ∙ go (in-range 24 (length ms))
+      ap (λ (t : Table). bind (count 1 24 12 (two early) (memberBytes ms ++ rest) at) (then-members t)) same
+      ∙ ap (λ (g : Got ℕ). bind g (then-members es)) (count-meets early 1 24 12 (omega arith) (length ms) (encodeAll encodeTwo ms ++ rest) at)
+      ∙ go (in-range 1 24 (length ms))
     where
       then-members : Table → ℕ → List ℕ → ℕ → Got (List ℕ)
       then-members t n r o = times (λ c. guard (fits-from (isFormula t) c) 14 (two early)) (λ _ x. suc x) n 0 r o
@@ -141,21 +141,21 @@ module _ (ss : List Spelled) (es : Table) (same : recordsOf ss ≡ es) where
       go number sum (stop n q) = refl
       go number sum (next o) = ap (λ (n : ℕ). then-lists n (encodeAll memberBytes (split gs ms) ++ rest) o) number ∙ lists-read gs ms rest o sum
 
-  -- a file that stops after the goal count ends early
-  pub goals-cut : (f : Form) (k at : ℕ) → goals f ss (encodeGoalCount f (clipped k)) at ≡ gotBy [] [] (goOn (goalCountEnd f k at) (λ o. stop early o))
+  -- a file that stops after the goal count ends early, or is whole, where there is no goal
+  pub goals-cut : (f : Form) (k at : ℕ) → goals f ss (encodeGoalCount f (clipped k)) at ≡ gotBy [] [] (goOn (goalCountEnd f k at) (λ o. cutEnd early (goalNumber f k) o))
   unfolding goals then-lists
   goals-cut clm1 k at = refl
-  goals-cut clm2 k at = ap (λ (g : Got ℕ). bind g then-lists) (goal-count-read clm2 k [] at) ∙ go k (in-range 16 k) (in-range-tells 16 k)
+  goals-cut clm2 k at = ap (λ (g : Got ℕ). bind g then-lists) (goal-count-read clm2 k [] at) ∙ go k (in-range 0 16 k)
     where
-      go : (k : ℕ) (b : Bool) → Tells b ((1 ≤ k) × (k ≤ 16))
-          → bind (gotBy k [] (pick b (next (at + 2)) (stop 72 at))) then-lists ≡ gotBy [] [] (goOn (pick b (next (at + 2)) (stop 72 at)) (λ o. stop early o))
-      go k false t = refl
-      go zero true t = absurd (omega (arith, t .says refl .0))
-      go (suc k) true t = refl
+      go : (k : ℕ) (b : Bool)
+          → bind (gotBy k [] (pick b (next (at + 2)) (stop 72 at))) then-lists ≡ gotBy [] [] (goOn (pick b (next (at + 2)) (stop 72 at)) (λ o. cutEnd early k o))
+      go k false = refl
+      go zero true = refl
+      go (suc k) true = refl
 
 -- a goal count that passes ends after its bytes, whatever it is
 pub goal-count-past : (f : Form) (k m at o : ℕ) → mayHave f k ≡ true → goalCountEnd f k at ≡ next o → GoalCount f k × (o ≡ at + length (encodeGoalCount f m))
 goal-count-past clm1 k m at o may h = (eqb-true k 1 may, omega (arith, next-same h))
 goal-count-past clm2 k m at o may h =
-    let (b, two) = passed (in-range 16 k) (next (at + 2)) 72 at h in
-    (in-range-tells 16 k .says b, omega (arith, next-same two))
+    let (b, two) = passed (in-range 0 16 k) (next (at + 2)) 72 at h in
+    (range-tells 0 16 k .says b, omega (arith, next-same two))

@@ -15,13 +15,14 @@ use Rattle.formula.specs.Table.{Table}
 use Rattle.formula.specs.Nodes.{Node}
 use Rattle.formula.specs.Records.{NodeRecord}
 use Rattle.formula.specs.Fields.{hasPrincipal, hasFirst, hasSecond, hasBack, lowMap, linkWidth, linkWidth-le}
-use Rattle.encoding.specs.Encode.{encodeTwo, encodePart, encodeField, encodeAll}
+use Rattle.encoding.specs.Encode.{encodeTwo, encodePart, encodeField, encodeAll, Counts}
+use Rattle.encoding.specs.ListLaws.{range-tells}
 use Rattle.encoding.specs.Parse.{Got, fault, got, pick, bind, guard, via, seq, part, two, count, in-range, fits-from, times}
 use Rattle.proof_files.specs.ProofFile.{Links, encodeCodes, encodeNode, full}
 use Rattle.proof_files.specs.ReadProof.{early, ruleOf, fields, isCode, sequent, made, node}
 use Rattle.writing.specs.RecordBytes.{stands, nodeBytes}
 use Rattle.writing.specs.Ends.{End, next, stop, goOn, walk, gotBy, passed, went, next-same}
-use Rattle.writing.specs.FieldEnds.{field-meets, field-long, mayHold, held-stands, stands-over, nothing-over, in-range-tells, risingEnd, rising-met, rising-past, numbers-long}
+use Rattle.writing.specs.FieldEnds.{field-meets, field-long, mayHold, held-stands, stands-over, nothing-over, risingEnd, rising-met, rising-past, numbers-long}
 
 -- the node that a record stands for, with its codes
 abbrev pub nodeOf : NodeRecord → List ℕ → Node
@@ -38,7 +39,7 @@ nodeFits v = leb (v .rule) Rule.BACK && linksHeld v
 
 -- a count from 1 to 24 and its codes, or nothing
 abbrev pub sequentEnd : Table → ℕ → List ℕ → ℕ → End
-sequentEnd t n cs at = pick (eqb n 0) (next at) (goOn (pick (in-range 24 n) (next (at + 1)) (stop 32 at)) (λ o. risingEnd (isCode t) 34 cs o))
+sequentEnd t n cs at = pick (eqb n 0) (next at) (goOn (pick (in-range 1 24 n) (next (at + 1)) (stop 32 at)) (λ o. risingEnd (isCode t) 34 cs o))
 
 abbrev pub nodeEnd : Table → NodeRecord → List ℕ → ℕ → End
 nodeEnd t v cs at = pick (nodeFits v) (sequentEnd t (v .count) cs (at + 2 + linkWidth (v .rule))) (stop 33 at)
@@ -206,7 +207,7 @@ module _ (t : Table) (v : NodeRecord) (cs : List ℕ) (counted : v .count ≤ 24
         codes : ℕ → List ℕ → ℕ → Got (List ℕ)
         codes n r o = times (λ c. guard (fits-from (isCode t) c) 34 (two early)) (λ _ x. suc x) n 0 r o
 
-        some : (b : Bool) → Tells b ((1 ≤ v .count) × (v .count ≤ 24)) → bind (pick b (got (v .count) (encodeAll encodeTwo cs ++ rest) (suc o)) (fault 32 o)) codes
+        some : (b : Bool) → Tells b (Counts 1 24 (v .count)) → bind (pick b (got (v .count) (encodeAll encodeTwo cs ++ rest) (suc o)) (fault 32 o)) codes
             ≡ gotBy cs rest (goOn (pick b (next (o + 1)) (stop 32 o)) (λ o. risingEnd (isCode t) 34 cs o))
         some false T = refl
         some true T =
@@ -216,9 +217,9 @@ module _ (t : Table) (v : NodeRecord) (cs : List ℕ) (counted : v .count ≤ 24
             ∙ rising-met early (isCode t) 34 cs rest (o + 1)
 
         go : (b : Bool) → eqb (v .count) 0 ≡ b → part [] (not b) (sequent t) (encodePart (not b) (λ (l : List ℕ). v .count ∷ encodeAll encodeTwo l) cs ++ rest) o
-            ≡ gotBy cs rest (pick b (next o) (goOn (pick (in-range 24 (v .count)) (next (o + 1)) (stop 32 o)) (λ o. risingEnd (isCode t) 34 cs o)))
+            ≡ gotBy cs rest (pick b (next o) (goOn (pick (in-range 1 24 (v .count)) (next (o + 1)) (stop 32 o)) (λ o. risingEnd (isCode t) 34 cs o)))
         go true h = let z : v .count ≡ 0 = eqb-true (v .count) 0 h in rw (none cs (counted (omega arith) ∙ z)) refl
-        go false h = some (in-range 24 (v .count)) (in-range-tells 24 (v .count))
+        go false h = some (in-range 1 24 (v .count)) (range-tells 1 24 (v .count))
 
     after-links : ℕ × Bool → Got (Links × List ℕ) → Got Node
     after-links h g = via made (λ _ _. bind g (λ w t z. got (h, w) t z)) [] 0
@@ -255,13 +256,13 @@ module _ (t : Table) (v : NodeRecord) (cs : List ℕ) (counted : v .count ≤ 24
   unfolding walk
   sequent-past at o h = go (eqb (v .count) 0) refl h
     where
-      go : (b : Bool) → eqb (v .count) 0 ≡ b → pick b (next at) (goOn (pick (in-range 24 (v .count)) (next (at + 1)) (stop 32 at)) (λ o. risingEnd (isCode t) 34 cs o)) ≡ next o
+      go : (b : Bool) → eqb (v .count) 0 ≡ b → pick b (next at) (goOn (pick (in-range 1 24 (v .count)) (next (at + 1)) (stop 32 at)) (λ o. risingEnd (isCode t) 34 cs o)) ≡ next o
           → (o ≡ at + length (encodePart (not b) (λ (l : List ℕ). v .count ∷ encodeAll encodeTwo l) cs)) × (v .count ≤ 24) × (o ≤ at + 49)
       go true e k = let z : v .count ≡ 0 = eqb-true (v .count) 0 e in (omega (arith, next-same k), omega arith, omega (arith, next-same k))
       go false e k =
-          let w = went (pick (in-range 24 (v .count)) (next (at + 1)) (stop 32 at)) (λ o. risingEnd (isCode t) 34 cs o) k in
-          let (i, one) = passed (in-range 24 (v .count)) (next (at + 1)) 32 at (w .first) in
-          let few = in-range-tells 24 (v .count) .says i .1 in
+          let w = went (pick (in-range 1 24 (v .count)) (next (at + 1)) (stop 32 at)) (λ o. risingEnd (isCode t) 34 cs o) k in
+          let (i, one) = passed (in-range 1 24 (v .count)) (next (at + 1)) 32 at (w .first) in
+          let few = range-tells 1 24 (v .count) .says i .1 in
           let end = rising-past early (isCode t) 34 cs (w .place) o (w .then) in
           (omega (arith, next-same one, end), few, omega (arith, next-same one, end, numbers-long cs, counted few))
 

@@ -10,18 +10,19 @@ use lib.Seq.{length-take-le}
 use Rattle.verdict.specs.Tells.{Tells}
 use Rattle.formula.specs.Table.{Table}
 use Rattle.formula.specs.Nodes.{Node, Proof}
-use Rattle.formula.specs.Claim.{Form, clm1, clm2, Claim, Derivation}
+use Rattle.formula.specs.Claim.{Form, clm1, clm2, fewest, Claim, Derivation}
 use Rattle.formula.specs.Records.{NodeRecord}
-use Rattle.encoding.specs.Encode.{encodeTwo, encodeAll}
+use Rattle.encoding.specs.Encode.{encodeTwo, encodeAll, Counts}
+use Rattle.encoding.specs.ListLaws.{range-tells}
 use Rattle.encoding.specs.File.{Reading, ending}
-use Rattle.encoding.specs.Parse.{Got, fault, got, pick, bind, seq, via, count, in-range, times}
+use Rattle.encoding.specs.Parse.{Got, got, pick, bind, seq, via, count, in-range, times}
 use Rattle.claim_files.specs.ClaimFile.{GoalCount}
 use Rattle.proof_files.specs.ProofFile.{proofOpening}
 use Rattle.proof_files.specs.ReadProof.{early, node, isNode, roots, nodes, derivationOf, body, readProof}
 use Rattle.writing.specs.RecordBytes.{clipped, nodeBytes, nodesBytes, rootBytes, proofBytes, proofHead}
 use Rattle.writing.specs.Goals.{rootCount, rootsFit, rootsOf, none-given}
-use Rattle.writing.specs.Ends.{End, next, stop, goOn, walk, gotBy, readBy, after-opening, passed, went, next-same}
-use Rattle.writing.specs.FieldEnds.{countEnd, in-range-tells, count-meets, risingEnd, rising-met, rising-past, numbers-long}
+use Rattle.writing.specs.Ends.{End, next, stop, goOn, cutEnd, walk, gotBy, readBy, after-opening, passed, went, next-same}
+use Rattle.writing.specs.FieldEnds.{countEnd, count-meets, risingEnd, rising-met, rising-past, numbers-long}
 use Rattle.writing.specs.NodeEnds.{nodeOf, nodeFits, nodeEnd, node-read, node-past}
 
 -- the nodes that records stand for: each with its codes, which follow those of the nodes before it
@@ -40,7 +41,7 @@ rootsEnd f k n os at = pick (rootsFit f k os) (risingEnd (isNode n) 34 os at) (s
 
 -- 32 to 34: where the proof ends, beside a claim of the form with so many goals
 abbrev pub proofEnd : Form → ℕ → Table → ℕ → List ℕ → List NodeRecord → List ℕ → End
-proofEnd f k t n os vs cs = goOn (countEnd 1024 32 n 4) (λ o. goOn (rootsEnd f k n os o) (λ u. nodesEnd t vs cs u))
+proofEnd f k t n os vs cs = goOn (countEnd (fewest f) 1024 32 n 4) (λ o. goOn (rootsEnd f k n os o) (λ u. nodesEnd t vs cs u))
 
 -- no proof is longer, beside so many goals
 abbrev pub longestProof : Form → ℕ → ℕ
@@ -114,12 +115,14 @@ unfolding encodeAll
 roots-long clm1 k os fit = let z = eqb-true (length os) 0 fit in (omega arith, z)
 roots-long clm2 k os fit = (numbers-long os, eqb-true (length os) k fit)
 
-cut : (t : Table) (f : Form) (k n : ℕ) → 1 ≤ n → seq (roots f k n) (λ _. nodes t n) [] 6 ≡ fault early 6
+-- a file that stops after the node count ends early, or is whole, where there is neither root nor node
+cut : (t : Table) (f : Form) (k n : ℕ) → seq (roots f k n) (λ _. nodes t n) [] 6 ≡ gotBy (rootsOf f [], []) [] (goOn (cutEnd early (rootCount f k) 6) (λ o. cutEnd early n o))
 unfolding roots nodes
-cut t f k zero h = absurd (omega arith)
-cut t clm1 k (suc n) h = refl
-cut t clm2 zero (suc n) h = refl
-cut t clm2 (suc k) (suc n) h = refl
+cut t clm1 k zero = refl
+cut t clm1 k (suc n) = refl
+cut t clm2 zero zero = refl
+cut t clm2 zero (suc n) = refl
+cut t clm2 (suc k) n = refl
 
 opened : (c : Claim) (s : List ℕ) → readProof c (proofOpening (c .form) ++ s) ≡ ending early (body c s 4)
 unfolding readProof
@@ -137,6 +140,9 @@ module _ (c : Claim) (n : ℕ) where
   unfolding roots nodes
   after-count g = ending early (via derivationOf (λ _ _. bind g (λ n r o. bind (seq (roots f k n) (λ _. nodes (c .entries) n) r o) (λ y u z. got (n, y) u z))) [] 0)
 
+  after-parts : Got (List ℕ × Proof) → Reading Derivation
+  after-parts g = ending early (via derivationOf (λ _ _. bind g (λ y u z. got (n, y) u z)) [] 0)
+
   after-roots : Got (List ℕ) → Reading Derivation
   unfolding nodes
   after-roots g =
@@ -145,23 +151,30 @@ module _ (c : Claim) (n : ℕ) where
   after-nodes : List ℕ → Got Proof → Reading Derivation
   after-nodes x g = ending early (via derivationOf (λ _ _. bind (bind g (λ y u z. got (x, y) u z)) (λ y u z. got (n, y) u z)) [] 0)
 
-  module _ (bytes : List ℕ) (x : Derivation) (rest : ℕ → End) (met : 1 ≤ n → n ≤ 1024 → after-count (got n bytes 6) ≡ readBy x (rest 6)) where
-    count-end : (b : Bool) → Tells b ((1 ≤ n) × (n ≤ 1024)) → after-count (gotBy n bytes (pick b (next 6) (stop 32 4))) ≡ readBy x (goOn (pick b (next 6) (stop 32 4)) rest)
+  module _ (bytes : List ℕ) (x : Derivation) (rest : ℕ → End) (met : n ≤ 1024 → after-count (got n bytes 6) ≡ readBy x (rest 6)) where
+    count-end : (b : Bool) → Tells b (Counts (fewest f) 1024 n) → after-count (gotBy n bytes (pick b (next 6) (stop 32 4))) ≡ readBy x (goOn (pick b (next 6) (stop 32 4)) rest)
     unfolding after-count
     count-end false T = refl
-    count-end true T = met (T .says refl .0) (T .says refl .1)
+    count-end true T = met (T .says refl .1)
 
-    follows : readProof c (proofOpening f ++ (encodeTwo (clipped n) ++ bytes)) ≡ readBy x (goOn (countEnd 1024 32 n 4) rest)
+    follows : readProof c (proofOpening f ++ (encodeTwo (clipped n) ++ bytes)) ≡ readBy x (goOn (countEnd (fewest f) 1024 32 n 4) rest)
     unfolding body after-count
     follows =
         opened c (encodeTwo (clipped n) ++ bytes)
-        ∙ ap after-count (count-meets early 1024 32 (omega arith) n bytes 4)
-        ∙ count-end (in-range 1024 n) (in-range-tells 1024 n)
+        ∙ ap after-count (count-meets early (fewest f) 1024 32 (omega arith) n bytes 4)
+        ∙ count-end (in-range (fewest f) 1024 n) (range-tells (fewest f) 1024 n)
 
-  -- a file that stops after the node count ends early
-  pub proof-cut : (x : Derivation) → readProof c (proofHead f n) ≡ readBy x (goOn (countEnd 1024 32 n 4) (λ o. stop early o))
-  unfolding after-count
-  proof-cut x = follows [] x (λ o. stop early o) (λ low high. rw (cut (c .entries) f k n low) refl)
+  -- a file that stops after the node count
+  pub proof-cut : readProof c (proofHead f n)
+      ≡ readBy (record { roots = rootsOf f []; nodes = [] }) (goOn (countEnd (fewest f) 1024 32 n 4) (λ o. goOn (cutEnd early (rootCount f k) o) (λ u. cutEnd early n u)))
+  unfolding after-count after-parts
+  proof-cut =
+      follows [] (record { roots = rootsOf f []; nodes = [] }) (λ o. goOn (cutEnd early (rootCount f k) o) (λ u. cutEnd early n u))
+      (λ few. rw (cut (c .entries) f k n) (go (goOn (cutEnd early (rootCount f k) 6) (λ u. cutEnd early n u))))
+    where
+      go : (e : End) → after-parts (gotBy (rootsOf f [], []) [] e) ≡ readBy (record { roots = rootsOf f []; nodes = [] }) e
+      go (next o) = refl
+      go (stop m q) = refl
 
   module _ (os : List ℕ) (vs : List NodeRecord) (cs : List ℕ) (long : n ≤ 1024 → length vs ≡ n) (codes : 24576 ≤ length cs) where
     abbrev pub derivation : Derivation
@@ -186,12 +199,12 @@ module _ (c : Claim) (n : ℕ) where
     unfolding nodesEnd after-count after-roots
     proof-ends fit =
         follows (rootBytes f os ++ nodesBytes vs cs) derivation (λ o. goOn (rootsEnd f k n os o) (λ u. nodesEnd (c .entries) vs cs u))
-        (λ low high. ap after-roots (roots-read f k n os (nodesBytes vs cs) 6 fit) ∙ rw fit (roots-end high (risingEnd (isNode n) 34 os 6)))
+        (λ high. ap after-roots (roots-read f k n os (nodesBytes vs cs) 6 fit) ∙ rw fit (roots-end high (risingEnd (isNode n) 34 os 6)))
 
 -- what a walk to the end tells: the counts are in range, the roots fit, and it ends where the file does
 module _ (f : Form) (k : ℕ) (t : Table) (n : ℕ) (os : List ℕ) (vs : List NodeRecord) (cs : List ℕ) (long : n ≤ 1024 → length vs ≡ n) (codes : 24576 ≤ length cs) where
   pub record ProofPassed (o : ℕ) : Type 0 where
-    pub nodes : (1 ≤ n) × (n ≤ 1024)
+    pub nodes : n ≤ 1024
     pub fit : rootsFit f k os ≡ true
     pub end : o ≡ length (proofBytes f n os vs cs)
     pub near : o ≤ longestProof f k
@@ -201,15 +214,15 @@ module _ (f : Form) (k : ℕ) (t : Table) (n : ℕ) (os : List ℕ) (vs : List N
   pub proof-passed : (o : ℕ) → proofEnd f k t n os vs cs ≡ next o → ProofPassed o
   unfolding nodesEnd
   proof-passed o h =
-      let w = went (countEnd 1024 32 n 4) (λ o. goOn (rootsEnd f k n os o) (λ u. nodesEnd t vs cs u)) h in
-      let (i, six) = passed (in-range 1024 n) (next 6) 32 4 (w .first) in
-      let few = in-range-tells 1024 n .says i in
-      let same = long (few .1) in
+      let w = went (countEnd (fewest f) 1024 32 n 4) (λ o. goOn (rootsEnd f k n os o) (λ u. nodesEnd t vs cs u)) h in
+      let (i, six) = passed (in-range (fewest f) 1024 n) (next 6) 32 4 (w .first) in
+      let few = range-tells (fewest f) 1024 n .says i .1 in
+      let same = long few in
       let v = went (rootsEnd f k n os (w .place)) (λ u. nodesEnd t vs cs u) (w .then) in
       let (fit, rise) = passed (rootsFit f k os) (risingEnd (isNode n) 34 os (w .place)) 34 (w .place) (v .first) in
       let (wide, many) = roots-long f k os fit in
       let at : v .place ≡ 6 + 2 * length os = omega (arith, next-same six, rising-past early (isNode n) 34 os (w .place) (v .place) rise, numbers-long os) in
-      let (end, near) = nodes-past t vs cs (v .place) o (omega (arith, few .1)) (v .then) in
+      let (end, near) = nodes-past t vs cs (v .place) o (omega (arith, few)) (v .then) in
       record {
         nodes = few;
         fit = fit;
@@ -222,6 +235,6 @@ module _ (f : Form) (k : ℕ) (t : Table) (n : ℕ) (os : List ℕ) (vs : List N
           length-append (proofOpening f) (encodeTwo (clipped n) ++ (rootBytes f os ++ nodesBytes vs cs)),
           length-append (rootBytes f os) (nodesBytes vs cs),
         );
-        near = omega (arith, at, near, few .1, many);
+        near = omega (arith, at, near, few, many);
         walked = ap (λ (at : ℕ). nodesEnd t vs cs at) (sym at) ∙ v .then;
       }

@@ -12,6 +12,7 @@ use Rattle.encoding.specs.File.{Reading, refused, good}
 use Rattle.formula.specs.Table.{Table}
 use Rattle.formula.specs.Claim.{Form, clm1, clm2, formNumber, Claim, Derivation}
 use Rattle.formula.specs.Records.{NodeRecord}
+use Rattle.claim_files.specs.ReadClaim.{readClaim}
 use Rattle.proof_files.specs.ReadProof.{readProof}
 use Rattle.reader.specs.Files.{Files, firstly, andThen, readFormed, besideClaim}
 use Rattle.tree.specs.Owners.{tree-judged}
@@ -59,7 +60,7 @@ abbrev pub ifRoom : ℕ → List ℕ → Reading (List ℕ)
 ifRoom room file = pick (ltb room (length file)) (refused 70 0) (good file)
 
 -- of a file that ends where something would follow that does not fit: the reader's refusal stands, but for the file's end, in place of which this one is
--- given. It is given for a good file too, which does not come: a goal follows, or a node
+-- given. It is given for a good file too: one of no goals is whole there, and a proof of no nodes
 abbrev pub stopped : {A B : Type 0} → ℕ → ℕ → ℕ → Reading A → Reading B
 stopped early n q (refused m p) = pick (eqb m early) (refused n q) (refused m p)
 stopped early n q (good x) = refused n q
@@ -70,10 +71,10 @@ goalPlace c = 4 + length (tableBytes (c .count) (take (c .count) (c .entries)))
 
 -- what the reader says of the file, 20, 71 and 21 to 23 after 12 to 14 and 72; 12 for counts that do not add up to the members, after 72
 unfoldable pub claimReading : Form → ClaimRecords → Reading Claim
-unfolding total readFormed
+unfolding total readFormed readClaim
 claimReading f c =
     pick (goalsFit f (c .counts) (c .members)) (readFormed (claimFile f c))
-    (stopped 11 12 (goalPlace c) (readFormed (claimHead f (c .count) (take (c .count) (c .entries)) (length (c .counts)))))
+    (stopped 11 12 (goalPlace c) (readClaim (claimHead f (c .count) (take (c .count) (c .entries)) (length (c .counts)))))
 
 -- beside a claim 32 to 34; 34 for roots that are not as many as the goals, after the node count
 unfoldable pub proofReading : Form → ProofRecords → Claim → Reading Derivation

@@ -4,6 +4,7 @@
 
 mod actions;
 mod damage;
+mod empty;
 mod formulas;
 mod models;
 mod near_goal;
@@ -26,6 +27,7 @@ mod twins;
 pub mod extremes;
 
 pub use actions::stepped_by;
+pub use empty::Empty;
 pub use paths::{leaves_focus, loop_paths};
 pub use renamed::twins_used;
 pub use rng::Rng;
@@ -38,7 +40,8 @@ use crate::corpus::{CheckRecord, EvalRecord, WriteRecord};
 use crate::goals::Form;
 use crate::refusal::answer_wide;
 
-/// An endless run of claims and proofs with the reference's answers, in both forms.
+/// An endless run of claims and proofs with the reference's answers, in both forms; one
+/// in fifteen lacks entries, goals or nodes.
 pub fn checks(seed: u64) -> impl Iterator<Item = CheckRecord> {
     inputs(seed, |rng| check_record(pairs::check_pair(rng)))
 }

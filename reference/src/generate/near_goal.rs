@@ -54,9 +54,10 @@ fn more_or_less_goals(rng: &mut Rng, several: &mut Several) {
     }
 }
 
-/// A tree without its goal: its root, mostly node 0, is an orphan.
+/// A tree without its goal: its root, mostly node 0, is an orphan. So it is where no
+/// other goal is left.
 fn forget_goal(rng: &mut Rng, several: &mut Several) {
-    if several.goals.len() > 1 && several.goals.len() == several.roots.len() {
+    if !several.goals.is_empty() && several.goals.len() == several.roots.len() {
         let at = match rng.chance(2, 3) {
             true => 0,
             false => rng.below(several.goals.len()),

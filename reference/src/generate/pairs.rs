@@ -2,6 +2,7 @@
 
 use super::actions;
 use super::damage::{damage, damage_end};
+use super::empty::{claim_without_entries, empty_goal_pair, empty_pair};
 use super::extremes::{hard_entries, limits, longest_model};
 use super::formulas::{Builder, Scope, Shape};
 use super::models;
@@ -64,11 +65,12 @@ pub fn in_some_form(rng: &mut Rng, proved: Proved) -> (Vec<u8>, Vec<u8>) {
 }
 
 /// A table as a claim in either form: with these members, or with these and other
-/// goals.
+/// goals, or with no goal at all.
 fn claim_file(rng: &mut Rng, entries: &[Entry], members: &[u16], written_out: &[usize]) -> File {
     let written_out = |at: usize| written_out.contains(&at);
     match rng.chance(1, 2) {
         true => draft::claim_written_out(entries, members, written_out),
+        false if rng.chance(1, 10) => draft::goal_claim_written_out(entries, &[], written_out),
         false => {
             let more = match rng.below(8) {
                 0 => rng.between(3, 16),
@@ -140,7 +142,7 @@ pub fn prove_by(rng: &mut Rng, claim: Provable, least: &[u16], flaw: Flaw) -> Op
 }
 
 /// Any claim, seldom one that holds; a wild one may break 21 to 23.
-fn any_claim(rng: &mut Rng, wild: bool) -> Provable {
+pub fn any_claim(rng: &mut Rng, wild: bool) -> Provable {
     let shape = Shape {
         size: rng.between(1, 120),
         depth: rng.between(1, 9),
@@ -197,10 +199,12 @@ pub fn any_proved(rng: &mut Rng) -> Proved {
     }
 }
 
-/// The bytes of a claim and a proof, two times out of five of one with twins.
+/// The bytes of a claim and a proof, two times out of five of one with twins, and one
+/// time in fifteen with something empty.
 pub fn check_pair(rng: &mut Rng) -> (Vec<u8>, Vec<u8>) {
-    match rng.below(5) {
-        0..=1 => with_twins(rng),
+    match rng.below(15) {
+        0 => empty_pair(rng),
+        1..=6 => with_twins(rng),
         _ => any_pair(rng),
     }
 }
@@ -266,14 +270,15 @@ fn near_goals(rng: &mut Rng) -> (Vec<u8>, Vec<u8>) {
     (several.claim().bytes, several.proof().bytes)
 }
 
-/// The bytes of a claim of several goals and its proof.
+/// The bytes of a claim of several goals, or of none, and its proof.
 pub fn goal_pair(rng: &mut Rng) -> (Vec<u8>, Vec<u8>) {
-    let proved = match rng.below(12) {
+    let proved = match rng.below(13) {
         0..=1 => accepted(rng),
         2 => accepted_with_loop(rng),
         3..=4 => over_twins(rng),
         5 => flawed(rng),
         6 => changed(rng),
+        7 => return empty_goal_pair(rng),
         _ => return near_goals(rng),
     };
     let several = among_some(rng, proved);
@@ -400,7 +405,7 @@ fn wild_claim_file(rng: &mut Rng) -> File {
 }
 
 /// A claim that may break scope, alternation, guardedness, bounds or actions.
-fn wild_claim(rng: &mut Rng) -> Provable {
+pub fn wild_claim(rng: &mut Rng) -> Provable {
     let mut claim = any_claim(rng, true);
     if rng.chance(1, 3) {
         let at = rng.below(claim.entries.len());
@@ -438,7 +443,10 @@ pub fn eval_pair(rng: &mut Rng) -> (Vec<u8>, Vec<u8>) {
         _ => any_claim(rng, false),
     };
     let model = models::model_for(rng, &claim.entries);
-    let file = claim_file(rng, &claim.entries, &claim.members, &[]);
+    let file = match rng.below(20) {
+        0 => claim_without_entries(rng),
+        _ => claim_file(rng, &claim.entries, &claim.members, &[]),
+    };
     match rng.below(11) {
         0..=5 => (file.bytes, model.bytes),
         6 => (damage(rng, &file), model.bytes),

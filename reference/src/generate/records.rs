@@ -2,6 +2,7 @@
 //! with something changed, in slices of any length that may be lent.
 
 use super::actions;
+use super::empty::lacking;
 use super::near_goal::near_goal;
 use super::pairs::{self, Proved};
 use super::rng::Rng;
@@ -13,7 +14,7 @@ use crate::proof::Rule;
 use crate::write::{EntryRecord, NodeRecord, Records};
 
 /// Two in three with one or two changes; some leave the records good. Half of them
-/// are of the form with several goals.
+/// are of the form with several goals, and of these one in eight lacks something.
 pub fn records(rng: &mut Rng) -> Records {
     let large = rng.chance(1, 24);
     let mut records = match rng.chance(1, 2) {
@@ -27,6 +28,7 @@ pub fn records(rng: &mut Rng) -> Records {
         false => {
             let several = match large {
                 true => large_trees(rng),
+                false if rng.chance(1, 8) => lacking(rng),
                 false => any_several(rng),
             };
             of(Form::Several, &several)

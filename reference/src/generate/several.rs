@@ -30,6 +30,14 @@ pub struct Several {
 }
 
 impl Several {
+    /// No entries and no goals, and no nodes.
+    pub const NOTHING: Several = Several {
+        entries: Vec::new(),
+        goals: Vec::new(),
+        roots: Vec::new(),
+        nodes: Vec::new(),
+    };
+
     /// One goal, whose root is node 0.
     pub fn alone(proved: Proved) -> Several {
         Several {

@@ -3,7 +3,7 @@
 //! above; this one lays tables down from below, so that operands are shared at
 //! random, names stay free over many fixpoints, and blocks tangle. Claim and model
 //! go by the same actions as a rule; half of the claims have the form of several
-//! goals.
+//! goals, and some of these no goals, or no entries either.
 
 use reference::draft::{self, DraftState, File, Mark};
 use reference::generate::Rng;
@@ -25,7 +25,10 @@ pub fn pairs(seed: u64) -> impl Iterator<Item = Pair> {
 
 fn pair(rng: &mut Rng) -> Pair {
     let actions = actions(rng);
-    let entries = entries(rng, &actions);
+    let entries = match rng.below(24) {
+        0 => Vec::new(),
+        _ => entries(rng, &actions),
+    };
     let goals = goals(rng, &entries);
     let states = states(rng, &actions);
     let claim = laid_down(&entries, &goals, |_| false);
@@ -263,11 +266,14 @@ enum Goals {
     Several(Vec<Vec<u16>>),
 }
 
+/// Without entries there are no members either.
 fn goals(rng: &mut Rng, entries: &[Entry]) -> Goals {
-    let count = match rng.below(8) {
-        0 => 16,
-        1 => rng.between(1, 15),
-        2..=3 => rng.between(1, 3),
+    let count = match rng.below(16) {
+        _ if entries.is_empty() => 0,
+        0 => 0,
+        1..=2 => 16,
+        3..=4 => rng.between(1, 15),
+        5..=7 => rng.between(1, 3),
         _ => return Goals::One(members(rng, entries)),
     };
     Goals::Several((0..count).map(|_| members(rng, entries)).collect())
@@ -365,6 +371,10 @@ fn ill_formed(rng: &mut Rng, mut entries: Vec<Entry>, goals: Goals) -> Vec<u8> {
     let count = entries.len();
     let any = rng.below(count + 1) as u16;
     let at = rng.below(count);
+    if entries.is_empty() {
+        let goals = Goals::Several(other_goals(rng, vec![vec![any]], any));
+        return laid_down(&entries, &goals, |_| false);
+    }
     if rng.chance(1, 6) {
         let written_out = |number: usize| entries[number].b == 0 && number >= at;
         return laid_down(&entries, &goals, written_out);
@@ -395,8 +405,11 @@ fn ill_formed(rng: &mut Rng, mut entries: Vec<Entry>, goals: Goals) -> Vec<u8> {
 }
 
 /// None or too many goals, or one of them with no members, with too many, or with one
-/// that may not follow the others.
+/// that may not follow the others. Where there were none it is one of any member.
 fn other_goals(rng: &mut Rng, mut goals: Vec<Vec<u16>>, any: u16) -> Vec<Vec<u16>> {
+    if goals.is_empty() {
+        goals.push(vec![any]);
+    }
     let at = rng.below(goals.len());
     match rng.below(5) {
         0 => goals.clear(),

@@ -1,5 +1,5 @@
 //! Records to be written, as tables: the sample that document 01 begins with, one of
-//! two goals, and tables with as many records of each kind as asked for.
+//! two goals, one of none, and tables with as many records of each kind as asked for.
 
 use crate::lent::{CODES, ENTRIES, NODES};
 use reference::{Decoded, EntryRecord, Form, Kind, NodeRecord, Records, Rule};
@@ -60,6 +60,13 @@ pub fn nu_of_box() -> Records {
 pub fn two_goals() -> Records {
     let claim = include_bytes!("../../../examples/two-goals/claim.bin");
     let proof = include_bytes!("../../../examples/two-goals/proof.bin");
+    good_pair(claim, proof)
+}
+
+/// No entries, no goals and no nodes.
+pub fn no_goals() -> Records {
+    let claim = include_bytes!("../../../examples/no-goals/claim.bin");
+    let proof = include_bytes!("../../../examples/no-goals/proof.bin");
     good_pair(claim, proof)
 }
 

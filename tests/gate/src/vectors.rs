@@ -11,6 +11,7 @@ pub fn checks() -> Vec<CheckRecord> {
         ("t03/check.bin", 1534),
         ("t04/check.bin", 1435),
         ("t05/check.bin", 1506),
+        ("t06/check.bin", 966),
     ];
     let records = files.map(|(file, count)| {
         let records = corpus::read_checks(&read(file)).expect("whole records");
@@ -23,7 +24,12 @@ pub fn checks() -> Vec<CheckRecord> {
 pub fn evals() -> Vec<EvalRecord> {
     let mut records = corpus::read_narrow_evals(&read("base/eval.bin")).expect("whole records");
     assert_eq!(records.len(), 519, "base/eval.bin");
-    for (file, count) in [("t04/eval.bin", 399), ("t05/eval.bin", 356)] {
+    let files = [
+        ("t04/eval.bin", 399),
+        ("t05/eval.bin", 356),
+        ("t06/eval.bin", 274),
+    ];
+    for (file, count) in files {
         let more = corpus::read_evals(&read(file)).expect("whole records");
         assert_eq!(more.len(), count, "{file}");
         records.extend(more);
@@ -36,6 +42,7 @@ pub fn writes() -> Vec<WriteRecord> {
         ("t01/write.bin", 640),
         ("t04/write.bin", 337),
         ("t05/write.bin", 598),
+        ("t06/write.bin", 240),
     ];
     let records = files.map(|(file, count)| {
         let records = corpus::read_writes(&read(file)).expect("whole records");

@@ -4,7 +4,7 @@
 use gate_tests::lent::{Lent, CODES, ENTRIES, NODES};
 use gate_tests::{close, decode, open, present, take, vectors, Gate};
 use reference::corpus::CheckRecord;
-use reference::generate::Rng;
+use reference::generate::{Empty, Rng};
 use reference::{Form, Refusal};
 
 const TAGS: [u32; 3] = [0, 7, u32::MAX];
@@ -18,6 +18,8 @@ enum Call {
     PresentingGood,
     /// A pair of several goals that is accepted.
     PresentingGoals,
+    /// A pair without entries, goals and nodes, which is accepted.
+    PresentingNothing,
     /// A pair that earns 38 at 3.
     PresentingBad,
     /// A claim with an action that is none, 71 at 1, beside any proof.
@@ -50,7 +52,7 @@ use After::{Holding, Kept, Moved};
 use Answer::{Done, HeldTag, Refused};
 use Call::{Closing, Opening, Taking};
 use Call::{PresentingBad, PresentingGoals, PresentingGood};
-use Call::{PresentingMany, PresentingShort, PresentingUnfit};
+use Call::{PresentingMany, PresentingNothing, PresentingShort, PresentingUnfit};
 
 const BAD: u32 = 38 << 16 | 3;
 const UNFIT: u32 = 71 << 16 | 1;
@@ -67,7 +69,7 @@ const NO_PHASES: [u8; 2] = [3, 255];
 /// "50 closed (presenting, taking, closing); 51 permit held (presenting); 52 none
 /// held while open (taking); 53 not closed (opening)", all of them "before any of
 /// the above".
-const TABLE: [(Call, u8, Answer, After); 27] = [
+const TABLE: [(Call, u8, Answer, After); 30] = [
     (Opening, Gate::CLOSED, Done, Moved(Gate::OPEN)),
     (Opening, Gate::OPEN, Refused(NOT_CLOSED), Kept),
     (Opening, Gate::HOLDING, Refused(NOT_CLOSED), Kept),
@@ -83,6 +85,9 @@ const TABLE: [(Call, u8, Answer, After); 27] = [
     (PresentingGoals, Gate::CLOSED, Refused(IS_CLOSED), Kept),
     (PresentingGoals, Gate::OPEN, Done, Holding),
     (PresentingGoals, Gate::HOLDING, Refused(HELD), Kept),
+    (PresentingNothing, Gate::CLOSED, Refused(IS_CLOSED), Kept),
+    (PresentingNothing, Gate::OPEN, Done, Holding),
+    (PresentingNothing, Gate::HOLDING, Refused(HELD), Kept),
     (PresentingBad, Gate::CLOSED, Refused(IS_CLOSED), Kept),
     (PresentingBad, Gate::OPEN, Refused(BAD), Kept),
     (PresentingBad, Gate::HOLDING, Refused(HELD), Kept),
@@ -107,6 +112,7 @@ type Pair = (Vec<u8>, Vec<u8>);
 struct Files {
     good: Pair,
     goals: Pair,
+    nothing: Pair,
     bad: Pair,
     unfit: Pair,
     many: Pair,
@@ -123,9 +129,13 @@ impl Files {
             (found.claim.clone(), found.proof.clone())
         };
         let several = |record: &CheckRecord| decode::goals(&record.claim).len() > 1;
+        let lacks_all = |record: &CheckRecord| {
+            Empty::of_files(&record.claim, &record.proof) == Some(Empty::Everything)
+        };
         Files {
             good: with(&|record| record.answer == 0 && record.form() == Some(Form::One)),
             goals: with(&|record| record.answer == 0 && several(record)),
+            nothing: with(&|record| record.answer == 0 && lacks_all(record)),
             bad: with(&|record| record.answer == BAD),
             unfit: with(&|record| record.answer == UNFIT),
             many: with(&|record| record.answer == MANY),
@@ -134,27 +144,27 @@ impl Files {
         }
     }
 
+    /// What a presentation presents.
+    fn pair(&self, call: Call) -> &Pair {
+        match call {
+            PresentingGoals => &self.goals,
+            PresentingNothing => &self.nothing,
+            PresentingBad => &self.bad,
+            PresentingUnfit => &self.unfit,
+            PresentingMany => &self.many,
+            _ => &self.good,
+        }
+    }
+
     /// The answer as taking gives it, for all calls.
     fn make(&mut self, call: Call, gate: &mut Gate, tag: u32) -> u64 {
-        let Files {
-            good,
-            goals,
-            bad,
-            unfit,
-            many,
-            least,
-            short,
-        } = self;
+        let (claim, proof) = self.pair(call).clone();
         match call {
             Opening => open(gate).into(),
             Closing => close(gate).into(),
             Taking => take(gate),
-            PresentingGood => present(gate, tag, &good.0, &good.1, least).into(),
-            PresentingGoals => present(gate, tag, &goals.0, &goals.1, least).into(),
-            PresentingBad => present(gate, tag, &bad.0, &bad.1, least).into(),
-            PresentingUnfit => present(gate, tag, &unfit.0, &unfit.1, least).into(),
-            PresentingMany => present(gate, tag, &many.0, &many.1, least).into(),
-            PresentingShort => present(gate, tag, &good.0, &good.1, short).into(),
+            PresentingShort => present(gate, tag, &claim, &proof, &mut self.short).into(),
+            _ => present(gate, tag, &claim, &proof, &mut self.least).into(),
         }
     }
 }
@@ -255,6 +265,8 @@ fn a_permit_from_opening_to_closing() {
         assert_eq!(then(Taking, 0), refused_permit(NONE_HELD));
         assert_eq!(then(PresentingGoals, tag), 0);
         assert_eq!(then(Taking, 0), tag.into());
+        assert_eq!(then(PresentingNothing, tag), 0);
+        assert_eq!(then(Taking, 0), tag.into());
         assert_eq!(then(PresentingGood, tag), 0);
         assert_eq!(then(Closing, 0), 0);
         assert_eq!(then(Taking, 0), refused_permit(IS_CLOSED));
@@ -274,20 +286,22 @@ fn shown(gate: Gate) -> reference::Gate {
     }
 }
 
+const RANDOM_CALLS: [Call; 7] = [
+    Opening,
+    Closing,
+    Taking,
+    PresentingGood,
+    PresentingGoals,
+    PresentingNothing,
+    PresentingBad,
+];
+
 /// Random calls on two gates at once, so that a call that works on anything but
 /// the state it is lent is found out.
 #[test]
 fn random_calls_agree_with_the_reference() {
     let mut files = Files::new();
     let mut rng = Rng::new(gate_tests::setting("GATE_SEED", 1));
-    let calls = [
-        Opening,
-        Closing,
-        Taking,
-        PresentingGood,
-        PresentingGoals,
-        PresentingBad,
-    ];
     let closed = Gate {
         phase: Gate::CLOSED,
         tag: 0,
@@ -296,7 +310,7 @@ fn random_calls_agree_with_the_reference() {
     let mut granted = 0;
     for _ in 0..20_000 {
         let (gate, model) = &mut gates[rng.below(2)];
-        let call = rng.pick(&calls).unwrap_or(Opening);
+        let call = rng.pick(&RANDOM_CALLS).unwrap_or(Opening);
         let tag = rng.word() as u32;
         let number = |outcome: Result<(), Refusal>| outcome.map_or_else(Refusal::packed, |()| 0);
         let expected = match call {
@@ -306,18 +320,10 @@ fn random_calls_agree_with_the_reference() {
                 Ok(tag) => u64::from(tag),
                 Err(refusal) => refused_permit(refusal.packed()),
             },
-            PresentingBad => model
-                .present(tag, &files.bad.0, &files.bad.1)
-                .answer()
-                .into(),
-            PresentingGoals => model
-                .present(tag, &files.goals.0, &files.goals.1)
-                .answer()
-                .into(),
-            _ => model
-                .present(tag, &files.good.0, &files.good.1)
-                .answer()
-                .into(),
+            _ => {
+                let (claim, proof) = files.pair(call);
+                model.present(tag, claim, proof).answer().into()
+            }
         };
         granted += u64::from(call == Taking && expected >> 32 == 0);
         assert_eq!(files.make(call, gate, tag), expected, "{call:?}");

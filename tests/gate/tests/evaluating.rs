@@ -119,6 +119,9 @@ struct Shares {
     /// Claims of the form of several goals, and of these how many are evaluated.
     goals: u64,
     goals_evaluated: u64,
+    /// Pairs evaluated without goals, and of these how many without entries.
+    no_goals: u64,
+    no_entries: u64,
     refusals: BTreeMap<u32, u64>,
 }
 
@@ -135,6 +138,8 @@ impl Shares {
         self.evaluated += 1;
         let states = u32::from(record.model[4]);
         let entries = decode::entries(&record.claim);
+        self.no_goals += u64::from(decode::goals(&record.claim).is_empty());
+        self.no_entries += u64::from(entries.is_empty());
         let split = entries.iter().zip(&record.words).any(|(entry, word)| {
             let fixpoint = entry.kind == Kind::Mu as u8 || entry.kind == Kind::Nu as u8;
             fixpoint && *word != 0 && word.count_ones() != states
@@ -154,16 +159,19 @@ impl Shares {
         let share = |part: u64| 100.0 * part as f64 / self.total as f64;
         println!(
             "gate: {} {what} agree, {:.1} % evaluated, {:.1} % with a fixpoint true at some \
-             states only, {:.1} % by action, {:.1} % of several goals ({} of them evaluated); \
-             refusals {:?}",
+             states only, {:.1} % by action, {:.1} % of several goals ({} of them evaluated), {} \
+             evaluated without goals ({} without entries); refusals {:?}",
             self.total,
             share(self.evaluated),
             share(self.split),
             share(self.by_action),
             share(self.goals),
             self.goals_evaluated,
+            self.no_goals,
+            self.no_entries,
             self.refusals
         );
+        assert!(self.no_goals * 50 > self.total && self.no_entries * 100 > self.total);
         assert!(self.by_action * 5 > self.total);
         assert!(self.goals * 3 > self.total && self.goals_evaluated * 5 > self.total);
         let all = (10..=14).chain(20..=23).chain(60..=64).chain([71, 72]);
@@ -483,9 +491,38 @@ fn goals_of_an_evaluated_claim() {
         }
         let record = judged(&claim, &model);
         match goals {
-            1..=16 => assert_eq!(record.words, one.words, "{what}"),
+            0..=16 => assert_eq!(record.words, one.words, "{what}"),
             _ => assert_eq!(refusal(&record), Some((72, 14)), "{what}"),
         }
+    }
+}
+
+/// "An evaluation without entries is done and writes no word", in any model; its model
+/// is judged. "Slices under their length get 1 all the same."
+#[test]
+fn no_entries() {
+    let claim = b"CLM2\0\0\0\0";
+    let mut lent = LentWords::least();
+    let models = generate::models(setting("GATE_SEED", 1)).take(300);
+    for model in models.chain([extremes::longest_model().bytes]) {
+        let record = judged(claim, &model);
+        assert_eq!((record.answer, record.words.len()), (0, 0));
+        assert_evaluated(&record, &mut lent, "no entries");
+        lent.assert_untouched("no entries");
+        for length in [0, 3, 4, 5, model.len() - 1] {
+            let cut = judged(claim, &model[..length]);
+            assert!((60..=61).contains(&cut.number()));
+            assert_evaluated(&cut, &mut lent, "no entries, a cut model");
+        }
+        let longer = judged(claim, &[&model[..], &[0]].concat());
+        assert_eq!(refusal(&longer), Some((61, model.len())));
+        assert_evaluated(&longer, &mut lent, "no entries, a longer model");
+    }
+    for (entries, words) in [(ENTRIES, 255), (ENTRIES, 0), (255, WORDS), (0, 0)] {
+        let mut short = LentWords::new(entries, words);
+        let got = evaluate(claim, b"MDL1\x01\0", &mut short);
+        assert_eq!(describe_wide(got), "refuse 1 at 0");
+        short.assert_untouched("no entries, short slices");
     }
 }
 

@@ -4,12 +4,13 @@
 //! form of several goals alone, `GATE_SEED` the seed. Of the first, two out of five
 //! are made of tables with twins for proofs that use them, whatever the seed. Boxes
 //! and diamonds go by actions in all of them, and half of all have the form of several
-//! goals.
+//! goals; one in twenty lacks entries, goals or nodes.
 
 use gate_tests::setting;
 use reference::corpus::CheckRecord;
-use reference::generate::Part;
+use reference::generate::{Empty, Part};
 use reference::{describe, generate, Form};
+use std::collections::BTreeMap;
 
 /// What a run of files was like: how many there were of each sort.
 #[derive(Default)]
@@ -25,11 +26,18 @@ struct Shares {
     /// Proofs whose trees interleave in number, and of these how many are accepted.
     interleaved: u64,
     interleaved_accepted: u64,
+    /// Files that lack entries, goals or nodes, and of these how many are accepted.
+    empty: BTreeMap<Empty, u64>,
+    empty_accepted: u64,
 }
 
 impl Shares {
     fn count(&mut self, record: &CheckRecord) {
         let accepted = record.answer == 0;
+        if let Some(empty) = Empty::of_files(&record.claim, &record.proof) {
+            *self.empty.entry(empty).or_default() += 1;
+            self.empty_accepted += u64::from(accepted);
+        }
         self.accepted += u64::from(accepted);
         let goals = record.form() == Some(Form::Several);
         self.goals += u64::from(goals);
@@ -42,6 +50,20 @@ impl Shares {
             self.interleaved += u64::from(interleaved);
             self.interleaved_accepted += u64::from(interleaved && accepted);
         }
+    }
+
+    /// Enough of each of these.
+    fn assert_empty(&self, forms: &[Empty], files: u64) {
+        for form in forms {
+            let count = self.empty.get(form).copied().unwrap_or_default();
+            assert!(count * 400 > files, "too few that lack {form:?}");
+        }
+        let empty: u64 = self.empty.values().sum();
+        assert!(empty * 20 > files, "too few that lack something");
+        assert!(
+            self.empty_accepted * 100 > files,
+            "too few of these accepted"
+        );
     }
 }
 
@@ -63,11 +85,14 @@ fn assert_agree(records: impl Iterator<Item = CheckRecord>, files: u64, what: &s
         goals_accepted,
         interleaved,
         interleaved_accepted,
+        ref empty,
+        empty_accepted,
     } = shares;
     println!(
         "gate: {files} of {what} agree, {accepted} accepted, {twins} use twins, {actions} step by \
          actions above 0; {goals} of several goals ({goals_accepted} accepted), {interleaved} \
-         interleaved ({interleaved_accepted} accepted)"
+         interleaved ({interleaved_accepted} accepted); lacking {empty:?} ({empty_accepted} \
+         accepted)"
     );
     assert!(accepted * 10 > files, "too few accepted proofs");
     assert!(actions * 20 > files, "too few steps by actions");
@@ -83,6 +108,7 @@ fn random_and_damaged_files_agree() {
     let files = setting("GATE_FILES", 50_000);
     let shares = assert_agree(records, files, "generated pairs");
     assert!(shares.twins * 3 > files, "too few proofs that use twins");
+    shares.assert_empty(&Empty::ALL, files);
 }
 
 /// Roots, trees and goals broken in every way.
@@ -92,6 +118,7 @@ fn files_of_several_goals_agree() {
     let files = setting("GATE_GOALS", 10_000);
     let shares = assert_agree(records, files, "files of several goals");
     assert!(shares.goals * 10 > files * 9, "too few of several goals");
+    shares.assert_empty(&Empty::ALL[..5], files);
 }
 
 /// "Acceptance means each goal is proved": the gate says of a claim what it says of
@@ -229,8 +256,7 @@ fn every_goal_count_and_root_agrees() {
         other[goals..goals + 2].copy_from_slice(&bytes);
         let expected = reference::check(&other, &proof);
         assert_eq!(gate_tests::check(&other, &proof), expected);
-        let known = (1..=16).contains(&number);
-        assert_eq!(expected == 72 << 16 | goals as u32, !known);
+        assert_eq!(expected == 72 << 16 | goals as u32, number > 16);
         for root in [6, 8, 10] {
             let mut other = proof.clone();
             other[root..root + 2].copy_from_slice(&bytes);
@@ -238,6 +264,39 @@ fn every_goal_count_and_root_agrees() {
                 gate_tests::check(&claim, &other),
                 reference::check(&claim, &other)
             );
+        }
+    }
+}
+
+/// Every number in the place of the entry count, the goal count and the node count of
+/// empty files, and of files that hold one entry, goal or node.
+#[test]
+fn every_count_of_empty_files_agrees() {
+    let empty: [&[u8]; 2] = [b"CLM2\0\0\0\0", b"PRF2\0\0"];
+    let truth: [&[u8]; 2] = [
+        b"CLM2\x01\0\0\x01\x01\0\x01\0\0\0",
+        b"PRF2\x01\0\0\0\x10\x01\x01\x01\0",
+    ];
+    let alone: [&[u8]; 2] = [
+        b"CLM1\x01\0\0\x01\x01\0\0\0",
+        b"PRF1\x01\0\x10\x01\x01\x01\0",
+    ];
+    for number in 0..=u16::MAX {
+        let counted = |file: &[u8], at: usize| {
+            let mut file = file.to_vec();
+            file[at..at + 2].copy_from_slice(&number.to_le_bytes());
+            file
+        };
+        for (files, places) in [(empty, &[4, 6][..]), (truth, &[4, 8, 10]), (alone, &[4, 8])] {
+            let [claim, proof] = files;
+            for &at in places {
+                let other = counted(claim, at);
+                let expected = reference::check(&other, proof);
+                assert_eq!(gate_tests::check(&other, proof), expected);
+            }
+            let other = counted(proof, 4);
+            let expected = reference::check(claim, &other);
+            assert_eq!(gate_tests::check(claim, &other), expected);
         }
     }
 }

@@ -267,9 +267,9 @@ fn codes_24_576_in_all() {
     assert_checked(&claim, &proof, "accept");
 }
 
-/// 1 to 16 goals, each of them 1 to 24 members.
+/// No goals to 16, each of them 1 to 24 members.
 #[test]
-fn goals_1_to_16() {
+fn goals_0_to_16() {
     for (goals, members, expected) in [
         (1, 24, "accept"),
         (2, 1, "accept"),
@@ -278,7 +278,8 @@ fn goals_1_to_16() {
         // Behind the opening, the entry count, truth in two bytes and letters in four.
         (17, 24, "refuse 72 at 100"),
         (17, 1, "refuse 72 at 8"),
-        (0, 24, "refuse 72 at 100"),
+        (0, 24, "accept"),
+        (0, 1, "accept"),
         (16, 25, "refuse 12 at 106"),
         (16, 0, "refuse 12 at 10"),
     ] {
@@ -288,7 +289,7 @@ fn goals_1_to_16() {
     let one = draft::goal_claim(&truths(1), &[vec![0]]).bytes;
     let proof = draft::goal_proof(&[0], &[ax2()]).bytes;
     assert_claim(&one, &proof, "accept");
-    for count in [0, 17, 255, 256, 257, 65_535u16] {
+    for count in [17, 255, 256, 257, 65_535u16] {
         let mut claim = one.clone();
         claim[8..10].copy_from_slice(&count.to_le_bytes());
         assert_claim(&claim, &proof, "refuse 72 at 8");
@@ -342,11 +343,78 @@ fn roots_below_the_node_count() {
         &with_byte(proof(&[0, 1], 2), 10, 0xFF),
         "refuse 33 at 10",
     );
-    assert_checked(&claim(2), b"PRF2\x00\x00", "refuse 32 at 4");
+    // No node is below a count of zero.
+    assert_checked(&claim(2), &proof(&[0, 1], 0), "refuse 34 at 6");
+    assert_checked(&claim(2), b"PRF2\x00\x00", "refuse 31 at 6");
     for length in 6..10 {
         let cut = &proof(&[0, 1], 2)[..length];
         assert_checked(&claim(2), cut, &format!("refuse 31 at {length}"));
     }
+}
+
+/// "In the `CLM2` form, zero entries and zero goals are now good", and with them a
+/// `PRF2` proof of zero nodes alone.
+#[test]
+fn entries_goals_and_nodes_from_0() {
+    let claim = |entries, goals: &[Vec<u16>]| draft::goal_claim(&truths(entries), goals).bytes;
+    let none = draft::goal_proof(&[], &[]).bytes;
+    for entries in [0, 1, 255, 256] {
+        assert_claim(&claim(entries, &[]), &none, "accept");
+        let longer = [&claim(entries, &[])[..], &[0]].concat();
+        let expected = format!("refuse 11 at {}", 8 + 2 * entries);
+        assert_claim(&longer, &none, &expected);
+        for length in 4..claim(entries, &[]).len() {
+            let cut = &claim(entries, &[])[..length];
+            assert_claim(cut, &none, &format!("refuse 11 at {length}"));
+        }
+    }
+    assert_claim(&claim(257, &[]), &none, "refuse 12 at 4");
+    assert_claim(&claim(0, &[vec![0]]), &none, "refuse 14 at 10");
+    assert_claim(&claim(0, &[vec![65_535]]), &none, "refuse 14 at 10");
+    assert_claim(&claim(0, &[vec![]]), &none, "refuse 12 at 8");
+    assert_claim(&claim(0, &[vec![0; 25]]), &none, "refuse 12 at 8");
+    assert_claim(&claim(0, &vec![vec![0]; 17]), &none, "refuse 72 at 6");
+    assert_claim(&claim(1, &[vec![]]), &none, "refuse 12 at 10");
+    // Entries are judged though no goal has them for members.
+    let unfit = [Entry::new(Kind::Letter, 32, 0)];
+    assert_claim(
+        &draft::goal_claim(&unfit, &[]).bytes,
+        &none,
+        "refuse 20 at 0",
+    );
+}
+
+/// "well-formed nodes get 35, as node 0 at least is an orphan", at the first bad child
+/// number by rising parent, else at node 0.
+#[test]
+fn nodes_without_goals() {
+    let claims = [0, 1].map(|entries| draft::goal_claim(&truths(entries), &[]).bytes);
+    let d = |first| DraftNode {
+        first,
+        ..DraftNode::new(Rule::D, 0, Vec::new())
+    };
+    let leaf = DraftNode::new(Rule::Ax2, 0, Vec::new());
+    for claim in &claims {
+        let refused = |nodes: &[DraftNode], expected: &str| {
+            assert_checked(claim, &draft::goal_proof(&[], nodes).bytes, expected);
+        };
+        refused(&[], "accept");
+        refused(&[leaf.clone()], "refuse 35 at 0");
+        refused(&[d(1), leaf.clone()], "refuse 35 at 0");
+        refused(&[d(0)], "refuse 35 at 0");
+        refused(&[d(1), d(0)], "refuse 35 at 1");
+        refused(&[d(1), d(2)], "refuse 35 at 1");
+        refused(&[d(1), d(65_535)], "refuse 35 at 1");
+        refused(&[d(2), d(2), leaf.clone()], "refuse 35 at 1");
+        refused(&vec![leaf.clone(); 1024], "refuse 35 at 0");
+        refused(&vec![leaf.clone(); 1025], "refuse 32 at 4");
+    }
+    let coded = draft::goal_proof(&[], &[ax2()]).bytes;
+    assert_checked(&claims[0], &coded, "refuse 34 at 9");
+    assert_checked(&claims[1], &coded, "refuse 35 at 0");
+    // No byte may follow a node count of zero: no root stands there.
+    assert_checked(&claims[0], b"PRF2\x00\x00\x00\x00", "refuse 31 at 6");
+    assert_checked(&claims[0], b"PRF1\x00\x00", "refuse 30 at 0");
 }
 
 /// 1,024 nodes in one tree to sixteen.

@@ -10,10 +10,15 @@ use std::collections::BTreeMap;
 
 /// "Refusals 1 to 34 ... write nothing to lent slices", nor do 71 and 72. "With 35 to
 /// 39, with acceptance ... record slices hold the whole decoding".
+fn is_decoded(record: &CheckRecord) -> bool {
+    matches!(record.number(), 0 | 35..=39)
+}
+
+/// That of files without entries and nodes is empty, and nothing is written either.
 fn decoding_left(record: &CheckRecord) -> Decoding {
-    match record.number() {
-        0 | 35..=39 => decode(&record.claim, &record.proof),
-        _ => Decoding::default(),
+    match is_decoded(record) {
+        true => decode(&record.claim, &record.proof),
+        false => Decoding::default(),
     }
 }
 
@@ -51,15 +56,20 @@ fn assert_presented(record: &CheckRecord, index: usize, lent: &mut Lent, what: &
 #[test]
 fn every_check_record_in_slices_of_the_least_lengths() {
     let mut lent = Lent::least();
-    let mut decoded = 0;
+    let (mut decoded, mut empty) = (0, 0);
     let records = vectors::checks();
     for (index, record) in records.iter().enumerate() {
         assert_presented(record, index, &mut lent, &format!("check record {index}"));
-        decoded += u64::from(decoding_left(record) != Decoding::default());
+        decoded += u64::from(is_decoded(record));
+        empty += u64::from(is_decoded(record) && decoding_left(record) == Decoding::default());
     }
     assert!(decoded > 1000, "only {decoded} records are decoded");
+    assert!(empty > 30, "only {empty} of them are empty");
     let presented = records.len();
-    println!("gate: {presented} check records presented, {decoded} decoded into lent slices");
+    println!(
+        "gate: {presented} check records presented, {decoded} decoded into lent slices, {empty} of \
+         them empty"
+    );
 }
 
 #[test]
@@ -90,7 +100,7 @@ fn what_stood_in_the_slices_does_not_count() {
             "check record {index}"
         );
         let decoding = decoding_left(record);
-        if decoding != Decoding::default() {
+        if is_decoded(record) {
             let Lent {
                 entries,
                 nodes,
@@ -180,7 +190,7 @@ fn the_decoding_is_the_reference_s() {
     for record in vectors::checks() {
         let judged = reference::judge(&record.claim, &record.proof).decoded;
         let decoding = decoding_left(&record);
-        assert_eq!(judged.is_some(), decoding != Decoding::default());
+        assert_eq!(judged.is_some(), is_decoded(&record));
         let Some(judged) = judged else { continue };
         let entries = judged.claim.entries.iter();
         let entries: Vec<_> = entries.map(|e| (e.kind as u8, e.a, e.b)).collect();
@@ -215,7 +225,7 @@ fn generated_files_present_alike() {
             &mut lent,
             &format!("generated pair {index}"),
         );
-        let left = decoding_left(&record) != Decoding::default();
+        let left = is_decoded(&record);
         decoded += u64::from(left);
         goals += u64::from(left && record.form() == Some(Form::Several));
     }
@@ -225,4 +235,34 @@ fn generated_files_present_alike() {
         "gate: {files} generated pairs presented, {decoded} decoded into lent slices, {goals} of \
          several goals"
     );
+}
+
+/// No entries, goals and nodes: a permit for it, and nothing written. Slices under their
+/// lengths get 1 all the same.
+#[test]
+fn nothing_is_presented() {
+    let record = CheckRecord {
+        claim: b"CLM2\0\0\0\0".to_vec(),
+        proof: b"PRF2\0\0".to_vec(),
+        answer: 0,
+    };
+    let mut lent = Lent::least();
+    assert_presented(&record, 3, &mut lent, "nothing");
+    lent.assert_untouched("nothing");
+    for lengths in [
+        (255, NODES, CODES),
+        (ENTRIES, 1023, CODES),
+        (ENTRIES, NODES, 24_575),
+        (0, 0, 0),
+    ] {
+        let mut lent = Lent::new(lengths.0, lengths.1, lengths.2);
+        let before = Gate {
+            phase: Gate::OPEN,
+            tag: 9,
+        };
+        let mut gate = before;
+        let got = present(&mut gate, 7, &record.claim, &record.proof, &mut lent);
+        assert_eq!((describe(got).as_str(), gate), ("refuse 1 at 0", before));
+        lent.assert_untouched("nothing, in short slices");
+    }
 }

@@ -3,12 +3,13 @@
 
 use gate_tests::decode::{self, Decoding};
 use gate_tests::lent::{Canary, Lengths, Lent, LentRecords, LentWords, CODES, ENTRIES, NODES};
-use gate_tests::tables::{self, nu_of_box, sized, sized_goals, two_goals};
+use gate_tests::tables::{self, no_goals, nu_of_box, sized, sized_goals, two_goals};
 use gate_tests::{check, evaluate, present, setting, vectors, write_claim, write_proof};
 use gate_tests::{Entry, Gate, Node, Records};
 use reference::corpus::WriteRecord;
-use reference::generate::{self, Tally};
-use reference::{describe, describe_wide, Form, Kind, NodeRecord, Refusal, Written};
+use reference::generate::{self, Empty, Tally};
+use reference::{describe, describe_wide, Form, Kind, NodeRecord, Refusal, Rule, Written};
+use std::collections::BTreeMap;
 use Call::{WritingClaim, WritingProof};
 
 #[derive(Clone, Copy, Debug, PartialEq, Eq)]
@@ -348,9 +349,20 @@ struct Shares {
     interleaved: u64,
     /// Of no form.
     none: u64,
+    /// Without entries, goals or nodes, and of these how many of which both files are
+    /// written.
+    empty: BTreeMap<Empty, u64>,
+    empty_written: u64,
 }
 
 impl Shares {
+    fn count_empty(&mut self, record: &WriteRecord) {
+        if let Some(empty) = Empty::of_records(&record.records) {
+            *self.empty.entry(empty).or_default() += 1;
+            self.empty_written += u64::from(record.claim.is_ok() && record.proof.is_ok());
+        }
+    }
+
     fn count(&mut self, case: &Case) {
         self.goals += u64::from(case.records.form == Form::Several as u8);
         self.none += u64::from(Form::from_number(case.records.form).is_none());
@@ -361,6 +373,21 @@ impl Shares {
         let decoded = reference::judge(claim, proof).decoded;
         let decoded = decoded.expect("what is written is well formed");
         self.interleaved += u64::from(generate::interleaved(&decoded));
+    }
+
+    /// Enough of each sort among so many.
+    fn assert_telling(&self, count: u64) {
+        assert!(self.goals * 3 > count, "{self:?}");
+        assert!(
+            self.several * 12 > count && self.interleaved * 24 > count,
+            "{self:?}"
+        );
+        assert!(self.none * 200 > count, "{self:?}");
+        for form in Empty::ALL {
+            let lacking = self.empty.get(&form).copied().unwrap_or_default();
+            assert!(lacking * 400 > count, "{form:?} in {self:?}");
+        }
+        assert!(self.empty_written * 100 > count, "{self:?}");
     }
 }
 
@@ -388,6 +415,7 @@ fn generated_records_are_written_alike() {
     let records = generate::writes(setting("GATE_SEED", 1));
     for (index, record) in records.take(count as usize).enumerate() {
         let what = format!("generated records {index}");
+        shares.count_empty(&record);
         let case = Case::new(record);
         assert_both(&case, Lengths::of(&case.records), &mut lent, &what);
         assert_outputs(&case, &mut lent, &what);
@@ -405,15 +433,15 @@ fn generated_records_are_written_alike() {
     println!(
         "gate: {count} generated records agree, {both} pairs written and read again; {} of the \
          form of several goals, {} of them written with several, {} with trees that interleave; \
-         {} of no form",
-        shares.goals, shares.several, shares.interleaved, shares.none
+         {} of no form; lacking {:?} ({} written)",
+        shares.goals,
+        shares.several,
+        shares.interleaved,
+        shares.none,
+        shares.empty,
+        shares.empty_written
     );
-    assert!(shares.goals * 3 > count, "{shares:?}");
-    assert!(
-        shares.several * 12 > count && shares.interleaved * 24 > count,
-        "{shares:?}"
-    );
-    assert!(shares.none * 200 > count, "{shares:?}");
+    shares.assert_telling(count);
 }
 
 /// Whether a 0 is written out in a claim: it has more bytes than its records want.
@@ -699,7 +727,9 @@ fn every_form() {
         assert_eq!(alike(&records, &mut lent, &what), expected, "{what}");
         records.entry_count = 0;
         let counted = match form {
-            1 | 2 => "refuse 12 at 4",
+            1 => "refuse 12 at 4",
+            // The members of its goals are then those of no entries.
+            2 => "refuse 14 at 10",
             _ => "refuse 10 at 0",
         };
         assert_eq!(alike(&records, &mut lent, &what), [counted; 2], "{what}");
@@ -727,11 +757,12 @@ fn goal_counts_that_do_not_add_up() {
         let got = of_two_goals(&mut lent, |records| records.goal_counts = counts.to_vec());
         assert_eq!(got, [expected; 2], "{counts:?}");
     };
-    for length in [0, 17, 18, 65_535, 65_536, 65_537, 65_538] {
+    for length in [17, 18, 65_535, 65_536, 65_537, 65_538] {
         assert_both_refuse(&vec![0; length], "refuse 72 at 26");
     }
     for counts in [
-        &[2][..],
+        &[][..],
+        &[2],
         &[1, 2, 1],
         &[1, 1],
         &[2, 2],
@@ -846,4 +877,138 @@ fn the_longest_files_of_several_goals_just_fit() {
         assert_eq!(assert_outputs(&case, &mut lent, &what), 6);
         assert!(Readers::new().assert_give_back(&case, &what));
     }
+}
+
+/// "In the `CLM2` form, zero entries and zero goals are now good", and with them zero
+/// nodes: both files in output slices of just their lengths and shorter ones, and read
+/// again.
+#[test]
+fn nothing_is_written_and_read_again() {
+    let mut lent = LentRecords::default();
+    let mut records = no_goals();
+    for entries in [0, 1, 256] {
+        records.entry_count = entries;
+        let truth = tables::entry(Kind::True as u8, [0, 0]);
+        records.entries[..entries].fill(truth);
+        let case = Case::judged(&records);
+        let lengths = [&case.claim, &case.proof].map(|file| file.as_ref().map(Vec::len));
+        assert_eq!(lengths, [Ok(8 + 2 * entries), Ok(6)]);
+        let what = format!("{entries} entries and no goals");
+        assert_both(&case, Lengths::of(&case.records), &mut lent, &what);
+        assert_eq!(assert_outputs(&case, &mut lent, &what), 6);
+        assert!(Readers::new().assert_give_back(&case, &what));
+        for out in 0..6 {
+            let short = Lengths {
+                out,
+                ..Lengths::of(&case.records)
+            };
+            let given = (&case.records, short);
+            assert_written(WritingClaim, given, &refused(70, 0), &mut lent, &what);
+            assert_written(WritingProof, given, &refused(70, 0), &mut lent, &what);
+        }
+    }
+}
+
+/// "Slices under their length get 1 all the same."
+#[test]
+fn nothing_in_short_slices() {
+    let mut lent = LentRecords::default();
+    let case = Case::judged(&no_goals());
+    let full = Lengths::of(&case.records);
+    for (entries, nodes, codes) in [
+        (255, NODES, CODES),
+        (ENTRIES, 1023, CODES),
+        (ENTRIES, NODES, 24_575),
+        (0, 0, 0),
+    ] {
+        let short = Lengths {
+            entries,
+            nodes,
+            codes,
+            ..full
+        };
+        // No more records than are lent.
+        let mut records = case.records.clone();
+        records.entries.truncate(entries);
+        records.nodes.truncate(nodes);
+        records.codes.truncate(codes);
+        let given = (&records, short);
+        assert_written(WritingProof, given, &refused(1, 0), &mut lent, "nothing");
+        let claim = match entries < ENTRIES {
+            true => refused(1, 0),
+            false => case.claim.clone(),
+        };
+        assert_written(WritingClaim, given, &claim, &mut lent, "nothing");
+    }
+}
+
+/// Nothing but for one thing: what both calls answer.
+fn of_nothing(lent: &mut LentRecords, change: impl Fn(&mut reference::Records)) -> [String; 2] {
+    let mut records = no_goals();
+    change(&mut records);
+    alike(&records, lent, "nothing but for one thing")
+}
+
+#[test]
+fn something_beside_nothing() {
+    let mut lent = LentRecords::default();
+    let mut answers = |change: &dyn Fn(&mut reference::Records)| of_nothing(&mut lent, change);
+    assert_eq!(answers(&|_| {}), ["8 bytes", "6 bytes"]);
+    assert_eq!(answers(&|records| records.form = 1), ["refuse 12 at 4"; 2]);
+    for count in [257, 65_536, 1 << 32, 1 << 63] {
+        let entries = answers(&|records| records.entry_count = count);
+        assert_eq!(entries, ["refuse 12 at 4"; 2], "{count} entries");
+    }
+    for count in [1025, 65_536, 1 << 32, 1 << 63] {
+        let nodes = answers(&|records| records.node_count = count);
+        assert_eq!(nodes, ["8 bytes", "refuse 32 at 4"], "{count} nodes");
+    }
+    let entry = answers(&|records| records.entry_count = 1);
+    assert_eq!(entry, ["refuse 13 at 6"; 2]);
+    for length in [1, 16, 17, 65_536] {
+        let members = answers(&|records| records.members = vec![0; length]);
+        assert_eq!(members, ["refuse 12 at 6"; 2], "{length} members");
+        let goals = answers(&|records| records.goal_counts = vec![0; length]);
+        let expected = match length {
+            1..=16 => "refuse 12 at 8",
+            _ => "refuse 72 at 6",
+        };
+        assert_eq!(goals, [expected; 2], "{length} goals");
+        let roots = answers(&|records| records.roots = vec![0; length]);
+        assert_eq!(roots, ["8 bytes", "refuse 34 at 6"], "{length} roots");
+    }
+    let goal = answers(&|records| *records = tables::with_members(records.clone(), vec![0]));
+    assert_eq!(goal, ["refuse 14 at 10"; 2]);
+}
+
+/// "well-formed nodes get 35", from the writer too; and goals without nodes 34 where
+/// the roots begin.
+#[test]
+fn nodes_without_goals_and_goals_without_nodes() {
+    let mut lent = LentRecords::default();
+    let mut proof_of = |nodes: &[NodeRecord]| {
+        let [claim, proof] = of_nothing(&mut lent, |records| {
+            records.nodes[..nodes.len()].copy_from_slice(nodes);
+            records.node_count = nodes.len();
+        });
+        assert_eq!(claim, "8 bytes");
+        proof
+    };
+    let leaf = tables::node(Rule::Ax2 as u8, [0; 4], 0);
+    let d = |child| tables::node(Rule::D as u8, [0, child, 0, 0], 0);
+    assert_eq!(proof_of(&[]), "6 bytes");
+    assert_eq!(proof_of(&[leaf]), "refuse 35 at 0");
+    assert_eq!(proof_of(&[d(1), leaf]), "refuse 35 at 0");
+    assert_eq!(proof_of(&[d(1), d(0)]), "refuse 35 at 1");
+    assert_eq!(proof_of(&[d(1), d(65_535)]), "refuse 35 at 1");
+    assert_eq!(proof_of(&[leaf; 32]), "refuse 35 at 0");
+    assert_eq!(proof_of(&[leaf; 33]), "refuse 35 at 0");
+    assert_eq!(proof_of(&[leaf; 1024]), "refuse 35 at 0");
+    let no_nodes = of_two_goals(&mut lent, |records| records.node_count = 0);
+    assert_eq!(no_nodes, ["38 bytes", "refuse 34 at 6"]);
+    let no_roots = of_two_goals(&mut lent, |records| {
+        records.node_count = 0;
+        records.roots.clear();
+    });
+    assert_eq!(no_roots, ["38 bytes", "refuse 34 at 6"]);
 }

@@ -20,14 +20,14 @@ cast-store-entries c = search needs
 store-entries-requires : tie.Need-store-entries-requires
 store-entries-requires c κs =
     let h = number-read _ _ (c .before .before .before .before .before .before .count-at .ensures) (c .before .before .before .before .value .given .1) in
-    (c .before .before .before .before .before .before .before .before .pre .0, entries-place _ h)
+    (c .before .before .before .before .before .before .before .before .pre .0, entries-place _ _ h)
 
 returns : tie.Need-returns
-returns c = entries-cut _ _ (number-refused _ _ (c .before .before .before .count-at .ensures) (c .before .number .given .1))
+returns c = entries-cut _ _ _ (number-refused _ _ (c .before .before .before .count-at .ensures) (c .before .number .given .1))
 
 returns-2 : tie.Need-returns-2
 returns-2 c =
-    entries-tell _
+    entries-tell _ _
     (number-read _ _ (c .before .before .before .before .before .before .before .count-at .ensures) (c .before .before .before .before .before .value .given .1)) _
     (c .store-entries .result) (c .store-entries .ensures)
 

@@ -2,9 +2,13 @@
 use native.Mathlib.Omega.{arith}
 use borrow.Author.Needs.{needs}
 use Rattle.file_parts.specs.Parts.{part-read, part-refused}
-use Rattle.claims.specs.ClaimWalk.{claim-refused, claim-closed, claim-opened, claim-long, claim-no-entries, claim-no-goals, claim-follows, claim-got}
+use Rattle.claims.specs.ClaimWalk.{Opened, claim-refused, claim-closed, claim-opened, claim-long, claim-no-entries, claim-no-goals, claim-follows, claim-got}
 use Rattle.claims.proofs.read_claim.Statement.{statement}
 use Rattle.claims.proofs.read_claim.Tie as tie
+
+-- past the opening
+opened : (c : tie.After-fewest) → Opened (c .before .before .before .before .args .bytes .now) (c .before .before .opening-form .result)
+opened c = claim-opened _ (c .before .before .opening-form .ensures) (c .before .if1 .left)
 
 opening-form-requires : tie.Need-opening-form-requires
 opening-form-requires c κs = search needs
@@ -15,10 +19,11 @@ refuse-requires c κs = search needs
 returns : tie.Need-returns
 returns c = claim-refused _ _ _ _ _ (c .refuse .ensures) (claim-closed _ (c .before .before .opening-form .ensures) (c .before .if1 .taken))
 
+fewest-requires : tie.Need-fewest-requires
+fewest-requires c κs = search needs
+
 read-entries-requires : tie.Need-read-entries-requires
-read-entries-requires c κs =
-    let o = c .before .before .before in
-    (o .before .before .before .pre .entries, claim-long _ (claim-opened _ (o .before .opening-form .ensures) (o .if1 .left)))
+read-entries-requires c κs = (c .before .before .before .before .before .before .before .pre .entries, claim-long _ (opened (c .before .before .before)))
 
 enum-known-number : tie.Need-enum-known-number
 enum-known-number c = search needs
@@ -32,7 +37,7 @@ enum-known-entries c = search needs
 read-goals-requires : tie.Need-read-goals-requires
 read-goals-requires c κs =
     let x = part-read _ _ _ _ (c .before .before .before .before .before .before .read-entries .ensures) (c .before .before .before .before .entries .given .1) in
-    let p = c .before .before .before .before .before .before .before .before .before .before .before .before .before .pre in
+    let p = c .before .before .before .before .before .before .before .before .before .before .before .before .before .before .pre in
     ((p .starts, p .members, x .few), record { within = x .reached .inside; low = x .reached .near })
 
 enum-known-number-2 : tie.Need-enum-known-number-2
@@ -54,36 +59,35 @@ refuse-requires-4 c κs = search needs
 
 returns-2 : tie.Need-returns-2
 returns-2 c =
+    let entered = c .before .before .before .before .before .before .before .before .before .before in
+    let form = entered .before .before .before .before .before .before in
     claim-refused _ _ _ _ _ (c .refuse4 .ensures)
-    (claim-follows _ (claim-opened _ (c .before .before .before .before .before .before .before .before .before .before .before .before .before .before .before .before .before .opening-form .ensures)
-    (c .before .before .before .before .before .before .before .before .before .before .before .before .before .before .before .before .if1 .left))
-    (part-read _ _ _ _ (c .before .before .before .before .before .before .before .before .before .before .before .before .read-entries .ensures)
-    (c .before .before .before .before .before .before .before .before .before .before .entries .given .1))
+    (claim-follows _ (opened form) (form .fewest .ensures)
+    (part-read _ _ _ _ (entered .before .before .read-entries .ensures) (entered .entries .given .1))
     (part-read _ _ _ _ (c .before .before .before .before .before .read-goals .ensures) (c .before .before .before .goals .given .1))
     (c .before .if2 .taken))
 
 returns-3 : tie.Need-returns-3
 returns-3 c =
+    let form = c .before .before .before .before .before .before .before .before in
     claim-refused _ _ _ _ _ (c .refuse2 .ensures)
-    (claim-no-entries _ (claim-opened _ (c .before .before .before .before .before .before .before .before .before .opening-form .ensures)
-    (c .before .before .before .before .before .before .before .before .if1 .left))
-    (part-refused _ _ _ _ (c .before .before .before .before .read-entries .ensures) (c .before .before .number .given .1)))
+    (claim-no-entries _ (opened form) (form .fewest .ensures) (part-refused _ _ _ _ (c .before .before .before .before .read-entries .ensures) (c .before .before .number .given .1)))
 
 returns-4 : tie.Need-returns-4
 returns-4 c =
+    let entered = c .before .before .before .before .before .before .before .before .before in
+    let form = entered .before .before .before .before .before .before in
     claim-refused _ _ _ _ _ (c .refuse3 .ensures)
-    (claim-no-goals _ (claim-opened _ (c .before .before .before .before .before .before .before .before .before .before .before .before .before .before .before .before .opening-form .ensures)
-    (c .before .before .before .before .before .before .before .before .before .before .before .before .before .before .before .if1 .left))
-    (part-read _ _ _ _ (c .before .before .before .before .before .before .before .before .before .before .before .read-entries .ensures)
-    (c .before .before .before .before .before .before .before .before .before .entries .given .1))
+    (claim-no-goals _ (opened form) (form .fewest .ensures)
+    (part-read _ _ _ _ (entered .before .before .read-entries .ensures) (entered .entries .given .1))
     (part-refused _ _ _ _ (c .before .before .before .before .read-goals .ensures) (c .before .before .number2 .given .1)))
 
 returns-5 : tie.Need-returns-5
 returns-5 c =
-    claim-got _ (claim-opened _ (c .before .before .before .before .before .before .before .before .before .before .before .before .before .before .before .before .opening-form .ensures)
-    (c .before .before .before .before .before .before .before .before .before .before .before .before .before .before .before .if1 .left))
-    (part-read _ _ _ _ (c .before .before .before .before .before .before .before .before .before .before .before .read-entries .ensures)
-    (c .before .before .before .before .before .before .before .before .before .entries .given .1))
+    let entered = c .before .before .before .before .before .before .before .before .before in
+    let form = entered .before .before .before .before .before .before in
+    claim-got _ (opened form) (form .fewest .ensures)
+    (part-read _ _ _ _ (entered .before .before .read-entries .ensures) (entered .entries .given .1))
     (part-read _ _ _ _ (c .before .before .before .before .read-goals .ensures) (c .before .before .goals .given .1))
     (c .if2 .left)
 
@@ -94,6 +98,7 @@ read-claim-spec =
     opening-form-requires
     refuse-requires
     returns
+    fewest-requires
     read-entries-requires
     enum-known-number
     refuse-requires-2

@@ -5,7 +5,7 @@ use mathlib.Core.List.{_++_}
 use Rattle.formula.specs.Claim.{Form}
 use Rattle.encoding.specs.Encode.{encodeTwo}
 use Rattle.proof_files.specs.ProofFile.{proofOpening}
-use Rattle.proofs.specs.NamedForm.{namedForm, names-several, names-one}
+use Rattle.formula.specs.NamedForm.{namedForm, names-several, names-one}
 use Rattle.laying.specs.Laying.{Fits}
 use borrow.Author.Needs.{needs}
 use Rattle.laying.proofs.open_proof.Statement.{statement}

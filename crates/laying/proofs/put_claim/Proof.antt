@@ -8,7 +8,7 @@ use Rattle.verdict.specs.Lists.{written}
 use Rattle.formula.specs.Claim.{Form}
 use Rattle.encoding.specs.Encode.{encodeTwo}
 use Rattle.claim_files.specs.ClaimFile.{claimOpening, encodeGoalCount, encodeClaim}
-use Rattle.proofs.specs.NamedForm.{namedForm, for-named}
+use Rattle.formula.specs.NamedForm.{namedForm, for-named}
 use Rattle.writing.specs.RecordBytes.{split}
 use Rattle.laying.specs.Laying.{Left, entriesLeft, all-left, less-left, room-left, left-fits, last-left}
 use Rattle.laying.specs.Goals.{goalsLeft}

@@ -8,7 +8,7 @@ use Rattle.verdict.specs.Lists.{written}
 use Rattle.formula.specs.Claim.{Form}
 use Rattle.encoding.specs.Encode.{encodeTwo}
 use Rattle.proof_files.specs.ProofFile.{proofOpening, encodeRoots, encodeProof}
-use Rattle.proofs.specs.NamedForm.{namedForm, for-named}
+use Rattle.formula.specs.NamedForm.{namedForm, for-named}
 use Rattle.laying.specs.Laying.{Left, nodesLeft, all-left, less-left, room-left, left-fits, last-left}
 use Rattle.laying.specs.Files.{proofOf, proofParts, proof-parts, proof-fits, file-put}
 use borrow.Author.Needs.{needs}

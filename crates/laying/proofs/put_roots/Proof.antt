@@ -5,7 +5,7 @@ use Prim.Native.Nat.{_+_, _≤_}
 use lib.ListN.{length}
 use Rattle.formula.specs.Claim.{Form}
 use Rattle.proof_files.specs.ProofFile.{encodeRoots}
-use Rattle.proofs.specs.NamedForm.{names-several, names-one}
+use Rattle.formula.specs.NamedForm.{names-several, names-one}
 use Rattle.writing.specs.FieldEnds.{numbers-long}
 use Rattle.laying.specs.Laying.{nothing-put, put-as}
 use Rattle.laying.specs.Goals.{numbers-all}

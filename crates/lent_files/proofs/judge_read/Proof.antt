@@ -207,17 +207,17 @@ module _ {M : Type 1} (𝓤 : URA M) (H : Heap 𝓤) (A : Atoms 𝓤) (W : Given
         → LentJudged (firstly (shown before) (files (claim .now) (proof .now))) (entries .now) (nodes .now) (codes .now) (shown r) es vs cs → Judged r es vs cs
     told-of r es vs cs judged = record { judged = judged; claim-bytes = told .claim-bytes; proof-bytes = told .proof-bytes }
 
-    -- no node was found
-    refuses : T (eqb (d .nodes) 0) → Judged (d .verdict) (entries .now) (nodes .now) (codes .now)
+    -- no place was found
+    refuses : T (eqb (d .at) 0) → Judged (d .verdict) (entries .now) (nodes .now) (codes .now)
     refuses none = told-of (d .verdict) (entries .now) (nodes .now) (codes .now)
         (refusal-stands (claim .now) (proof .now) (told .claim-bytes) (told .proof-bytes) (c .0) (c .1 .0) (c .1 .1) (b .0) (b .1 .0) (b .1 .1) d
-        (entries .now) (nodes .now) (codes .now) (eqb→eq (d .nodes) 0 none) (shown before) (told .told))
+        (entries .now) (nodes .now) (codes .now) (eqb→eq (d .at) 0 none) (shown before) (told .told))
 
-    -- a node was found
-    module _ (long : shown before ≡ accepted → AllLong (entries .now) (nodes .now) (codes .now)) (found : T (not (eqb (d .nodes) 0))) where
+    -- a place was found
+    module _ (long : shown before ≡ accepted → AllLong (entries .now) (nodes .now) (codes .now)) (found : T (not (eqb (d .at) 0))) where
       got : (shown before ≡ accepted) × FilesGot (files (claim .now) (proof .now)) (c .0) (c .1 .0) (c .1 .1) (b .0) (b .1 .0) (b .1 .1) (d .entries) (d .goals) (d .nodes) (d .at)
       got = nothing-refused (claim .now) (proof .now) (told .claim-bytes) (told .proof-bytes) (c .0) (c .1 .0) (c .1 .1) (b .0) (b .1 .0) (b .1 .1) d (shown before) (told .told)
-          (λ e. T-not (eqb (d .nodes) 0) found (subst (λ (k : ℕ). T (eqb k 0)) (sym e) tt))
+          (λ e. T-not (eqb (d .at) 0) found (subst (λ (k : ℕ). T (eqb k 0)) (sym e) tt))
 
       stores : EntryRoom (c .0) (c .1 .0) (c .1 .1) (d .entries) × (d .entries ≤ length (entries .now))
       stores = may-store (claim .now) (proof .now) (told .claim-bytes) (told .proof-bytes) (got .1) (long (got .0))
@@ -477,7 +477,7 @@ module _ {M : Type 1} (𝓤 : URA M) (H : Heap 𝓤) (A : Atoms 𝓤) (W : Given
 
   module _ (C : Calls 𝓤 H) (Λ : Loops 𝓤 H) (fm : FmC 𝓤 H (W .laws) C) (known-store : Triple 𝓤 (C #store) (Store 𝓤 H A mem run)) (known-load : Triple 𝓤 (C #load) (Load 𝓤 H A mem run))
       (known-judge : Triple 𝓤 (C #judge) (Judge 𝓤 H A mem run)) (l : ℕ → ℕ) (d : Found) (c b : Lists) (told : Told d c b) (is : Is F.the-row d (LL.val F.the-type F′.the-laws d ∷ []))
-      (long : shown before ≡ accepted → AllLong (entries .now) (nodes .now) (codes .now)) (found : T (not (eqb (d .nodes) 0))) where
+      (long : shown before ≡ accepted → AllLong (entries .now) (nodes .now) (codes .now)) (found : T (not (eqb (d .at) 0))) where
     -- `judge_stored(proof, found.at, &kinds, &a, &b, found.entries, &bounds, &members, found.goals, &roots, found.nodes, nodes, codes)`, whose verdict is returned
     goes-judged : (es : List Entry) (stored : Stored d c es) → length es ≡ length (entries .now) → (c′ : Lists) → Loaded d c es c′ → (r m : Loans)
         → Seq (Go {0}) W (shared-at l d es array r c′ m b) (runs C Λ (env l) code.Mir.t-34 (atRet (env l) Post))
@@ -591,8 +591,8 @@ module _ {M : Type 1} (𝓤 : URA M) (H : Heap 𝓤) (A : Atoms 𝓤) (W : Given
         move ! (0 ∷ 1 ∷ 2 ∷ 18 ∷ 19 ∷ 20 ∷ 6 ∷ 7 ∷ 8 ∷ []) $ three-turned (columns l) array slice ! tt (entry-rooms (l 7) (l 8) (l 9)) p c (λ r _.
         move ! (9 ∷ 10 ∷ 11 ∷ 18 ∷ 19 ∷ 20 ∷ 12 ∷ 13 ∷ 14 ∷ []) $ three-turned (lists l) array array ! tt (list-rooms l) m b (λ m′ _.
         move ! (span 111 3 ++ span 18 3 ++ span 9 9 ++ span 0 9) $
-        -- `if found.nodes == 0`
-        assigns ! (bin ! (load ! (from ! (fld ! refl (stop !))) (look-in ! 44 (sub ! 3 refl (whole !)))) (lit ! tt) tt) (from ! (stop !)) (init ! 58 refl (tt, tt)) $
+        -- `if found.at == 0`
+        assigns ! (bin ! (load ! (from ! (fld ! refl (stop !))) (look-in ! 44 (sub ! 4 refl (whole !)))) (lit ! tt) tt) (from ! (stop !)) (init ! 58 refl (tt, tt)) $
         into ! $ branches ! (load ! (from ! (stop !)) (look ! 58 refl))
         -- `return found.verdict;`: the slices are as they were
         (λ none. assigns ! (of-opd ! (load ! (from ! (fld ! refl (stop !))) (look-in ! 44 (sub ! 0 refl (whole !))))) (from ! (stop !))
@@ -604,7 +604,7 @@ module _ {M : Type 1} (𝓤 : URA M) (H : Heap 𝓤) (A : Atoms 𝓤) (W : Given
         owned ! Ver.the-row (Is Ver.the-row) (EL.makes Ver.the-type Ver′.the-plain 𝓤 H A) (d .verdict) _ (LL.owed F.the-type F′.the-laws d _ is .0) $
         keep ! (0 ∷ span 7 5 ++ span 19 14 ++ (4 ∷ 33 ∷ 5 ∷ 34 ∷ 6 ∷ 35 ∷ 1 ∷ 36 ∷ 2 ∷ 37 ∷ 3 ∷ 38 ∷ []) ++ span 39 70) $
         ends l (d .verdict) _ (entries .now) (nodes .now) (codes .now) (refuses d c b told none) refl refl refl)
-        -- a node was found
+        -- a place was found
         (λ found.
         forget ! 46 refl $ forget ! 48 refl $ forget ! 50 refl $ forget ! 52 refl $ forget ! 54 refl $ forget ! 56 refl $ forget ! 58 refl $
         skips ! $ exec ! C Λ _ code.Mir.t-16 (atRet _ Post) $

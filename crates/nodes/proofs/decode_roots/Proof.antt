@@ -2,7 +2,7 @@
 use borrow.Author.Needs.{needs}
 use native.Mathlib.Omega.{arith}
 use mathlib.Core.Path.{refl}
-use Rattle.proofs.specs.NamedForm.{names-several, names-one, for-named}
+use Rattle.formula.specs.NamedForm.{names-several, names-one, for-named}
 use Rattle.nodes.specs.RootsStored.{RootsStored, several-long, single, several-stored, one-stored}
 use Rattle.nodes.proofs.decode_roots.Statement.{statement}
 use Rattle.nodes.proofs.decode_roots.Tie as tie

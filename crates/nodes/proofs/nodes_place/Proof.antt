@@ -3,7 +3,7 @@ use borrow.Author.Needs.{needs}
 use native.Mathlib.Omega.{arith}
 use mathlib.Core.Path.{_≡_, refl}
 use Prim.Native.Nat.{_+_, _*_}
-use Rattle.proofs.specs.NamedForm.{names-several, names-one, for-named}
+use Rattle.formula.specs.NamedForm.{names-several, names-one, for-named}
 use Rattle.nodes.specs.ProofDecode.{nodesPlace}
 use Rattle.nodes.proofs.nodes_place.Statement.{statement}
 use Rattle.nodes.proofs.nodes_place.Tie as tie

@@ -8,7 +8,7 @@ use lib.ListN.{length, length-replicate}
 use borrow.Author.Tests.{not-true, not-false}
 use Rattle.verdict.specs.Verdict.{Verdict, refused}
 use Rattle.verdict.specs.Shown.{shown}
-use Rattle.formula.specs.Claim.{Form, formNumber, Claim, Derivation}
+use Rattle.formula.specs.Claim.{Form, formNumber, fewest, Claim, Derivation}
 use Rattle.encoding.specs.Encode.{Counts}
 use Rattle.encoding.specs.File.{Reading, ending}
 use Rattle.encoding.specs.Outcome.{verdictOf}
@@ -17,7 +17,7 @@ use Rattle.encoding.specs.Opening.{opens}
 use Rattle.proof_files.specs.ProofFile.{proofOpening}
 use Rattle.proof_files.specs.ReadProof.{early, readProof}
 use Rattle.proof_files.specs.ProofParts.{kindClaim, rootsOf, nodesOf}
-use Rattle.proofs.specs.NamedForm.{namedForm, for-named}
+use Rattle.formula.specs.NamedForm.{namedForm, for-named}
 use Rattle.proofs.specs.ProofSteps.{Finds}
 use Rattle.proofs.specs.ProofWhole.{not-opened, no-count, count-unfit, roots-stop, nodes-decide}
 use Rattle.proofs.specs.declared.Step.{Step}
@@ -49,26 +49,25 @@ begun : (c : tie.Else1) → opens (proofOpening (namedForm (c .before .before .b
 begun c = sym (c .before .opens-proof .ensures) ∙ not-false _ (c .if1 .left)
 
 -- a node count out of range
-miscounted : (c : tie.After-word-at) → (Counts 1024 (c .word-at .result) → ⊥)
-    → (f : Form) → c .before .before .before .before .before .args .form ≡ formNumber f
-    → refused 32 4 ≡ verdictOf (readProof (claim (c .before .before .before .before .before) f) (file (c .before .before .before .before .before)))
+miscounted : (c : tie.After-fewest) → (Counts (c .fewest .result) 1024 (c .before .word-at .result) → ⊥)
+    → (f : Form) → c .before .before .before .before .before .before .args .form ≡ formNumber f → refused 32 4 ≡ verdictOf (readProof (claim (c .before .before .before .before .before .before) f) (file (c .before .before .before .before .before .before)))
 miscounted c n =
-    let entry = c .before .before .before .before .before in
-    read entry (count-unfit (named entry) (file entry) (begun (c .before .before)) (omega arith) (λ k. n (subst (Counts 1024) (sym (c .word-at .ensures)) k)))
+    let entry = c .before .before .before .before .before .before in
+    read entry (count-unfit (named entry) (file entry) (begun (c .before .before .before)) (omega arith) (λ k. n (rw (c .fewest .ensures, c .before .word-at .ensures) k)))
 
 -- a node count in range, and what was found after it
 module _ (c : tie.After-roots-step) where
   abbrev entry : tie.Start
-  entry = c .before .before .before .before .before .before .before .before
+  entry = c .before .before .before .before .before .before .before .before .before
 
   opened : opens (proofOpening (namedForm (entry .args .form))) (file entry) ≡ true
-  opened = begun (c .before .before .before .before .before)
+  opened = begun (c .before .before .before .before .before .before)
 
   long : 6 ≤ length (file entry)
   long = omega arith
 
-  counts : Counts 1024 (wordAt (file entry) 4)
-  counts = subst (Counts 1024) (c .before .before .before .word-at .ensures) (omega arith)
+  counts : Counts (fewest (namedForm (entry .args .form))) 1024 (wordAt (file entry) 4)
+  counts = let k : Counts (c .before .before .before .fewest .result) 1024 (c .before .before .before .before .word-at .result) = omega arith in rw (c .before .before .before .fewest .ensures, c .before .before .before .before .word-at .ensures) at k
 
   -- in roots for g goals among n nodes
   abbrev In : ℕ → ℕ → Step → Type 0
@@ -78,8 +77,8 @@ module _ (c : tie.After-roots-step) where
   found : (r : Step) → c .roots-step .result ≡ r → In (length (named entry .goals)) (wordAt (file entry) 4) r
   found r e =
       subst (λ (g : ℕ). In g (wordAt (file entry) 4) r) (sym (length-replicate {A = List ℕ} (entry .args .goals) []))
-      (subst (λ (n : ℕ). In (entry .args .goals) n r) (c .before .before .before .word-at .ensures)
-      (subst (λ (r : Step). In (entry .args .goals) (c .before .before .before .word-at .result) r) e (c .roots-step .ensures)))
+      (subst (λ (n : ℕ). In (entry .args .goals) n r) (c .before .before .before .before .word-at .ensures)
+      (subst (λ (r : Step). In (entry .args .goals) (c .before .before .before .before .word-at .result) r) e (c .roots-step .ensures)))
 
 opens-proof-requires : tie.Need-opens-proof-requires
 opens-proof-requires c κs = search needs
@@ -95,6 +94,9 @@ returns-2 c = read (c .before .before .before .before) (no-count _ _ (begun (c .
 
 word-at-requires : tie.Need-word-at-requires
 word-at-requires c κs = search needs
+
+fewest-requires : tie.Need-fewest-requires
+fewest-requires c κs = search needs
 
 returns-3 : tie.Need-returns-3
 returns-3 c = miscounted (c .before) (λ k. omega (arith, k))
@@ -133,7 +135,7 @@ returns-6 c =
     let (rs, f) = found rooted (Next (c .before .before .at .given .0 .0)) (c .before .before .at .given .1) in
     let judged =
     subst (λ (n : ℕ). shown (c .judge-nodes .result) ≡ verdictOf (ending early (nodesOf (named (entry rooted) .entries) n (file (entry rooted)) (c .before .before .at .given .0 .0))))
-    (rooted .before .before .before .word-at .ensures) (c .judge-nodes .ensures) in
+    (rooted .before .before .before .before .word-at .ensures) (c .judge-nodes .ensures) in
     verdict (entry rooted) (sym (judged ∙ nodes-decide _ _ (opened rooted) (long rooted) (counts rooted) _ (f .found)))
 
 pub judge-proof-spec : {M : Type 1} → statement M
@@ -145,6 +147,7 @@ judge-proof-spec =
     cast-t14
     returns-2
     word-at-requires
+    fewest-requires
     returns-3
     returns-4
     cast-roots-step

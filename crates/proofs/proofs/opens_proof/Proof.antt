@@ -1,6 +1,6 @@
 -- The number of CLM2 asks for the letters PRF2, and any other for PRF1.
 use borrow.Author.Needs.{needs}
-use Rattle.proofs.specs.NamedForm.{names-several, names-one}
+use Rattle.formula.specs.NamedForm.{names-several, names-one}
 use Rattle.proofs.proofs.opens_proof.Statement.{statement}
 use Rattle.proofs.proofs.opens_proof.Tie as tie
 

@@ -2,7 +2,7 @@
 use borrow.Author.Needs.{needs}
 use native.Mathlib.Omega.{arith}
 use mathlib.Core.Path.{refl}
-use Rattle.proofs.specs.NamedForm.{names-several, names-one}
+use Rattle.formula.specs.NamedForm.{names-several, names-one}
 use Rattle.proofs.specs.ProofLaws.{roots-known, roots-written}
 use Rattle.proofs.specs.ProofSteps.{finds-as}
 use Rattle.proofs.proofs.roots_step.Statement.{statement}

@@ -30,13 +30,13 @@ module _ (c : tie.Start) where
   here = c .args .at
 
   -- a count out of range
-  unfit : here < length file → (Counts 24 (getD file here 0) → ⊥) → sequent table (drop here file) here ≡ fault 32 here
-  unfit h n = sequent-unfit table file here h (fails-holds (range-tells 24 (getD file here 0)) n)
+  unfit : here < length file → (Counts 1 24 (getD file here 0) → ⊥) → sequent table (drop here file) here ≡ fault 32 here
+  unfit h n = sequent-unfit table file here h (fails-holds (range-tells 1 24 (getD file here 0)) n)
 
   -- a count in range: the codes decide
-  fit : here < length file → Counts 24 (getD file here 0) → (r : Step) → Finds file (here + 1 + 48) (codesOf table (getD file here 0) file (here + 1)) r
+  fit : here < length file → Counts 1 24 (getD file here 0) → (r : Step) → Finds file (here + 1 + 48) (codesOf table (getD file here 0) file (here + 1)) r
       → Finds file (here + 49) (sequent table (drop here file) here) r
-  fit h n r = finds-as file r (sequent-codes table file here h (range-tells 24 (getD file here 0) .holds n)) (omega arith)
+  fit h n r = finds-as file r (sequent-codes table file here h (range-tells 1 24 (getD file here 0) .holds n)) (omega arith)
 
 cast-t11 : tie.Need-cast-t11
 cast-t11 c = search needs

@@ -22,26 +22,18 @@ stop-requires c κs = search needs
 returns : tie.Need-returns
 returns c =
     let s = c .before .before .before .before in
-    finds-stop (c .stop .result) (goals-out _ (sizes s) (members s) _ (λ k. omega (arith, k .0))) (c .stop .ensures)
+    finds-stop (c .stop .result) (goals-out _ (sizes s) (members s) _ (omega arith)) (c .stop .ensures)
+
+total-requires : tie.Need-total-requires
+total-requires c κs = search needs
 
 stop-requires-2 : tie.Need-stop-requires-2
 stop-requires-2 c κs = search needs
 
 returns-2 : tie.Need-returns-2
 returns-2 c =
-    let s = c .before .before .before .before .before in
-    finds-stop (c .stop2 .result) (goals-out _ (sizes s) (members s) _ (λ k. omega (arith, k .1))) (c .stop2 .ensures)
-
-total-requires : tie.Need-total-requires
-total-requires c κs = search needs
-
-stop-requires-3 : tie.Need-stop-requires-3
-stop-requires-3 c κs = search needs
-
-returns-3 : tie.Need-returns-3
-returns-3 c =
-    let s = c .before .before .before .before .before .before .before in
-    finds-stop (c .stop3 .result) (goals-unfit _ (sizes s) (members s) _ (omega arith, omega arith) (λ k. c .before .if3 .taken (c .before .before .total .ensures ∙ k))) (c .stop3 .ensures)
+    let s = c .before .before .before .before .before .before in
+    finds-stop (c .stop2 .result) (goals-unfit _ (sizes s) (members s) _ (omega arith) (λ k. c .before .if2 .taken (c .before .before .total .ensures ∙ k))) (c .stop2 .ensures)
 
 add-judge-lists : tie.Need-add-judge-lists
 add-judge-lists c = search needs
@@ -49,10 +41,10 @@ add-judge-lists c = search needs
 judge-lists-requires : tie.Need-judge-lists-requires
 judge-lists-requires c κs = (omega arith, omega arith, omega (arith, c .before .total .ensures), omega arith)
 
-returns-4 : tie.Need-returns-4
-returns-4 c =
-    let s = c .before .before .before .before .before .before .before in
-    finds-as (goals-fit _ (sizes s) (members s) _ (omega arith, omega arith) (sym (c .before .before .total .ensures) ∙ c .before .if3 .left)) (omega arith) (c .judge-lists .ensures)
+returns-3 : tie.Need-returns-3
+returns-3 c =
+    let s = c .before .before .before .before .before .before in
+    finds-as (goals-fit _ (sizes s) (members s) _ (omega arith) (sym (c .before .before .total .ensures) ∙ c .before .if2 .left)) (omega arith) (c .judge-lists .ensures)
 
 pub judge-goals-spec : {M : Type 1} → statement M
 judge-goals-spec =
@@ -60,11 +52,9 @@ judge-goals-spec =
     (tie.spec
     stop-requires
     returns
+    total-requires
     stop-requires-2
     returns-2
-    total-requires
-    stop-requires-3
-    returns-3
     add-judge-lists
     judge-lists-requires
-    returns-4)
+    returns-3)

@@ -8,7 +8,7 @@ use Rattle.formula.specs.Claim.{Form, formNumber}
 use Rattle.formula.specs.Nodes.{Proof}
 use Rattle.formula.specs.Records.{NodeRecord}
 use Rattle.proof_files.specs.ProofParts.{kindTable}
-use Rattle.proofs.specs.NamedForm.{namedForm, for-named}
+use Rattle.formula.specs.NamedForm.{namedForm, for-named}
 use Rattle.tree.specs.Owners.{tree-judged}
 use Rattle.writing.specs.Goals.{rootsOf}
 use Rattle.writing.specs.Ends.{End}
@@ -79,8 +79,8 @@ judge-tree-requires : tie.Need-judge-tree-requires
 judge-tree-requires c κs =
     let s = c .before .before .before .before .before .before .before .before .before in
     let f = found (c .before) (namedForm (s .args .form)) (c .before .before .before .judge-proof-bytes .ensures) in
-    let columns = s .pre .1 (f .nodes .1) in
-    (f .nodes .0, f .nodes .1, columns .rules, columns .links, s .pre .0 .1, f .roots)
+    let columns = s .pre .1 (f .nodes) in
+    (f .nodes, columns .rules, columns .links, s .pre .0 .1, f .roots)
 
 enum-known-number-2 : tie.Need-enum-known-number-2
 enum-known-number-2 c = search needs

@@ -5,7 +5,7 @@ use Prim.Native.Nat.{ℕ}
 use borrow.Author.Tests.{eq-eqb, ne-eqb}
 use lib.ListN.{length}
 use Rattle.formula.specs.Claim.{Form}
-use Rattle.proofs.specs.NamedForm.{namedForm, names-several, names-one}
+use Rattle.formula.specs.NamedForm.{namedForm, names-several, names-one}
 use Rattle.vetting.specs.StepLaws.{finds-stop, finds-next, finds-as}
 use Rattle.vetting.specs.RootLaws.{roots-unfit, roots-fit, roots-none}
 use borrow.Author.Needs.{needs}

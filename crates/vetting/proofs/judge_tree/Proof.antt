@@ -24,8 +24,8 @@ fill-owners-requires : tie.Need-fill-owners-requires
 fill-owners-requires c κs =
     let s = c .before .before .before .before .before .before .before in
     let p = s .pre in (
-      record { few = p .1; room = (p .2, p .3, omega (arith, length-replicate {A = ℕ} 1024 0)) },
-      rw (copied (c .before .before)) (roots-placed (s .args .roots .now) (s .args .nodes) (p .5) (s .args .goals) (p .4) (p .0)),
+      record { few = p .0; room = (p .1, p .2, omega (arith, length-replicate {A = ℕ} 1024 0)) },
+      rw (copied (c .before .before)) (roots-placed (s .args .roots .now) (s .args .goals) (s .args .nodes) (p .4) (p .3)),
       λ w h. getD-replicate {A = ℕ} 1024 w 0 0 (omega arith),
     )
 

@@ -11,7 +11,7 @@ use Rattle.formula.specs.Records.{NodeRecord}
 use Rattle.claim_files.specs.ClaimFile.{GoalCount}
 use Rattle.proof_files.specs.ProofFile.{encodeProof}
 use Rattle.proof_files.specs.ProofParts.{kindTable}
-use Rattle.proofs.specs.NamedForm.{namedForm, for-named}
+use Rattle.formula.specs.NamedForm.{namedForm, for-named}
 use Rattle.writing.specs.Goals.{rootsOf}
 use Rattle.writing.specs.Ends.{End, next}
 use Rattle.writing.specs.ProofEnds.{nodesOver}

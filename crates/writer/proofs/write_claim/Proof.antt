@@ -8,7 +8,7 @@ use Rattle.formula.specs.Table.{Table}
 use Rattle.formula.specs.Claim.{Form, formNumber}
 use Rattle.formula.specs.Plain.{tableOf, tableOf-length}
 use Rattle.claim_files.specs.ClaimFile.{encodeClaim}
-use Rattle.proofs.specs.NamedForm.{namedForm}
+use Rattle.formula.specs.NamedForm.{namedForm}
 use Rattle.writing.specs.RecordBytes.{split}
 use Rattle.writing.specs.Spelling.{spelledClaim}
 use Rattle.writing.specs.Ends.{End, next}

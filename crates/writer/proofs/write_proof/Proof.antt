@@ -13,7 +13,7 @@ use Rattle.formula.specs.Records.{NodeRecord}
 use Rattle.formula.specs.Plain.{tableOf, tableOf-length}
 use Rattle.encoding.specs.File.{refused}
 use Rattle.proof_files.specs.ProofParts.{kindTable}
-use Rattle.proofs.specs.NamedForm.{namedForm}
+use Rattle.formula.specs.NamedForm.{namedForm}
 use Rattle.writing.specs.Ends.{End, next, stop}
 use Rattle.writing.specs.Encoded.{claimJudged, claim-passes}
 use Rattle.writing.specs.Held.{recordsOf, ProofWritten}

@@ -34,8 +34,8 @@ module _ (c : tie.Start) where
   answers : {x : Reading (List State)} → readForm form file ≡ x → verdictOf x ≡ verdictOf (readForm form file)
   answers e = ap verdictOf (sym e)
 
-counts : (c : tie.Else2) → Counts 64 (getD (file (c .before .before .before .before .before)) 4 0)
-counts c = range-tells 64 _ .says (sym (c .before .count-fits .ensures) ∙ not-false _ (c .if2 .left))
+counts : (c : tie.Else2) → Counts 1 64 (getD (file (c .before .before .before .before .before)) 4 0)
+counts c = range-tells 1 64 _ .says (sym (c .before .count-fits .ensures) ∙ not-false _ (c .if2 .left))
 
 -- the state count is good, and the states are walked
 module _ (c : tie.After-states-step) where
@@ -45,7 +45,7 @@ module _ (c : tie.After-states-step) where
   inside : 4 < length (file entry)
   inside = omega arith
 
-  fits : Counts 64 (getD (file entry) 4 0)
+  fits : Counts 1 64 (getD (file entry) 4 0)
   fits = counts (c .before)
 
   told : (r : Step) → c .states-step .result ≡ r → Finds (file entry) 67013 (statesFrom (form entry) (getD (file entry) 4 0) (file entry)) r
