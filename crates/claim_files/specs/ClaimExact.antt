@@ -9,6 +9,7 @@ use Rattle.verdict.specs.Tells.{Tells, tells-as, and-tells, or-tells, leb-tells
 use Rattle.formula.specs.Kind
 use Rattle.formula.specs.Spelled.{Spelled, aStands, bStands, recordsOf, by-length, recordOf}
 use Rattle.formula.specs.Claim.{Form, clm1, clm2, fewest, SpelledClaim}
+use Rattle.formula.specs.NamedForm.{formBy}
 use Rattle.bits.specs.IfSet.{if-set-le}
 use Rattle.formula.specs.Fields.{hasA, hasB, isModal, mapOf}
 use Rattle.encoding.specs.Encode.{FitField, Bytes, PairOfBytes, encodePair}
@@ -24,7 +25,7 @@ use Rattle.formula.specs.Members.{formula-tells}
 use Rattle.encoding.specs.FieldLaws.{field-exact}
 use Rattle.claim_files.specs.ClaimFile.{claimOpening, encodeFields, encodeEntry, encodeEntries, encodeMembers, encodeGoalCount, encodeGoals, encodeBody, encodeClaim}
 use Rattle.claim_files.specs.ClaimFile.{FitMap, FitKind, FitEntry, FitEntries, FitMembers, GoalCount, FitGoals, FitClaim, FitIn, FormFile, ClaimFile}
-use Rattle.claim_files.specs.ReadClaim.{early, kind-fits, mapAndKind, fields, made, entry, entries, members, goalCount, goals, claimOf, body, readForm, formBy, formOf, readClaim}
+use Rattle.claim_files.specs.ReadClaim.{early, kind-fits, mapAndKind, fields, made, entry, entries, members, goalCount, goals, claimOf, body, readForm, formOf, readClaim}
 
 pub map-byte : (k : ℕ) → mapOf k < 256
 map-byte k = omega (arith, if-set-le (hasA k) 1, if-set-le (hasB k) 2)

@@ -6,6 +6,7 @@ use mathlib.Core.Bool.{Bool, true, false}
 use Prim.Native.Nat.{ℕ}
 use Rattle.verdict.specs.Tells.{fails, fails-holds}
 use Rattle.formula.specs.Claim.{Form, clm1, clm2, SpelledClaim}
+use Rattle.formula.specs.NamedForm.{formBy}
 use Rattle.encoding.specs.Encode.{Bytes}
 use Rattle.encoding.specs.File.{Reading, refused, good}
 use Rattle.encoding.specs.FileLaws as File
@@ -13,7 +14,7 @@ use Rattle.encoding.specs.FileLaws.{Opens}
 use Rattle.encoding.specs.Walk.{file-closed}
 use Rattle.encoding.specs.Opening.{opens, opens-tells}
 use Rattle.claim_files.specs.ClaimFile.{claimOpening, ClaimFile}
-use Rattle.claim_files.specs.ReadClaim.{early, body, readForm, formBy, formOf, readClaim}
+use Rattle.claim_files.specs.ReadClaim.{early, body, readForm, formOf, readClaim}
 use Rattle.claim_files.specs.ClaimExact.{body-exact, form-opens, read-in, claim-good, good-claim}
 use Rattle.claim_files.specs.ClaimParts.{body-refuses}
 use Rattle.claim_files.specs.ClaimDocument.{FormEarns, ClaimEarns, no-opening, by-form}

@@ -7,14 +7,14 @@ use native.Mathlib.Omega.{arith}
 use lib.ListN.{length}
 use Rattle.verdict.specs.EachLaws.{each-at, each-member}
 use Rattle.formula.specs.Spelled.{unspelled, spelled, recordsOf}
-use Rattle.formula.specs.Claim.{Form, clm1, clm2, SpelledClaim}
+use Rattle.formula.specs.Claim.{Form, clm1, clm2, fewest, SpelledClaim}
 use Rattle.formula.specs.Codes.{Formula}
 use Rattle.encoding.specs.Encode.{Counts}
 use Rattle.claim_files.specs.ClaimFile.{FitEntry, GoalCount, ClaimFile}
 
 module _ {bytes : List ℕ} {c : SpelledClaim} (f : ClaimFile bytes c) where
-  pub entry-count : length (c .spelling) ≤ 256
-  entry-count = f .fits .entries .count .1
+  pub entry-count : Counts (fewest (c .form)) 256 (length (c .spelling))
+  entry-count = f .fits .entries .count
 
   pub goal-count : length (c .goals) ≤ 16
   goal-count = go (c .form) (f .fits .goals .count)

@@ -1,11 +1,12 @@
 -- the claim by bytes: the first fault in the order of the bytes (10 to 14 and 72), or the decoding
 use mathlib.Core.List.{List}
-use mathlib.Core.Bool.{Bool, true, false, _&&_, _||_}
+use mathlib.Core.Bool.{Bool, _&&_, _||_}
 use Prim.Native.Nat.{ℕ}
 use lib.Dec.{eqb, leb}
 use Rattle.formula.specs.Kind
 use Rattle.formula.specs.Spelled.{Spelled, aStands, bStands, recordsOf}
 use Rattle.formula.specs.Claim.{Form, clm1, clm2, fewest, SpelledClaim}
+use Rattle.formula.specs.NamedForm.{formBy}
 use Rattle.formula.specs.Fields.{isModal, mapOf}
 use Rattle.encoding.specs.Parse.{Parser, seq, guard, via, bytes, two, field, count, times, listed, rising}
 use Rattle.encoding.specs.File.{Reading, readFile}
@@ -64,10 +65,6 @@ body f s at = via (claimOf f) (seq (entries f) (goals f)) s at
 unfoldable pub readForm : Form → List ℕ → Reading SpelledClaim
 unfolding readFile body
 readForm f s = readFile (claimOpening f) 10 early (body f) s
-
-abbrev pub formBy : Bool → Form
-formBy true = clm2
-formBy false = clm1
 
 -- by its first letters; where neither opening stands in front, the reading of CLM1 says so
 abbrev pub formOf : List ℕ → Form

@@ -9,6 +9,7 @@ use lib.Seq.{sets}
 use Rattle.verdict.specs.Lists.{written}
 use Rattle.verdict.specs.WrittenLaws.{written-length, written-more, written-on}
 use Rattle.formula.specs.Claim.{Form, clm1, clm2}
+use Rattle.formula.specs.NamedForm.{formBy}
 use Rattle.formula.specs.Columns.{kindColumn}
 use Rattle.formula.specs.Spelled.{Spelled, markedOf}
 use Rattle.encoding.specs.Parse.{Got, fault, Parser, times, listed}
@@ -18,7 +19,7 @@ use Rattle.encoding.specs.Walk.{Reached, Walking, walk-begins, walk-steps, walk
 use Rattle.file_parts.specs.Numbers.{countAt, count-inside}
 use Rattle.file_parts.specs.Parts.{ListRead, PartTells, part-as}
 use Rattle.file_parts.specs.declared.Part.{Part}
-use Rattle.claim_files.specs.ReadClaim.{early, goalCount, goals, formBy}
+use Rattle.claim_files.specs.ReadClaim.{early, goalCount, goals}
 use Rattle.claim_members.specs.ClaimMembers.{membersBy, membersAt, MembersStored, members-same}
 use Rattle.claim_members.specs.GoalColumns.{joined, endsFrom, startsOf, joined-more, ends-more, ends-length, GoalsStored, columns-stored}
 

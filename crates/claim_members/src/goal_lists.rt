@@ -5,7 +5,7 @@ ghost use lib.ListN.{length};
 ghost use Rattle.encoding.specs.Places.{InFile};
 ghost use Rattle.file_parts.specs.Numbers.{NumberTells};
 ghost use Rattle.file_parts.specs.Parts.{PartTells};
-ghost use Rattle.claim_files.specs.ReadClaim.{formBy};
+ghost use Rattle.formula.specs.NamedForm.{formBy};
 ghost use Rattle.claim_members.specs.GoalColumns.{GoalsStored};
 ghost use Rattle.claim_members.specs.ClaimGoals.{goalCountAt, goalsFrom, goalsAt};
 use super::read_members;

@@ -4,7 +4,6 @@ use mathlib.Core.List.{List}
 use mathlib.Core.Bool.{Bool, true, false}
 use Prim.Native.Nat.{ℕ, _<_, _≤_}
 use native.Mathlib.Omega.{arith}
-use lib.Dec.{eqb}
 use lib.ListN.{length, drop, length-append}
 use Rattle.verdict.specs.Lists.{written}
 use Rattle.verdict.specs.Tests.{choose}
@@ -20,7 +19,7 @@ use Rattle.encoding.specs.File.{Reading, refused, good, ending}
 use Rattle.encoding.specs.Outcome.{RefusedWith}
 use Rattle.encoding.specs.Opening.{opens, opens-tells, begins-tells}
 use Rattle.claim_files.specs.ClaimFile.{claimOpening}
-use Rattle.claim_files.specs.ReadClaim.{early, goals, claimOf, body, readForm, formBy, formOf, readClaim}
+use Rattle.claim_files.specs.ReadClaim.{early, goals, claimOf, body, readForm, formOf, readClaim}
 use Rattle.claim_files.specs.ClaimExact.{form-opens}
 use Rattle.claim_files.specs.ClaimFaults as files
 use Rattle.encoding.specs.Walk.{file-opens, bytes-follow, none-follow}
@@ -134,11 +133,6 @@ module _ (s : List ℕ) {n : ℕ} (test : n ≡ openingForm s) where
       go false true i j k = by clm2 j k
       go false false i j k = absurd (h k)
 
--- which the number tells
-pub form-by-number : (f : Form) → formBy (eqb (formNumber f) 2) ≡ f
-form-by-number clm1 = refl
-form-by-number clm2 = refl
-
 opening-length : (f : Form) → length (claimOpening f) ≡ 4
 opening-length clm1 = refl
 opening-length clm2 = refl
@@ -148,6 +142,9 @@ module _ (s : List ℕ) {f : ℕ} (o : Opened s f) where
   claim-long = omega (arith, begins-tells (claimOpening (formOf s)) s .says (o .letters) .long, opening-length (formOf s))
 
 module _ (s : List ℕ) {f : ℕ} (o : Opened s f) {least : ℕ} (as-form : least ≡ fewest (namedForm f)) where
+  same-form : namedForm f ≡ formOf s
+  same-form = names (formOf s) (sym (o .number))
+
   -- the goals are read in sight of the entries
   abbrev after-entries : Got (List Spelled) → Reading SpelledClaim
   after-entries g = ending early (bind (bind g (λ es r z. bind (goals (formOf s) es r z) (λ gs t w. got (es, gs) t w))) (λ c t w. got (claimOf (formOf s) c) t w))
@@ -161,23 +158,23 @@ module _ (s : List ℕ) {f : ℕ} (o : Opened s f) {least : ℕ} (as-form : leas
       file-opens (claimOpening (formOf s)) 10 early (body (formOf s)) s (o .letters)
       ∙ ap (λ (n : ℕ). ending early (body (formOf s) (drop n s) n)) (opening-length (formOf s))
       ∙ ap after-entries (form-entries (formOf s) s 4)
-      ∙ ap (λ (k : ℕ). after-entries (entriesAt k s 4)) (sym (as-form ∙ ap fewest (names (formOf s) (sym (o .number)))))
+      ∙ ap (λ (k : ℕ). after-entries (entriesAt k s 4)) (sym (as-form ∙ ap fewest same-form))
 
   pub claim-no-entries : {n q : ℕ} → entriesAt least s 4 ≡ fault n q → readClaim s ≡ refused n q
   claim-no-entries e = claim-entries ∙ ap after-entries e
 
   module _ {ks₀ ks xs₀ xs ys₀ ys : List ℕ} {n z : ℕ} (x : ListRead s 1542 256 (entriesAt least s 4) (λ es. EntriesStored ks₀ ks xs₀ xs ys₀ ys (markedOf es)) n z) where
-    claim-goals : readClaim s ≡ after-goals (x .list) (goalsAt (formBy (eqb f 2)) ks n s z)
+    claim-goals : readClaim s ≡ after-goals (x .list) (goalsAt (namedForm f) ks n s z)
     claim-goals =
         claim-entries ∙ ap after-entries (x .reached .found) ∙ ap (after-goals (x .list)) (goals-same (formOf s) (x .list) ks₀ s z)
         ∙ ap (λ (k : ℕ). after-goals (x .list) (goalsAt (formOf s) (written (kindColumn (markedOf (x .list))) ks₀) k s z)) (x .many)
         ∙ ap (λ (u : List ℕ). after-goals (x .list) (goalsAt (formOf s) u n s z)) (sym (x .stored .kinds))
-        ∙ ap (λ (g : Form). after-goals (x .list) (goalsAt g ks n s z)) (sym (form-by-number (formOf s)) ∙ ap (λ (m : ℕ). formBy (eqb m 2)) (o .number))
+        ∙ ap (λ (g : Form). after-goals (x .list) (goalsAt g ks n s z)) (sym same-form)
 
-    pub claim-no-goals : {k q : ℕ} → goalsAt (formBy (eqb f 2)) ks n s z ≡ fault k q → readClaim s ≡ refused k q
+    pub claim-no-goals : {k q : ℕ} → goalsAt (namedForm f) ks n s z ≡ fault k q → readClaim s ≡ refused k q
     claim-no-goals e = claim-goals ∙ ap (after-goals (x .list)) e
 
-    module _ {gs ms : List ℕ} {k w : ℕ} (y : ListRead s 2344 16 (goalsAt (formBy (eqb f 2)) ks n s z) (GoalsStored gs ms) k w) where
+    module _ {gs ms : List ℕ} {k w : ℕ} (y : ListRead s 2344 16 (goalsAt (namedForm f) ks n s z) (GoalsStored gs ms) k w) where
       pub claim-follows : w < length s → readClaim s ≡ refused early w
       claim-follows h = claim-goals ∙ ap (after-goals (x .list)) (y .reached .found) ∙ bytes-follow early s (claimOf (formOf s) (x .list, y .list)) w h
 

@@ -25,7 +25,8 @@ use Rattle.calculus.specs.TreeLaws.{children-fit-tells, adopted-tells, tree-chi
 use Rattle.tree.specs.Owners.{tree-judged, orphans-judged}
 use Rattle.writing.specs.RecordBytes.{claimHead, proofHead}
 use Rattle.writing.specs.Goals.{goalsFit, rootsFit}
-use Rattle.writing.specs.Writing.{ClaimRecords, ProofRecords, claimFile, proofFile, shortClaim, shortProof, ifForm, ifRoom, goalPlace, stopped, claimReading, proofReading, bothReading, writingClaim, writingProof, laidInto}
+use Rattle.writing.specs.Writing.{ClaimRecords, ProofRecords, claimFile, proofFile, shortClaim, shortProof, ifForm, ifRoom, goalPlace, stopped}
+use Rattle.writing.specs.Writing.{claimReading, proofReading, bothReading, writingClaim, writingProof, laidInto}
 use Rattle.writing.specs.ClaimEnds.{longestClaim}
 use Rattle.writing.specs.ProofEnds.{longestProof}
 use Rattle.writing.specs.ClaimTrips.{claimOf, form-named, claim-laid, ClaimGiven, claim-writes-again}

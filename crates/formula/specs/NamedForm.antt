@@ -1,4 +1,4 @@
--- the form that a number names, as the code asks for it: CLM2 by its own number, and else CLM1
+-- the form that a test tells, and the form that a number names, as the code asks for it: CLM2 by its own number, and else CLM1
 use mathlib.Core.Path.{_≡_, refl, subst, ap}
 use mathlib.Core.Bool.{Bool, true, false}
 use Prim.Native.Nat.{ℕ}
@@ -6,7 +6,7 @@ use borrow.Author.Tests.{eq-eqb, ne-eqb}
 use lib.Dec.{eqb}
 use Rattle.formula.specs.Claim.{Form, clm1, clm2, formNumber}
 
-abbrev formBy : Bool → Form
+abbrev pub formBy : Bool → Form
 formBy true = clm2
 formBy false = clm1
 

@@ -10,6 +10,7 @@ use Rattle.formula.specs.Rule
 use Rattle.formula.specs.Codes.{Formula, entryOf}
 use Rattle.formula.specs.Nodes.{node}
 use Rattle.formula.specs.Claim.{Form, clm1, clm2, fewest, Claim, Derivation}
+use Rattle.encoding.specs.Encode.{Counts}
 use Rattle.proof_files.specs.ProofFile.{FitNode, Rooted, FitRoots, FitProof, ProofFile}
 
 -- the root of PRF1 is that of one goal
@@ -22,8 +23,8 @@ pub rooted : {c : Claim} {d : Derivation} → (c .form ≡ clm1 → length (c .g
 rooted {c} one f = one-root (c .form) one (f .nodes .count .0) (f .roots)
 
 module _ {c : Claim} {bytes : List ℕ} {d : Derivation} (f : ProofFile c bytes d) where
-  pub node-count : length (d .nodes) ≤ 1024
-  node-count = f .fits .nodes .count .1
+  pub node-count : Counts (fewest (c .form)) 1024 (length (d .nodes))
+  node-count = f .fits .nodes .count
 
   -- past the last node the record is blank, and fits too
   pub node-fits : (v : ℕ) → FitNode (c .entries) (node (d .nodes) v)

@@ -51,9 +51,12 @@ abbrev pub BesideTells : ClaimRead → List ℕ → List ℕ → List ℕ → Fi
 BesideTells formed proof ks os r =
     (claim xs ys gs ms : List ℕ) → ClaimTells (readFormed claim) ks xs ys gs ms formed → FilesTell (files claim proof) ks xs ys gs ms os r
 
--- the same by value. A refusal, and no place of nodes
+-- the same by value. A refusal, and nothing else: no place of nodes
 pub record Unread (n q : ℕ) (f : Found) : Type 0 where
   pub verdict : shown (f .verdict) ≡ verdicts.refused n q
+  pub entries : f .entries ≡ 0
+  pub goals : f .goals ≡ 0
+  pub nodes : f .nodes ≡ 0
   pub place : f .at ≡ 0
 
 abbrev pub Tells : Reading (Files Derivation) → List ℕ → List ℕ → List ℕ → List ℕ → List ℕ → List ℕ → Found → Type 0

@@ -12,6 +12,7 @@ use Rattle.verdict.specs.Tells.{ltb-tells}
 use Rattle.formula.specs.Table.{Table}
 use Rattle.formula.specs.Claim.{Form, clm1, clm2, fewest}
 use Rattle.formula.specs.Records.{NodeRecord}
+use Rattle.encoding.specs.Encode.{Counts}
 use Rattle.encoding.specs.Parse.{in-range}
 use Rattle.encoding.specs.ListLaws.{range-tells}
 use Rattle.claim_files.specs.ClaimFile.{GoalCount}
@@ -51,7 +52,7 @@ goals-inside clm2 k n os some fit given i h = given i (omega (arith, eqb-true (l
 
 -- what a walk over a proof to its end tells of its nodes and roots
 pub record ProofFound (f : Form) (k n : ℕ) (os : List ℕ) : Type 0 where
-  pub nodes : n ≤ 1024
+  pub nodes : Counts (fewest f) 1024 n
   pub fit : rootsFit f k os ≡ true
   pub roots : RootsFound os k n
 
@@ -63,13 +64,13 @@ proof-found f k t n os vs cs few h =
     let at = count .place in
     let rooted = went (rootsEnd f k n os at) (λ u. nodesEnd t vs cs u) (count .then) in
     let (fit, rise) = passed (rootsFit f k os) (risingEnd (isNode n) 34 os at) 34 at (rooted .first) in
-    let (low, high) = range-tells (fewest f) 1024 n .says some in
+    let counts = range-tells (fewest f) 1024 n .says some in
     record {
-      nodes = high;
+      nodes = counts;
       fit = fit;
       roots = record {
         few = few-roots f k os few fit;
-        inside = goals-inside f k n os low fit (λ i b. ltb-tells (getD os i 0) n .says (rising-passed (isNode n) 34 os 0 at rise i b));
+        inside = goals-inside f k n os (counts .0) fit (λ i b. ltb-tells (getD os i 0) n .says (rising-passed (isNode n) 34 os 0 at rise i b));
       };
     }
 

@@ -179,7 +179,7 @@ module _ (form : ℕ) (es : Table) (n : ℕ) (ks xs ys gs ms : List ℕ) (held :
         bytes-stop room e = rw (enough-all, form-named f (proved room) named, read-claim, read-proof e) refl
 
         few-nodes : {u : ℕ} → end ≡ next u → m ≤ 1024
-        few-nodes e = proof-passed f (length gs) (kindTable ks n) m os records cs (λ _. valuesFrom-length (plainRecord rs ls ns) 0 m) long-codes _ e .nodes
+        few-nodes e = proof-passed f (length gs) (kindTable ks n) m os records cs (λ _. valuesFrom-length (plainRecord rs ls ns) 0 m) long-codes _ e .nodes .1
 
         same-derived : {u : ℕ} → end ≡ next u → derivationOf f beside ≡ derived f
         same-derived e = ap (λ (l : List NodeRecord). record { roots = rootsOf f os; nodes = nodesOver l cs }) (same-nodes (few-nodes e))

@@ -8,8 +8,8 @@ use lib.ListN.{length, length-append}
 use Rattle.verdict.specs.Lists.{Each}
 use Rattle.formula.specs.Table.{Table}
 use Rattle.formula.specs.Spelled.{Spelled}
-use Rattle.formula.specs.Claim.{Form, clm1, clm2, SpelledClaim}
-use Rattle.encoding.specs.Encode.{encodeAll}
+use Rattle.formula.specs.Claim.{Form, clm1, clm2, fewest, SpelledClaim}
+use Rattle.encoding.specs.Encode.{encodeAll, Counts}
 use Rattle.encoding.specs.File.{Reading, ending}
 use Rattle.encoding.specs.Parse.{Got, got, pick, bind}
 use Rattle.claim_files.specs.ClaimFile.{claimOpening, encodeGoalCount, GoalCount}
@@ -77,7 +77,7 @@ longestClaim clm2 = 2344
 
 -- what a walk to the end tells: the counts are in range and fit, and it ends where the file does
 pub record ClaimPassed (f : Form) (n : ℕ) (es : Table) (gs ms : List ℕ) (o : ℕ) : Type 0 where
-  pub entries : n ≤ 256
+  pub entries : Counts (fewest f) 256 n
   pub goals : GoalCount f (length gs)
   pub fit : goalsFit f gs ms ≡ true
   pub few : Each (λ (k : ℕ). k ≤ 24) gs
@@ -92,7 +92,7 @@ pub claim-passed : (f : Form) (n : ℕ) (es : Table) (gs ms : List ℕ) (o : ℕ
 unfolding listsEnd walk
 claim-passed f n es gs ms o h =
     let table = went (tableEnd f n es 4) (λ o. goalsEnd f es gs ms o) h in
-    let (few, there) = table-past f n es (table .place) (table .first) in
+    let (some, there) = table-past f n es (table .place) (table .first) in
     let counted = went (goalCountEnd f (length gs) (table .place)) (λ o. pick (goalsFit f gs ms) (listsEnd es gs ms o) (stop 12 (table .place))) (table .then) in
     let (fit, listed) = passed (goalsFit f gs ms) (listsEnd es gs ms (counted .place)) 12 (table .place) (counted .then) in
     let (may, sum) = goals-fit f gs ms fit in
@@ -100,7 +100,7 @@ claim-passed f n es gs ms o h =
     let (many, on) = goal-count-past f (length gs) m (table .place) (counted .place) may (counted .first) in
     let (each, end, near) = lists-past es gs ms (counted .place) o (omega arith) listed in
     record {
-      entries = few;
+      entries = some;
       goals = many;
       fit = fit;
       few = each;

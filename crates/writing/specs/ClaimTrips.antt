@@ -117,7 +117,7 @@ module _ (f : Form) (c : ClaimRecords) (long : shortClaim c ≡ false) where
       go (next o) e x was table =
           let same : spelledClaim f es goals ≡ x = good-same (sym (ends e) ∙ was) in
           let p = claim-passed f (c .count) es (c .counts) (c .members) o e in
-          let many = long-enough c long (p .entries) in
+          let many = long-enough c long (p .entries .1) in
           let (_, sum) = goals-fit f (c .counts) (c .members) fit in
           let (_, is) = first-good (judgeTable plainly es) (good (claimOf f c)) (sym (formed-spelled f es goals) ∙ ap formed same ∙ table) in
           record {

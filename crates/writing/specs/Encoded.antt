@@ -60,7 +60,7 @@ claim-encoded f n es gs ms o long h =
     let p = claim-passed f n es gs ms o h in
     let table = went (tableEnd f n es 4) (λ o. goalsEnd f es gs ms o) h in
     let some = went (countEnd (fewest f) 256 12 n 4) (λ o. entriesEnd es o) (table .first) in
-    let i : n ≤ 65535 = omega (arith, p .entries) in
+    let i : n ≤ 65535 = omega (arith, p .entries .1) in
     let many : GoalCount f (length (split gs ms)) = rw (split-count gs ms) (p .goals) in
     rw (
       clipped-same n i,
@@ -103,10 +103,10 @@ module _ (f : Form) (k : ℕ) (t : Table) (n : ℕ) (os : List ℕ) (vs : List N
   proof-encoded : (o : ℕ) → proofEnd f k t n os vs cs ≡ next o → proofBytes f n os vs cs ≡ encodeProof f (record { roots = rootsOf f os; nodes = nodesOver vs cs })
   proof-encoded o h =
       let p = proof-passed f k t n os vs cs same codes o h in
-      let long : 24 * length vs ≤ length cs = omega (arith, same (p .nodes), p .nodes) in
-      let i : n ≤ 65535 = omega (arith, p .nodes) in
+      let long : 24 * length vs ≤ length cs = omega (arith, same (p .nodes .1), p .nodes .1) in
+      let i : n ≤ 65535 = omega (arith, p .nodes .1) in
       let (_, many, _) = over-records t vs cs (6 + 2 * length os) o long (p .walked) in
-      rw (clipped-same n i, many, same (p .nodes), nodes-encoded t vs cs (6 + 2 * length os) o long (p .walked), roots-encoded f os) refl
+      rw (clipped-same n i, many, same (p .nodes .1), nodes-encoded t vs cs (6 + 2 * length os) o long (p .walked), roots-encoded f os) refl
 
 -- a walk that a judge let pass
 pub judged-next : (e : End) (v : Verdict) {o : ℕ} → goOn e (judged v) ≡ next o → (e ≡ next o) × (v ≡ accepted)
@@ -128,7 +128,7 @@ claim-passes f n t gs ms {o} long h =
     let (walked, _) = judged-next (claimEnd f n t gs ms) (judgeTable plainly t) h in
     let p = claim-passed f n t gs ms o walked in
     let same = claim-encoded f n t gs ms o long walked in
-    record { entries = p .entries; goals = p .goals; fit = p .fit; few = p .few; encoded = same; end = p .end ∙ ap length same }
+    record { entries = p .entries .1; goals = p .goals; fit = p .fit; few = p .few; encoded = same; end = p .end ∙ ap length same }
 
 pub record ProofPasses (f : Form) (k : ℕ) (t : Table) (n : ℕ) (os : List ℕ) (vs : List NodeRecord) (cs : List ℕ) (o : ℕ) : Type 0 where
   pub walked : proofEnd f k t n os vs cs ≡ next o
@@ -148,9 +148,9 @@ proof-passes f k t n os vs cs {o} same codes h =
     record {
       walked = walked;
       tree = tree;
-      nodes = p .nodes;
+      nodes = p .nodes .1;
       fit = p .fit;
-      few = nodes-few t vs cs (6 + 2 * length os) o (omega (arith, same (p .nodes), p .nodes)) (p .walked);
+      few = nodes-few t vs cs (6 + 2 * length os) o (omega (arith, same (p .nodes .1), p .nodes .1)) (p .walked);
       encoded = bytes;
       end = p .end ∙ ap length bytes;
     }

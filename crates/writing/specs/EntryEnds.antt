@@ -166,13 +166,13 @@ module _ (es : Table) (rest : List ℕ) where
       go true t = ap (λ (m : ℕ). times (λ _. entry) (λ _ _. 0) m 0 (encodeAll entryBytes es ++ rest) (at + 2)) (sym (long (t .says refl .1))) ∙ entries-walked (at + 2)
 
 -- a table that passes ends after its bytes; one that does not is refused by 12 or 13
-pub table-past : (f : Form) (n : ℕ) (es : Table) (o : ℕ) → tableEnd f n es 4 ≡ next o → (n ≤ 256) × (o ≡ 4 + length (tableBytes n es))
+pub table-past : (f : Form) (n : ℕ) (es : Table) (o : ℕ) → tableEnd f n es 4 ≡ next o → Counts (fewest f) 256 n × (o ≡ 4 + length (tableBytes n es))
 unfolding walk
 table-past f n es o h =
     let some = went (countEnd (fewest f) 256 12 n 4) (λ o. entriesEnd es o) h in
     let (a, six) = passed (in-range (fewest f) 256 n) (next 6) 12 4 (some .first) in
     let end = walk-past (λ _. entry) (λ _ _. 0) entryBytes spelledAs entryEnd (λ _ _. 0) (λ c x. refl) entry-meets es 0 (some .place) o (some .then) in
-    (range-tells (fewest f) 256 n .says a .1, omega (arith, next-same six, end))
+    (range-tells (fewest f) 256 n .says a, omega (arith, next-same six, end))
 
 pub table-refused : (f : Form) (n : ℕ) (es : Table) {m q : ℕ} → tableEnd f n es 4 ≡ stop m q → (12 ≤ m) × (m ≤ 13)
 unfolding walk

@@ -204,7 +204,7 @@ module _ (c : Claim) (n : ℕ) where
 -- what a walk to the end tells: the counts are in range, the roots fit, and it ends where the file does
 module _ (f : Form) (k : ℕ) (t : Table) (n : ℕ) (os : List ℕ) (vs : List NodeRecord) (cs : List ℕ) (long : n ≤ 1024 → length vs ≡ n) (codes : 24576 ≤ length cs) where
   pub record ProofPassed (o : ℕ) : Type 0 where
-    pub nodes : n ≤ 1024
+    pub nodes : Counts (fewest f) 1024 n
     pub fit : rootsFit f k os ≡ true
     pub end : o ≡ length (proofBytes f n os vs cs)
     pub near : o ≤ longestProof f k
@@ -216,13 +216,13 @@ module _ (f : Form) (k : ℕ) (t : Table) (n : ℕ) (os : List ℕ) (vs : List N
   proof-passed o h =
       let w = went (countEnd (fewest f) 1024 32 n 4) (λ o. goOn (rootsEnd f k n os o) (λ u. nodesEnd t vs cs u)) h in
       let (i, six) = passed (in-range (fewest f) 1024 n) (next 6) 32 4 (w .first) in
-      let few = range-tells (fewest f) 1024 n .says i .1 in
-      let same = long few in
+      let few = range-tells (fewest f) 1024 n .says i in
+      let same = long (few .1) in
       let v = went (rootsEnd f k n os (w .place)) (λ u. nodesEnd t vs cs u) (w .then) in
       let (fit, rise) = passed (rootsFit f k os) (risingEnd (isNode n) 34 os (w .place)) 34 (w .place) (v .first) in
       let (wide, many) = roots-long f k os fit in
       let at : v .place ≡ 6 + 2 * length os = omega (arith, next-same six, rising-past early (isNode n) 34 os (w .place) (v .place) rise, numbers-long os) in
-      let (end, near) = nodes-past t vs cs (v .place) o (omega (arith, few)) (v .then) in
+      let (end, near) = nodes-past t vs cs (v .place) o (omega (arith, few .1)) (v .then) in
       record {
         nodes = few;
         fit = fit;
@@ -235,6 +235,6 @@ module _ (f : Form) (k : ℕ) (t : Table) (n : ℕ) (os : List ℕ) (vs : List N
           length-append (proofOpening f) (encodeTwo (clipped n) ++ (rootBytes f os ++ nodesBytes vs cs)),
           length-append (rootBytes f os) (nodesBytes vs cs),
         );
-        near = omega (arith, at, near, few, many);
+        near = omega (arith, at, near, few .1, many);
         walked = ap (λ (at : ℕ). nodesEnd t vs cs at) (sym at) ∙ v .then;
       }

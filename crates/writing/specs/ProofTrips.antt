@@ -114,8 +114,8 @@ module _ (k : Claim) (d : ProofRecords) (long : LongProof d) where
       go (stop n q) e = absurd (refused-not-good (sym (by-end e) ∙ h))
       go (next o) e =
           let p = proof-passed (k .form) (length (k .goals)) (k .entries) (d .count) (d .roots) vs (d .codes) (nodes-long d long) (long .codes) o e in
-          let many = nodes-long d long (p .nodes) in
-          let (records, same, codes) = over-records (k .entries) vs (d .codes) (6 + 2 * length (d .roots)) o (omega (arith, p .nodes, many, long .codes)) (p .walked) in
+          let many = nodes-long d long (p .nodes .1) in
+          let (records, same, codes) = over-records (k .entries) vs (d .codes) (6 + 2 * length (d .roots)) o (omega (arith, p .nodes .1, many, long .codes)) (p .walked) in
           record {
             fit = fit;
             back = by-end e;

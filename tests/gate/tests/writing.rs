@@ -981,6 +981,22 @@ fn something_beside_nothing() {
     assert_eq!(goal, ["refuse 14 at 10"; 2]);
 }
 
+/// Counts that do not add up are a fault of the bytes, and come before those of the
+/// table, also where no goal follows and the file up to there is whole.
+#[test]
+fn members_without_a_goal_before_the_table() {
+    let mut lent = LentRecords::default();
+    let mut answers = |members: &[u16]| {
+        of_nothing(&mut lent, |records| {
+            records.entries[0] = tables::entry(Kind::Letter as u8, [32, 0]);
+            records.entry_count = 1;
+            records.members = members.to_vec();
+        })
+    };
+    assert_eq!(answers(&[]), ["refuse 20 at 0"; 2]);
+    assert_eq!(answers(&[0]), ["refuse 12 at 10"; 2]);
+}
+
 /// "well-formed nodes get 35", from the writer too; and goals without nodes 34 where
 /// the roots begin.
 #[test]

@@ -42,7 +42,7 @@ enum-known-end c = search needs
 judge-requires : tie.Need-judge-requires
 judge-requires c κs =
     let s = c .before .before .before .before .before .before in
-    claim-passed (namedForm (s .args .form)) (s .args .count) (table s) (sizes s) (members s) _ (found-next (c .before .before .before .judge-claim-bytes .ensures) (c .before .end .given .1)) .entries
+    claim-passed (namedForm (s .args .form)) (s .args .count) (table s) (sizes s) (members s) _ (found-next (c .before .before .before .judge-claim-bytes .ensures) (c .before .end .given .1)) .entries .1
 
 enum-known-number-2 : tie.Need-enum-known-number-2
 enum-known-number-2 c = search needs

@@ -79,8 +79,8 @@ judge-tree-requires : tie.Need-judge-tree-requires
 judge-tree-requires c κs =
     let s = c .before .before .before .before .before .before .before .before .before in
     let f = found (c .before) (namedForm (s .args .form)) (c .before .before .before .judge-proof-bytes .ensures) in
-    let columns = s .pre .1 (f .nodes) in
-    (f .nodes, columns .rules, columns .links, s .pre .0 .1, f .roots)
+    let columns = s .pre .1 (f .nodes .1) in
+    (f .nodes .1, columns .rules, columns .links, s .pre .0 .1, f .roots)
 
 enum-known-number-2 : tie.Need-enum-known-number-2
 enum-known-number-2 c = search needs

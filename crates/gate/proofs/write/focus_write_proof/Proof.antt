@@ -1,4 +1,5 @@
--- `write::focus_write_proof` meets its contract: a walk of its MIR. It calls `write_few` or `write_many` with all that it was passed, whose contracts are its own but for what each asks of the number of nodes (`lent_records`' `Terms.antt`), so each call is stated once over that.
+-- `write::focus_write_proof` meets its contract: a walk of its MIR. It calls `write_few` or `write_many` with all that it was passed, whose
+-- contracts are its own but for what each asks of the number of nodes (`lent_records`' `Terms.antt`), so each call is stated once over that.
 -- All that the proof knows of the two is that each meets its contract.
 use mathlib.Core.Path.{_≡_, refl}
 use Prim.Native.Nat.{ℕ}
