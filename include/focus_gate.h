@@ -1,10 +1,10 @@
 /* The Focus proof gate for a loader written in C: link target/staticlib/libgate.a.
  *
  * An answer is 0 for done or accepted, else refusal x 65,536 + place; focus_take,
- * focus_evaluate and the two calls that write files answer otherwise. For every
- * call: no pointer is null, each leads to as many elements as its length says, and
- * what the call may write overlaps nothing else that it is lent. The gate keeps no
- * pointer and has no memory of its own. */
+ * focus_evaluate, focus_join and the two calls that write a file from records answer
+ * otherwise. For every call: no pointer is null, each leads to as many elements as its
+ * length says, and what the call may write overlaps nothing else that it is lent. The
+ * gate keeps no pointer and has no memory of its own. */
 #ifndef FOCUS_GATE_H
 #define FOCUS_GATE_H
 
@@ -91,7 +91,9 @@ enum {
 
     FOCUS_OUTPUT_SHORT = 70,  /* an output slice shorter than the file (0) */
     FOCUS_ACTION = 71,        /* an action above 15, or a 0 written out in B (entry) */
-    FOCUS_GOAL_COUNT = 72     /* a goal count over 16 (its offset) */
+    FOCUS_GOAL_COUNT = 72,    /* a goal count over 16 (its offset) */
+    FOCUS_JOIN_UNFIT = 73,    /* tables differ, no such entry, or no fit (the entry) */
+    FOCUS_JOIN_NODES = 74     /* more than 1,024 nodes would result (0) */
 };
 
 /* The two parts of an answer that is not 0. */
@@ -109,6 +111,11 @@ enum {
 
 /* What a call that writes a file answered: its length, or a refusal likewise. */
 #define FOCUS_WROTE(answer) ((uint64_t)(answer) >> 32 == 0)
+
+/* What focus_join answered: the lengths of both files, or a refusal likewise. */
+#define FOCUS_JOINED(answer) ((uint64_t)(answer) >> 32 == 0)
+#define FOCUS_JOINED_CLAIM(answer) ((size_t)((uint64_t)(answer) & 0xffff))
+#define FOCUS_JOINED_PROOF(answer) ((size_t)((uint64_t)(answer) >> 16))
 
 /* A gate, lent to each call. One with all bytes zero is closed, as a gate starts.
  * The tag means something only in FOCUS_PHASE_HOLDING. */
@@ -194,6 +201,23 @@ uint64_t focus_write_proof(uint8_t form,
                            const uint16_t *roots, size_t roots_len,
                            const uint16_t *codes, size_t codes_len,
                            uint8_t *out, size_t out_len);
+
+/* Joins two accepted proofs at an entry "A and B" of the table that both claims have: claim1 is the
+ * rest with A, claim2 the rest with B, by formula. Writes the claim of the rest and the entry to the
+ * start of claim_out and its proof to the start of proof_out, and answers the length of the claim +
+ * 65,536 x that of the proof; focus_check accepts the two. The rest is every member of claim1, under
+ * its entry number, whose formula claim2 has too; the nodes are a new root, those of proof1 and those
+ * of proof2, renumbered. Else 2^32 + refusal x 65,536 + place, and nothing is written: what claim1 and
+ * proof1 earn from focus_check, then what claim2 and proof2 earn, in FOCUS_FORM_ONE alone (any other
+ * opening is 10 or 30); 73 at the entry; 74; 70 if either slice is short. FOCUS_CLAIM_BYTES and
+ * FOCUS_PROOF_BYTES are enough. Bytes beyond the files are untouched. */
+uint64_t focus_join(uint16_t entry,
+                    const uint8_t *claim1, size_t claim1_len,
+                    const uint8_t *proof1, size_t proof1_len,
+                    const uint8_t *claim2, size_t claim2_len,
+                    const uint8_t *proof2, size_t proof2_len,
+                    uint8_t *claim_out, size_t claim_out_len,
+                    uint8_t *proof_out, size_t proof_out_len);
 
 /* The gate reads and writes these structs at fixed places: a compiler that packs
  * or pads them otherwise must not get through. */

@@ -2,7 +2,8 @@
 # The examples that call the gate, built as their comments say: the loader gives a
 # permit for a good pair only, and the number and place of what a bad one earns; the
 # evaluation prints each entry's states; the writer makes the files of three good pairs of
-# its tables; the caller in Rust says what the loader says.
+# its tables; the join makes one pair of two, or says why not; the caller in Rust says what
+# the loader says.
 set -euo pipefail
 cd "$(dirname "$0")/.."
 
@@ -23,6 +24,7 @@ gcc "${flags[@]}" -fsyntax-only -x c include/focus_gate.h
 gcc "${flags[@]}" -O1 -g examples/loader/loader.c "$archive" -o "$scratch/loader"
 gcc "${flags[@]}" -O1 -g examples/evaluate/evaluate.c "$archive" -o "$scratch/evaluate"
 gcc "${flags[@]}" -O1 -g examples/writer/writer.c "$archive" -o "$scratch/writer"
+gcc "${flags[@]}" -O1 -g examples/join/join.c "$archive" -o "$scratch/join"
 rustc --edition 2021 -O examples/caller/caller.rs -C link-arg="$archive" -o "$scratch/caller"
 
 passed=0
@@ -212,6 +214,55 @@ run 'a claim on a full disk' 2 '' /dev/full "${made[1]}"
 run 'a proof on a full disk' 2 '' "${made[0]}" /dev/full
 run 'no place for the proof' 2 '' "${made[0]}"
 run 'no arguments for the writer' 2 ''
+
+program=join
+halves=("$samples"/{first,second}-half/{claim,proof}.bin)
+lines=$'claim: 38 bytes\nproof: 69 bytes\ncheck: accept'
+rm -f "${made[@]}"
+run 'two halves' 0 "$lines" 5 "${halves[@]}" "${made[@]}"
+same 'the joined claim' "${made[0]}" "$samples/both-halves/claim.bin"
+same 'the joined proof' "${made[1]}" "$samples/both-halves/proof.bin"
+program=loader
+granted 'the joined pair' 7 "${made[@]}"
+
+# unjoined NAME REFUSAL ENTRY HALVES...: nothing is written over the files of another pair.
+unjoined() {
+    cp "$samples/nu-of-box/claim.bin" "${made[0]}"
+    cp "$samples/nu-of-box/proof.bin" "${made[1]}"
+    run "$1" 1 "join: $2" "${@:3}" "${made[@]}"
+    same "$1: the claim" "${made[0]}" "$samples/nu-of-box/claim.bin"
+    same "$1: the proof" "${made[1]}" "$samples/nu-of-box/proof.bin"
+}
+program=join
+unjoined 'an entry of another kind' 'refuse 73 at 2' 2 "${halves[@]}"
+unjoined 'an entry out of range' 'refuse 73 at 65535' 65535 "${halves[@]}"
+unjoined 'the halves exchanged' 'refuse 73 at 5' 5 "${halves[@]:2}" "${halves[@]:0:2}"
+unjoined 'one half twice' 'refuse 73 at 5' 5 "${halves[@]:0:2}" "${halves[@]:0:2}"
+# The letters of entries 3 and 4 are bytes 20 and 24 of a claim. With one of them changed the second pair is refused by itself; with
+# both it is accepted, but the tables differ.
+{ head -c 20 "${halves[2]}"; printf '\1'; tail -c +22 "${halves[2]}"; } >"$scratch/claim.bin"
+unjoined 'a second half that does not hold' 'refuse 37 at 0' 5 "${halves[@]:0:2}" "$scratch/claim.bin" "${halves[3]}"
+{ head -c 24 "$scratch/claim.bin"; printf '\1'; tail -c +26 "$scratch/claim.bin"; } >"$scratch/other.bin"
+unjoined 'another table' 'refuse 73 at 5' 5 "${halves[@]:0:2}" "$scratch/other.bin" "${halves[3]}"
+head -c 48 "${halves[1]}" >"$scratch/proof.bin"
+unjoined 'the first proof cut, the second half bad' 'refuse 31 at 48' 5 "${halves[0]}" "$scratch/proof.bin" "$scratch/claim.bin" "${halves[3]}"
+{ printf 'CLM2'; tail -c +5 "${halves[0]}"; } >"$scratch/claim.bin"
+unjoined 'a claim in another form' 'refuse 10 at 0' 5 "$scratch/claim.bin" "${halves[@]:1}"
+{ printf 'PRF2'; tail -c +5 "${halves[3]}"; } >"$scratch/proof.bin"
+unjoined 'a proof in another form' 'refuse 30 at 0' 5 "${halves[@]:0:3}" "$scratch/proof.bin"
+unjoined 'claims and proofs exchanged' 'refuse 10 at 0' 5 "${halves[1]}" "${halves[0]}" "${halves[@]:2}"
+for i in 0 1 2 3; do
+    missing=("${halves[@]}")
+    missing[i]=$scratch/none.bin
+    run "missing file $i" 2 '' 5 "${missing[@]}" "${made[@]}"
+done
+for entry in '' 65536 -1 5x ' 5' 000005; do
+    run "entry '$entry'" 2 '' "$entry" "${halves[@]}" "${made[@]}"
+done
+run 'a joined claim on a full disk' 2 '' 5 "${halves[@]}" /dev/full "${made[1]}"
+run 'a joined proof on a full disk' 2 '' 5 "${halves[@]}" "${made[0]}" /dev/full
+run 'no place for the joined proof' 2 '' 5 "${halves[@]}" "${made[0]}"
+run 'no arguments for the join' 2 ''
 
 program=caller
 run 'a good pair from Rust' 0 'accept' "${files[@]}"

@@ -10,6 +10,7 @@ corpora=(narrow $vectors/base/eval.bin)
 for request in t04 t05 t06; do corpora+=(evals $vectors/$request/eval.bin); done
 for request in t01 t04 t05 t06; do corpora+=(writes $vectors/$request/write.bin); done
 for request in base t02 t03 t04 t05 t06; do corpora+=(checks $vectors/$request/check.bin); done
+corpora+=(joins $vectors/t07/join.bin)
 if [ ! -f "$archive" ]; then
     echo "memory: $archive is not there: build it first" >&2
     exit 1

@@ -6,6 +6,7 @@
 mod cases;
 mod evaluations;
 mod growth;
+mod joinings;
 mod numbering;
 mod size;
 mod stack;
@@ -15,8 +16,10 @@ mod writings;
 use cases::Case;
 use evaluations::Evaluation;
 use gate_tests::lent::GOALS_PROOF_BYTES;
-use gate_tests::lent::{Lengths, Lent, LentRecords, LentWords, RecordSlices, Slices};
+use gate_tests::lent::{FileSlices, Lengths, Lent, LentFiles, LentRecords, LentWords};
+use gate_tests::lent::{RecordSlices, Slices};
 use gate_tests::{Gate, Records};
+use joinings::Joining;
 use numbering::Numbering;
 use std::hint::black_box;
 use timing::Row;
@@ -48,6 +51,10 @@ fn print_all() {
     for case in writings::all() {
         println!("{:<34} {}", case.name, written(&case));
     }
+    head("join");
+    for case in joinings::all() {
+        println!("{:<34} {}", case.name, joined(&case));
+    }
     head("number formulas, by check");
     for case in numbering::all() {
         let (whole, numbered) = numbered(&case);
@@ -55,6 +62,13 @@ fn print_all() {
         let limit = format!("  numbering, limit {} µs", case.limit);
         println!("{limit:<34} {numbered}");
     }
+    print_growth();
+    println!();
+    stacks();
+    size::print();
+}
+
+fn print_growth() {
     for family in cases::growing() {
         head(&format!("growth, {}", family.name));
         family.print(checked);
@@ -67,9 +81,6 @@ fn print_all() {
         head(&format!("growth, {}", family.name));
         family.print(evaluated);
     }
-    println!();
-    stacks();
-    size::print();
 }
 
 fn head(what: &str) {
@@ -166,6 +177,36 @@ fn written(case: &Writing) -> Row {
     )
 }
 
+fn join(case: &Joining, out: &mut FileSlices) -> u64 {
+    gate_tests::join(case.entry, &case.first, &case.second, out)
+}
+
+/// The bytes are compared once, before any time is taken.
+fn joined(case: &Joining) -> Row {
+    let Joining {
+        name,
+        entry,
+        first,
+        second,
+    } = case;
+    let mut lent = LentFiles::default();
+    let mut slices = lent.lend(LentFiles::ROOM);
+    let files = first.join(second, *entry).expect("halves that fit");
+    let answer = reference::joined(Ok(files.lengths()));
+    assert_eq!(join(case, &mut slices), answer, "{name}");
+    assert!(slices.claim.starts_with(&files.claim), "{name}");
+    assert!(slices.proof.starts_with(&files.proof), "{name}");
+    let mut claim = vec![0; LentFiles::ROOM.claim];
+    let mut proof = vec![0; LentFiles::ROOM.proof];
+    timing::side_by_side(
+        || join(case, &mut slices),
+        || {
+            let outcome = reference::join(*entry, first, second, &mut claim, &mut proof);
+            reference::joined(outcome)
+        },
+    )
+}
+
 fn stacks() {
     for case in cases::checks() {
         let bytes = stack::deepest(|| {
@@ -187,6 +228,11 @@ fn stacks() {
         });
         print_stack("present", case.name, bytes);
     }
+    other_stacks();
+}
+
+/// Those of evaluating, writing and joining.
+fn other_stacks() {
     let mut lent = LentWords::least();
     for case in evaluations::all() {
         let bytes = stack::deepest(|| {
@@ -202,6 +248,14 @@ fn stacks() {
             write(case.call, &mut slices);
         });
         print_stack("write", case.name, bytes);
+    }
+    let mut lent = LentFiles::default();
+    for case in joinings::all() {
+        let mut slices = lent.lend(LentFiles::ROOM);
+        let bytes = stack::deepest(|| {
+            join(&case, &mut slices);
+        });
+        print_stack("join", case.name, bytes);
     }
 }
 

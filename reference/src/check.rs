@@ -51,7 +51,14 @@ pub fn judge(claim: &[u8], proof: &[u8]) -> Judgement {
 
 /// The single-check call: "answers 0 for accepted, or refusal × 65,536 + place".
 pub fn check(claim: &[u8], proof: &[u8]) -> u32 {
-    answer(&decode(claim, proof).and_then(|d| rules::judge(&d.claim, &d.proof)))
+    answer(&accepted(claim, proof))
+}
+
+/// The records of a claim and proof that are accepted.
+pub(crate) fn accepted(claim: &[u8], proof: &[u8]) -> Result<Decoded, Refusal> {
+    let decoded = decode(claim, proof)?;
+    rules::judge(&decoded.claim, &decoded.proof)?;
+    Ok(decoded)
 }
 
 /// One word per entry, "bit s for state s".

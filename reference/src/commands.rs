@@ -3,7 +3,7 @@
 
 use reference::corpus::{self, CheckRecord, Damaged, EvalRecord};
 use reference::generate::{self, Tally};
-use reference::{check, describe, evaluate, Form, Refusal, Written};
+use reference::{check, describe, evaluate, Form, Joined, Refusal, Written};
 use std::fmt::Write;
 
 pub const USAGE: &str = "usage:
@@ -11,6 +11,7 @@ pub const USAGE: &str = "usage:
   reference eval FILE                       run a corpus of claims and models
   reference eval-narrow FILE                the same with answers of 32 bits
   reference write FILE                      run a corpus of records to be written
+  reference join FILE                       run a corpus of pairs to be joined
   reference verdict CLAIM PROOF             judge one claim and proof
   reference generate check SEED COUNT FILE  write a corpus of claims and proofs
   reference generate eval SEED COUNT FILE   write a corpus of claims and models";
@@ -61,6 +62,14 @@ pub fn run_writes(file: &str) -> Outcome {
         let got = [record.records.write_claim(), record.records.write_proof()];
         let expected = [record.claim.clone(), record.proof.clone()];
         (got != expected).then(|| mismatch(show_files(&expected), show_files(&got)))
+    }))
+}
+
+pub fn run_joins(file: &str) -> Outcome {
+    let records = corpus::read_joins(&read(file)?).map_err(|damage| about(file, damage))?;
+    Ok(compare(&records, |record| {
+        let got = record.first.join(&record.second, record.entry);
+        (got != record.joined).then(|| mismatch(show_joined(&record.joined), show_joined(&got)))
     }))
 }
 
@@ -128,9 +137,22 @@ fn show_words(outcome: &Result<Vec<u64>, Refusal>) -> String {
 fn show_files(files: &[Written; 2]) -> String {
     let shown = files.each_ref().map(|file| match file {
         Err(refusal) => refusal.to_string(),
-        Ok(bytes) => format!("{} bytes {bytes:02x?}", bytes.len()),
+        Ok(bytes) => show_bytes(bytes),
     });
     shown.join(" and ")
+}
+
+fn show_joined(joined: &Joined) -> String {
+    match joined {
+        Err(refusal) => refusal.to_string(),
+        Ok(files) => [&files.claim, &files.proof]
+            .map(|file| show_bytes(file))
+            .join(" and "),
+    }
+}
+
+fn show_bytes(bytes: &[u8]) -> String {
+    format!("{} bytes {bytes:02x?}", bytes.len())
 }
 
 /// The share of each outcome in a generated corpus.

@@ -2,6 +2,7 @@
 //! little-endian.
 
 use crate::goals::Form;
+use crate::join::{joined, Files, Joined};
 use crate::refusal::Refusal;
 use crate::write::{EntryRecord, NodeRecord, Records, Written};
 use std::fmt;
@@ -54,6 +55,26 @@ pub struct WriteRecord {
     pub records: Records,
     pub claim: Written,
     pub proof: Written,
+}
+
+/// Two claims with their proofs, the entry that they are to be joined at, and what comes
+/// of it: `[u32 n][claim][u32 n][proof][u32 n][claim][u32 n][proof][u32 entry]`
+/// `[u64 answer][u32 n][claim][u32 n][proof]`.
+#[derive(Clone, Debug, PartialEq, Eq)]
+pub struct JoinRecord {
+    pub first: Files,
+    pub second: Files,
+    pub entry: u16,
+    pub joined: Joined,
+}
+
+impl JoinRecord {
+    /// The refusal's number; 0 is a join.
+    pub fn number(&self) -> u32 {
+        self.joined
+            .as_ref()
+            .map_or_else(|refusal| refusal.number.into(), |_| 0)
+    }
 }
 
 /// A corpus that ends inside a record, or has a length that is not that of the
@@ -125,6 +146,18 @@ pub fn read_writes(bytes: &[u8]) -> Result<Vec<WriteRecord>, Damaged> {
             },
             claim: reader.written()?,
             proof: reader.written()?,
+        })
+    })
+}
+
+/// An entry has two bytes in the call.
+pub fn read_joins(bytes: &[u8]) -> Result<Vec<JoinRecord>, Damaged> {
+    read_all(bytes, |reader| {
+        Some(JoinRecord {
+            first: reader.files()?,
+            second: reader.files()?,
+            entry: u16::try_from(reader.four()?).ok()?,
+            joined: reader.joined()?,
         })
     })
 }
@@ -231,6 +264,13 @@ impl Reader<'_> {
         Some(file.to_vec())
     }
 
+    fn files(&mut self) -> Option<Files> {
+        Some(Files {
+            claim: self.file()?,
+            proof: self.file()?,
+        })
+    }
+
     fn list<T>(&mut self, item: impl Fn(&mut Self) -> Option<T>) -> Option<Vec<T>> {
         let count = self.four()?;
         (0..count).map(|_| item(self)).collect()
@@ -272,6 +312,19 @@ impl Reader<'_> {
         match (answer >> 32, Refusal::unpack(answer as u32)) {
             (0, _) if answer == file.len() as u64 => Some(Ok(file)),
             (1, Some(refusal)) if file.is_empty() => Some(Err(refusal)),
+            _ => None,
+        }
+    }
+
+    /// "The answer is claim length + 65,536 × proof length, or 2^32 + refusal × 65,536
+    /// + place, and then both are empty."
+    fn joined(&mut self) -> Option<Joined> {
+        let answer = self.eight()?;
+        let files = self.files()?;
+        let none = files.claim.is_empty() && files.proof.is_empty();
+        match (answer >> 32, Refusal::unpack(answer as u32)) {
+            (0, _) if answer == joined(Ok(files.lengths())) => Some(Ok(files)),
+            (1, Some(refusal)) if none => Some(Err(refusal)),
             _ => None,
         }
     }
@@ -356,6 +409,46 @@ mod tests {
             offset: 4,
         };
         assert_eq!(read_writes(&of_nothing(256, &claim)), Err(damaged));
+    }
+
+    /// A pair of empty files twice, the entry, and what came of it.
+    fn of_no_files(entry: u32, answer: u64, files: &[u8]) -> Vec<u8> {
+        let answer = answer.to_le_bytes();
+        [&[0; 16][..], &entry.to_le_bytes(), &answer, files].concat()
+    }
+
+    #[test]
+    fn joins_are_files_or_a_refusal() {
+        let refused = of_no_files(3, 1 << 32 | 10 << 16, &[0; 8]);
+        let files = [1, 0, 0, 0, 7, 2, 0, 0, 0, 8, 9];
+        let accepted = of_no_files(65_535, 2 << 16 | 1, &files);
+        let records = read_joins(&[refused, accepted].concat()).expect("whole records");
+        let [refused, accepted] = &records[..] else {
+            panic!("two records");
+        };
+        assert_eq!(refused.joined, Err(Refusal::new(10, 0)));
+        assert_eq!((refused.entry, refused.number()), (3, 10));
+        let (claim, proof) = (vec![7], vec![8, 9]);
+        assert_eq!(accepted.joined, Ok(Files { claim, proof }));
+        assert_eq!((accepted.entry, accepted.number()), (65_535, 0));
+    }
+
+    #[test]
+    fn other_lengths_than_those_of_the_joined_files_are_damage() {
+        let files = [1, 0, 0, 0, 7, 2, 0, 0, 0, 8, 9];
+        let whole = Damaged {
+            record: 0,
+            offset: 28 + files.len(),
+        };
+        for answer in [2 << 16 | 2, 3 << 16 | 1, 1 << 32 | 73 << 16] {
+            let damaged = read_joins(&of_no_files(3, answer, &files));
+            assert_eq!(damaged, Err(whole));
+        }
+        let entry = Damaged {
+            record: 0,
+            offset: 20,
+        };
+        assert_eq!(read_joins(&of_no_files(65_536, 0, &[0; 8])), Err(entry));
     }
 
     #[test]

@@ -1,7 +1,7 @@
-//! A checker and evaluator for claims, Focus proofs and finite models, and a
-//! writer of claims and proofs, written from the specification alone. It is the
-//! independent judge for the real gate: plain Rust, no dependencies, no shared
-//! definitions.
+//! A checker and evaluator for claims, Focus proofs and finite models, a writer of
+//! claims and proofs, and a join of two proofs, written from the specification alone.
+//! It is the independent judge for the real gate: plain Rust, no dependencies, no
+//! shared definitions.
 //!
 //! The layers, from the bytes up:
 //! * `goals` has the forms of claims and proofs, with one goal and with several;
@@ -11,6 +11,7 @@
 //! * `rules` and `loops` judge a decoded proof (36–39);
 //! * `evaluate` gives each entry its meaning in a model;
 //! * `write` judges records by the same numbers and lays files down (70);
+//! * `join` makes one claim and proof of two (73, 74);
 //! * `check` and `gate` are the calls, `corpus` and `generate` serve the tests.
 
 mod alike;
@@ -22,6 +23,7 @@ mod evaluate;
 mod formula;
 mod gate;
 mod goals;
+mod join;
 mod loops;
 mod model;
 mod proof;
@@ -40,6 +42,7 @@ pub use check::{check, evaluate, judge, Decoded, Judgement};
 pub use claim::{Claim, Entry, Kind, ACTIONS};
 pub use gate::Gate;
 pub use goals::{Form, GOALS};
+pub use join::{join, joined, Files, Joined, Lengths};
 pub use model::Model;
 pub use proof::{Node, Proof, Rule};
 pub use refusal::{answer_wide, describe, describe_wide, Refusal};

@@ -14,6 +14,7 @@ fn main() -> ExitCode {
         ["eval", file] => commands::run_evals(file),
         ["eval-narrow", file] => commands::run_narrow_evals(file),
         ["write", file] => commands::run_writes(file),
+        ["join", file] => commands::run_joins(file),
         ["verdict", claim, proof] => commands::verdict(claim, proof),
         ["generate", "check", seed, count, file] => commands::generate_checks(seed, count, file),
         ["generate", "eval", seed, count, file] => commands::generate_evals(seed, count, file),

@@ -13,15 +13,15 @@ use std::ops::RangeInclusive;
 
 /// The least lengths of lent record slices, and the most that a file has of each.
 const ENTRIES: usize = 256;
-const NODES: usize = 1024;
+pub(crate) const NODES: usize = 1024;
 const CODES: usize = MEMBERS * NODES;
 
 /// The most members of a goal, and codes of a node.
-const MEMBERS: usize = 24;
+pub(crate) const MEMBERS: usize = 24;
 
 /// No file is longer: "an accepted proof never needs over 58,374 bytes", and one of
 /// several goals two more for each.
-const FILE: usize = 58_374 + 2 * GOALS;
+pub(crate) const FILE: usize = 58_374 + 2 * GOALS;
 
 const SHORT_SLICE: u16 = 1;
 const NO_FORM: u16 = 10;
@@ -74,7 +74,8 @@ pub fn write_claim(claim: ClaimRecords, out: &mut [u8]) -> Result<usize, Refusal
     long_enough(claim.entries.len() >= ENTRIES)?;
     let form = form_of(claim)?;
     let (entries, length) = judge_claim(form, claim)?;
-    lay_claim(form, claim, &entries, room(out, length)?);
+    let file = room(out, length)?;
+    lay_claim(form, &entries, claim.goal_counts, claim.members, file);
     Ok(length)
 }
 
@@ -91,7 +92,8 @@ pub fn write_proof(
     let (entries, _) = judge_claim(form, claim)?;
     let goals = claim.goal_counts.len();
     let (nodes, length) = judge_proof(form, goals, proof, &entries)?;
-    lay_proof(form, proof, &nodes, room(out, length)?);
+    let file = room(out, length)?;
+    lay_proof(form, proof.roots, &nodes, proof.codes, file);
     Ok(length)
 }
 
@@ -112,7 +114,7 @@ fn long_enough(long: bool) -> Result<(), Refusal> {
 }
 
 /// "70, the output slice is shorter than the file, judged after the records"
-fn room(out: &mut [u8], length: usize) -> Result<&mut [u8], Refusal> {
+pub(crate) fn room(out: &mut [u8], length: usize) -> Result<&mut [u8], Refusal> {
     out.get_mut(..length).ok_or(Refusal::new(SHORT_OUTPUT, 0))
 }
 
@@ -331,7 +333,13 @@ impl Walk {
     }
 }
 
-fn lay_claim(form: Form, claim: ClaimRecords, entries: &[Entry], file: &mut [u8]) {
+pub(crate) fn lay_claim(
+    form: Form,
+    entries: &[Entry],
+    goal_counts: &[u16],
+    members: &[u16],
+    file: &mut [u8],
+) {
     let mut pen = Pen { file, at: 0 };
     pen.put(form.claim().letters);
     pen.two(entries.len() as u16);
@@ -341,10 +349,10 @@ fn lay_claim(form: Form, claim: ClaimRecords, entries: &[Entry], file: &mut [u8]
         pen.fields(map, [entry.a, entry.b]);
     }
     if form == Form::Several {
-        pen.two(claim.goal_counts.len() as u16);
+        pen.two(goal_counts.len() as u16);
     }
-    let mut rest = claim.members;
-    for &count in claim.goal_counts {
+    let mut rest = members;
+    for &count in goal_counts {
         let (members, others) = rest.split_at(count.into());
         pen.two(count);
         pen.list(members);
@@ -352,12 +360,12 @@ fn lay_claim(form: Form, claim: ClaimRecords, entries: &[Entry], file: &mut [u8]
     }
 }
 
-fn lay_proof(form: Form, proof: ProofRecords, nodes: &[Node], file: &mut [u8]) {
+pub(crate) fn lay_proof(form: Form, roots: &[u16], nodes: &[Node], codes: &[u16], file: &mut [u8]) {
     let mut pen = Pen { file, at: 0 };
-    let mut rest = proof.codes;
+    let mut rest = codes;
     pen.put(form.proof().letters);
     pen.two(nodes.len() as u16);
-    pen.list(proof.roots);
+    pen.list(roots);
     for node in nodes {
         let map = node.rule.low_bits();
         let bit = u8::from(node.count > 0) << 4;

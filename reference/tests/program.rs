@@ -57,6 +57,7 @@ fn vectors_pass() {
         ("check", "t06/check.bin", 966),
         ("eval", "t06/eval.bin", 274),
         ("write", "t06/write.bin", 240),
+        ("join", "t07/join.bin", 300),
     ] {
         let passed = run(&[form, &format!("{folder}/{file}")]);
         assert_eq!(passed, (format!("{count} passed, 0 failed\n"), Some(0)));
@@ -86,6 +87,7 @@ fn damaged_and_missing_files_are_errors() {
         &["eval", &cut],
         &["eval-narrow", &cut],
         &["write", &cut],
+        &["join", &cut],
         &["check", "no such file"],
         &["generate", "check", "one", "2", &cut],
         &["verdict"],

@@ -79,3 +79,14 @@ fn every_record_to_be_written_agrees() {
         println!("vectors: {count} records to be written of {file} agree");
     }
 }
+
+#[test]
+fn every_join_agrees() {
+    let joins = corpus::read_joins(&vectors("t07/join.bin")).expect("whole records");
+    assert_eq!(joins.len(), 300);
+    for (index, record) in joins.iter().enumerate() {
+        let got = record.first.join(&record.second, record.entry);
+        assert_eq!(got, record.joined, "t07/join.bin, record {index}");
+    }
+    println!("vectors: {} joins of t07/join.bin agree", joins.len());
+}

@@ -7,6 +7,8 @@
  *           [u32 n][n x u16 member][u32 node count][u32 n][n x node]
  *           [u32 n][n x u16 root][u32 n][n x u16 code]
  *           [u64 claim answer][u32 n][claim][u64 proof answer][u32 n][proof]
+ *   joins   [u32 n][claim][u32 n][proof] of either half, [u32 entry][u64 answer]
+ *           [u32 n][claim][u32 n][proof]
  * Each file and each lent slice stands in a block of exactly its length, the
  * slices of the least lengths that are allowed, so that a read or write past
  * either end leaves the block and is seen by the tool that watches. What is lent
@@ -133,7 +135,8 @@ static void show_answer(uint64_t answer, int wide)
     }
 }
 
-/* The length of a written file shows as 0 at that length. */
+/* The length of a written file shows as 0 at that length, the lengths of joined ones as the
+ * proof's at the claim's. */
 static void show_answers(const char *call, unsigned long record, uint64_t expected, uint64_t got,
                          int wide)
 {
@@ -509,6 +512,119 @@ static struct tally run_writes(const char *path)
     return (struct tally){wrote.passed + refused.passed, wrote.failed + refused.failed, 0};
 }
 
+/* Two claims with their proofs, in the order in which they are judged, and the entry that
+ * they are to be joined at. */
+struct halves {
+    struct file files[4];
+    uint16_t entry;
+};
+
+/* What a join must answer and write. */
+struct joined {
+    uint64_t answer;
+    size_t claim_length, proof_length;
+    const uint8_t *claim, *proof;
+};
+
+static struct halves take_halves(struct corpus *corpus)
+{
+    struct halves halves;
+    for (size_t i = 0; i < 4; i++) {
+        halves.files[i] = take_file(corpus);
+    }
+    uint64_t entry = take_number(corpus, 4);
+    if (entry > UINT16_MAX) {
+        give_up("an entry of more than two bytes", corpus->path);
+    }
+    halves.entry = (uint16_t)entry;
+    return halves;
+}
+
+static int drop_halves(struct halves halves)
+{
+    int kept = 1;
+    for (size_t i = 0; i < 4; i++) {
+        kept &= drop_file(halves.files[i]);
+    }
+    return kept;
+}
+
+static struct joined take_joined(struct corpus *corpus)
+{
+    struct joined joined;
+    joined.answer = take_number(corpus, 8);
+    joined.claim_length = (size_t)take_number(corpus, 4);
+    joined.claim = take_bytes(corpus, joined.claim_length);
+    joined.proof_length = (size_t)take_number(corpus, 4);
+    joined.proof = take_bytes(corpus, joined.proof_length);
+    return joined;
+}
+
+static int same_bytes(const uint8_t *one, const uint8_t *other, size_t length)
+{
+    return length == 0 || memcmp(one, other, length) == 0;
+}
+
+/* The answer of a join in output blocks of these lengths; if that is the right one and no
+ * refusal, whether the files stand there. */
+static uint64_t lend_and_join(const struct halves *halves, size_t claim_length,
+                              size_t proof_length, const struct joined *expected, int *right)
+{
+    const struct file *files = halves->files;
+    uint8_t *claim = block(claim_length, 1);
+    uint8_t *proof = block(proof_length, 1);
+    uint64_t got = focus_join(halves->entry, files[0].bytes, files[0].length, files[1].bytes,
+                              files[1].length, files[2].bytes, files[2].length, files[3].bytes,
+                              files[3].length, claim, claim_length, proof, proof_length);
+    *right = got != expected->answer || !FOCUS_JOINED(got) ||
+             (FOCUS_JOINED_CLAIM(got) == expected->claim_length &&
+              FOCUS_JOINED_PROOF(got) == expected->proof_length &&
+              same_bytes(claim, expected->claim, expected->claim_length) &&
+              same_bytes(proof, expected->proof, expected->proof_length));
+    free(claim);
+    free(proof);
+    return got;
+}
+
+/* Either block a byte short in turn, and no blocks at all. */
+static void join_short(const struct halves *halves, const struct joined *joined,
+                       struct tally *refused)
+{
+    const size_t claim = joined->claim_length;
+    const size_t proof = joined->proof_length;
+    const size_t rooms[][2] = {{claim - 1, proof}, {claim, proof - 1}, {0, 0}};
+    const struct joined short_output = {.answer = written_refusal(FOCUS_OUTPUT_SHORT)};
+    for (size_t i = 0; i < sizeof rooms / sizeof rooms[0]; i++) {
+        int right;
+        uint64_t got = lend_and_join(halves, rooms[i][0], rooms[i][1], &short_output, &right);
+        count(refused, "join, output short", short_output.answer, got, right);
+    }
+}
+
+/* In output blocks of just the lengths; for a refusal in none at all. */
+static struct tally run_joins(const char *path)
+{
+    struct corpus corpus = read_corpus(path);
+    struct tally done = {0, 0, 0};
+    struct tally refused = {0, 0, 0};
+    while (corpus.at < corpus.length) {
+        struct halves halves = take_halves(&corpus);
+        struct joined joined = take_joined(&corpus);
+        int right;
+        uint64_t got = lend_and_join(&halves, joined.claim_length, joined.proof_length, &joined,
+                                     &right);
+        if (FOCUS_JOINED(joined.answer)) {
+            join_short(&halves, &joined, &refused);
+        }
+        int kept = drop_halves(halves);
+        count(&done, "join", joined.answer, got, right && kept);
+    }
+    free(corpus.bytes);
+    printf("join: %lu passed, %lu failed\n", done.passed, done.failed);
+    printf("join, output short: %lu passed, %lu failed\n", refused.passed, refused.failed);
+    return (struct tally){done.passed + refused.passed, done.failed + refused.failed, 0};
+}
+
 /* Lengths of entries, nodes and codes of which one at least is too short. */
 static const size_t short_records[][3] = {
     {FOCUS_ENTRIES - 1, FOCUS_NODES, FOCUS_CODES},
@@ -621,6 +737,9 @@ static int run(const char *kind, const char *path)
     if (strcmp(kind, "writes") == 0) {
         return good(show_short(write_short())) & good(run_writes(path));
     }
+    if (strcmp(kind, "joins") == 0) {
+        return good(run_joins(path));
+    }
     int narrow = strcmp(kind, "narrow") == 0;
     if (!narrow && strcmp(kind, "evals") != 0) {
         give_up("no kind of records", kind);
@@ -631,7 +750,7 @@ static int run(const char *kind, const char *path)
 int main(int arguments_count, char **arguments)
 {
     if (arguments_count < 3 || arguments_count % 2 == 0) {
-        fprintf(stderr, "usage: driver (checks|evals|narrow|writes CORPUS)...\n");
+        fprintf(stderr, "usage: driver (checks|evals|narrow|writes|joins CORPUS)...\n");
         return 2;
     }
     int all_good = 1;

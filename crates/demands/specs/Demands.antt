@@ -1,11 +1,11 @@
 -- the demands on the gate over the definitions, each with its proof; `Bytes s`: the numbers of s are below 256
--- what to read to believe them: `Correct`, `Irrefutable` and `Earned` rest on 876 lines of definitions, all contracts of the calls on 2138 lines;
+-- what to read to believe them: `Correct`, `Irrefutable` and `Earned` rest on 876 lines of definitions, all contracts of the calls on 2334 lines;
 -- tests/believed.sh counts and lists them
 use mathlib.Core.Path.{_≡_}
 use mathlib.Core.Logic.{_↔_, _⊎_}
 use mathlib.Core.Bool.{true, false, _||_}
-use mathlib.Core.List.{List, []}
-use Prim.Native.Nat.{ℕ, suc, _<_, _≤_}
+use mathlib.Core.List.{List, [], _∷_, _++_}
+use Prim.Native.Nat.{ℕ, suc, _+_, _<_, _≤_}
 use lib.ListN.{length, getD, take, drop}
 use Rattle.verdict.specs.Verdict.{accepted, refused}
 use Rattle.verdict.specs.Sets.{elements}
@@ -44,6 +44,9 @@ use Rattle.writing.specs.ClaimEnds.{longestClaim}
 use Rattle.writing.specs.ProofEnds.{longestProof}
 use Rattle.writing.specs.ClaimTrips.{claimOf, ClaimGiven, claim-roomy}
 use Rattle.writing.specs.ProofTrips.{derivationOf, ProofGiven, LongProof, proof-roomy}
+use Rattle.joining.specs.Shift.{shifted}
+use Rattle.joining.specs.Goals.{joinedGoal}
+use Rattle.joining.specs.Joined.{oneGoal, oneTree, joinedRoot}
 use Rattle.model_files.specs.Described.{modelOf}
 use Rattle.permit.specs.GateState.{Gate, opened}
 use Rattle.demands.specs.Slices.{Lent, LongEnough, LentWords}
@@ -59,6 +62,9 @@ use Rattle.demands.specs.EvaluateExact as evaluation
 use Rattle.demands.specs.Sound as soundness
 use Rattle.demands.specs.Goalless as goalless
 use Rattle.demands.specs.Goalless.{nothing}
+use Rattle.demands.specs.Join.{Whole, wholeOf, joinFiles}
+use Rattle.demands.specs.JoinExact as joining
+use Rattle.demands.specs.JoinExact.{CorrectHalf, table, members, nodes, HalvesJoin, HalvesFew, Joinable, JoinEarned}
 use Rattle.demands.specs.Written as written
 use Rattle.demands.specs.Refutable.{muOfBox, falseAlone, secondFalse, mu-of-box-refuted, false-refuted, second-refuted}
 
@@ -129,6 +135,48 @@ module _ {claim : List ℕ} {c : Claim} (formed : ClaimFormed claim c) (no-goals
     -- well-formed nodes get 35
     pub nodes-refused : {d : Derivation} → ProofFile c proof d → (d .nodes ≡ [] → ⊥) → (q : ℕ) × (verdict claim proof ≡ refused 35 q)
     nodes-refused = goalless.nodes-refused formed no-goals proof bc bp
+
+-- T-07: two claims with their proofs joined at an entry, into slices of these lengths
+module _ (e : ℕ) (claim proof other-claim other-proof : List ℕ) (claim-room proof-room : ℕ)
+    (b₁ : Bytes claim) (b₂ : Bytes proof) (b₃ : Bytes other-claim) (b₄ : Bytes other-proof) where
+  -- they are joined exactly when both are correct, in the forms for one goal, have the same entries, fit at the entry, have at most 1,023 nodes
+  -- together, and both slices have room
+  pub join-exact : {w : Whole} → (joinFiles e claim proof other-claim other-proof claim-room proof-room ≡ good w)
+      ↔ ((J : Joinable e claim proof other-claim other-proof claim-room proof-room) × (w ≡ wholeOf (J .first .correct .read) (J .second .correct .read) e))
+  join-exact = joining.join-gives e claim proof other-claim other-proof claim-room proof-room b₁ b₂ b₃ b₄
+
+  -- and refused as earned: the first pair's refusal, the second's, then 73, 74 and 70
+  pub join-refused : {n q : ℕ} → (joinFiles e claim proof other-claim other-proof claim-room proof-room ≡ refused-reading n q)
+      ↔ JoinEarned e claim proof other-claim other-proof claim-room proof-room n q
+  join-refused = joining.join-refuses e claim proof other-claim other-proof claim-room proof-room b₁ b₂ b₃ b₄
+
+  -- slices of 1,592 and 58,374 bytes never earn 70
+  pub join-has-room : 1592 ≤ claim-room → 58374 ≤ proof-room → (x : CorrectHalf claim proof) (y : CorrectHalf other-claim other-proof)
+      → HalvesJoin x y e claim-room proof-room → HalvesFew x y e claim-room proof-room
+      → joinFiles e claim proof other-claim other-proof claim-room proof-room ≡ good (wholeOf (x .correct .read) (y .correct .read) e)
+  join-has-room = joining.join-roomy e claim proof other-claim other-proof claim-room proof-room b₁ b₂ b₃ b₄
+
+  module _ {w : Whole} (joined : joinFiles e claim proof other-claim other-proof claim-room proof-room ≡ good w) where
+    -- "The whole must be accepted": by the check, so its claim is irrefutable
+    pub joined-accepted : verdict (w .claim) (w .proof) ≡ accepted
+    joined-accepted =
+        let right = joining.join-right e claim proof other-claim other-proof claim-room proof-room b₁ b₂ b₃ b₄ joined .1 in
+        check.exact (w .claim) (w .proof) (right .bytes .0) (right .bytes .1) .1 (right .correct)
+
+    pub joined-irrefutable : Irrefutable (w .claim)
+    joined-irrefutable =
+        soundness.sound (joining.join-right e claim proof other-claim other-proof claim-room proof-room b₁ b₂ b₃ b₄ joined .1 .correct)
+
+    -- "its nodes being the new root, the first tree and the second, renumbered in that order"
+    pub joined-nodes : (J : Joinable e claim proof other-claim other-proof claim-room proof-room)
+        × (files (w .claim) (w .proof) ≡ good (record {
+          claim = oneGoal (table (J .first)) (joinedGoal (table (J .first)) e (members (J .first)) (members (J .second)));
+          beside = oneTree (
+              joinedRoot e (joinedGoal (table (J .first)) e (members (J .first)) (members (J .second))) (length (nodes (J .first)))
+              ∷ (shifted 1 (nodes (J .first)) ++ shifted (length (nodes (J .first)) + 1) (nodes (J .second)))
+              );
+        }))
+    joined-nodes = joining.join-read e claim proof other-claim other-proof claim-room proof-room b₁ b₂ b₃ b₄ joined
 
 -- 2: an evaluation of a claim in a model, with the slices it is lent
 module _ (claim model : List ℕ) (l : LentWords) (bc : Bytes claim) (bm : Bytes model) where

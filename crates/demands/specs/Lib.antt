@@ -14,6 +14,8 @@ pub mod Sound
 pub mod Written
 pub mod Refutable
 pub mod Goalless
+pub mod Join
+pub mod JoinExact
 pub mod PresentLaws
 -- the page
 pub mod Demands
@@ -21,3 +23,4 @@ pub mod Demands
 pub mod Numbered
 pub mod RefusedAs
 pub mod Single
+pub mod JoinCall

@@ -221,7 +221,7 @@ fn put_codes(out: &mut [u8], at: usize, codes: &[u16], start: usize, count: usiz
 }
 
 // A bit map byte, a rule byte, then the fields whose bit stands; bit 4 where codes follow.
-fn put_node(
+pub fn put_node(
     out: &mut [u8],
     at: usize,
     rule: u8,
@@ -267,7 +267,7 @@ fn put_nodes(
 }
 
 // The letters that open a proof file of the form, and the node count.
-fn open_proof(out: &mut [u8], form: u8, nodes: usize)
+pub fn open_proof(out: &mut [u8], form: u8, nodes: usize)
     requires { ⌜ Fits (now out) 0 (proofOpening (namedForm form) ++ encodeTwo nodes) × (nodes < 65536) ⌝ }
     ensures { λ r. ⌜ Put (now (out .entry)) 0 (proofOpening (namedForm form) ++ encodeTwo nodes) 6 (now (out .exit)) ⌝ }
 {

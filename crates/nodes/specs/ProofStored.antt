@@ -56,11 +56,11 @@ pub record Storing (s : List ℕ) (from : ℕ) (rs₀ ls₀ ss₀ cs₀ rs ls ss
   pub starts : ss ≡ written (startsFrom 0 done) ss₀
   pub codes : cs ≡ written (allCodes done) cs₀
 
-first-fits : {s : List ℕ} {at n : ℕ} → NodesFit s at (suc n) → NodeFits s at × NodesFit s (nodeEnd s at) n
+pub first-fits : {s : List ℕ} {at n : ℕ} → NodesFit s at (suc n) → NodeFits s at × NodesFit s (nodeEnd s at) n
 first-fits (one-more f r) = (f, r)
 
 -- a node takes at most 57 bytes
-node-near : (s : List ℕ) (at : ℕ) → codeCount s at ≤ 24 → nodeEnd s at ≤ at + 57
+pub node-near : (s : List ℕ) (at : ℕ) → codeCount s at ≤ 24 → nodeEnd s at ≤ at + 57
 node-near s at h = go (leb 16 (getD s at 0)) h
   where
     go : (b : Bool) → pick b (getD s (codesPlace s at) 0) 0 ≤ 24 → pick b (codesPlace s at + 1 + 2 * getD s (codesPlace s at) 0) (codesPlace s at) ≤ at + 57

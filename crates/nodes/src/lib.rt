@@ -65,13 +65,13 @@ fn copy_words(bytes: &[u8], at: usize, n: usize, words: &mut [u16], start: usize
 }
 
 // Where the next node stands, and where its codes go.
-struct Spot {
-    at: usize,
-    start: usize,
+pub struct Spot {
+    pub at: usize,
+    pub start: usize,
 }
 
 // A node that fits into the file: its rule, its links and its codes.
-fn decode_node(
+pub fn decode_node(
     bytes: &[u8],
     spot: Spot,
     v: usize,

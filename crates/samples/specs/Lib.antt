@@ -5,3 +5,4 @@ pub mod Twins
 pub mod Actions
 pub mod Goals
 pub mod Samples
+pub mod Joins

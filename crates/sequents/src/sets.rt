@@ -128,7 +128,7 @@ pub fn same_sequent(canon: &[u16; 256], starts: &[u16], codes: &[u16], v: usize,
 }
 
 // A goal's members, from one place up to another, all in focus, into a set that has none.
-fn put_goal(set: &mut [u64; 8], canon: &[u16; 256], members: &[u16; 384], from: usize, to: usize)
+pub fn put_goal(set: &mut [u64; 8], canon: &[u16; 256], members: &[u16], from: usize, to: usize)
     requires { ⌜ Narrow (now canon) × Members 256 (now members) from to × Holds (now set) [] ⌝ }
     ensures { λ _. ⌜ Holds (now (set .exit)) (each (inFocus (now (canon .entry))) (part (now (members .entry)) from to)) ⌝ }
 {

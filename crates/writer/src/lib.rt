@@ -16,7 +16,7 @@ use vetting::judge_claim;
 use vetting::judge_proof;
 
 // What the slices that the writer is lent earn, before and after the records.
-struct SliceFault;
+pub struct SliceFault;
 
 impl SliceFault {
     pub const SHORT: u16 = 1;
@@ -25,7 +25,7 @@ impl SliceFault {
 }
 
 // A refusal's number, as taking a permit answers it: above every file's length.
-fn refuse(number: u16, place: u16) -> u64
+pub fn refuse(number: u16, place: u16) -> u64
     ensures { λ r. ⌜ r ≡ 2 ^ 32 + packed (refused number place) ⌝ }
 {
     4294967296 + ((number as u64) * 65536 + (place as u64))

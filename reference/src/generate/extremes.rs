@@ -2,10 +2,12 @@
 //! exponential time where operands or rounds are walked afresh.
 
 use super::actions;
+use super::halves::over_table;
 use super::near_miss::put_above;
 use super::rng::Rng;
 use crate::claim::{Entry, Kind};
 use crate::draft::{self, DraftNode, DraftState, File};
+use crate::join::Files;
 use crate::proof::Rule;
 
 /// `A or A`, or `A and A`, over and over, on one letter.
@@ -233,4 +235,23 @@ pub fn letter(letter: u16) -> (File, File) {
     ];
     let leaf = DraftNode::new(Rule::Ax1, 0, vec![1, 3]);
     (draft::claim(&entries, &[0, 1]), draft::proof(&[leaf]))
+}
+
+/// `A and B` at the end of a table of so many entries, and its halves, of so many nodes
+/// each, or as many as their members ask for. The rest is so many letters.
+pub fn halves(entries: u16, rest: u16, nodes: [usize; 2]) -> (u16, [Files; 2]) {
+    let letter = |letter| Entry::new(Kind::Letter, letter, 0);
+    let mut table: Vec<Entry> = (0..rest).map(letter).collect();
+    table.extend((rest..entries - 3).map(|at| match at {
+        0 => letter(31),
+        _ => Entry::new(Kind::Box, at - 1, 0),
+    }));
+    let rest: Vec<u16> = (0..rest).collect();
+    halves_over(table, &rest, nodes)
+}
+
+/// The same at the end of this table, whose rest is of it.
+pub fn halves_over(table: Vec<Entry>, rest: &[u16], nodes: [usize; 2]) -> (u16, [Files; 2]) {
+    let halves = over_table(table, rest, nodes);
+    (halves.entry, halves.files())
 }

@@ -1,13 +1,15 @@
-//! A deterministic generator of inputs: claims with proofs, claims with models
-//! and records to be written, good, nearly good and damaged. The same seed gives
-//! the same inputs.
+//! A deterministic generator of inputs: claims with proofs, claims with models,
+//! records to be written and proofs to be joined, good, nearly good and damaged. The
+//! same seed gives the same inputs.
 
 mod actions;
 mod damage;
 mod empty;
 mod formulas;
+mod halves;
 mod models;
 mod near_goal;
+mod near_half;
 mod near_miss;
 mod near_twin;
 mod number;
@@ -36,7 +38,7 @@ pub use tally::Tally;
 
 use crate::check::{check, evaluate};
 use crate::claim::Entry;
-use crate::corpus::{CheckRecord, EvalRecord, WriteRecord};
+use crate::corpus::{CheckRecord, EvalRecord, JoinRecord, WriteRecord};
 use crate::goals::Form;
 use crate::refusal::answer_wide;
 
@@ -93,6 +95,19 @@ pub fn writes(seed: u64) -> impl Iterator<Item = WriteRecord> {
             claim: records.write_claim(),
             proof: records.write_proof(),
             records,
+        }
+    })
+}
+
+/// An endless run of proofs to be joined with what the reference makes of them.
+pub fn joins(seed: u64) -> impl Iterator<Item = JoinRecord> {
+    inputs(seed, |rng| {
+        let (entry, [first, second]) = near_half::to_be_joined(rng);
+        JoinRecord {
+            joined: first.join(&second, entry),
+            first,
+            second,
+            entry,
         }
     })
 }

@@ -122,7 +122,12 @@ fn claim_with_twins(rng: &mut Rng, plain: &Provable, twins: &Twins) -> Provable 
 fn renamed(rng: &mut Rng) -> Proved {
     let plain = accepted(rng);
     let twins = twins(rng, &plain.entries);
-    let renaming = Renaming::new(rng, &twins);
+    over_copies(rng, &plain, &twins)
+}
+
+/// The same claim and proof over the copies of its entries.
+pub fn over_copies(rng: &mut Rng, plain: &Proved, twins: &Twins) -> Proved {
+    let renaming = Renaming::new(rng, twins);
     let nodes: Vec<DraftNode> = plain
         .nodes
         .iter()
@@ -133,7 +138,7 @@ fn renamed(rng: &mut Rng) -> Proved {
         _ => renaming.members(rng, &plain.members),
     };
     Proved {
-        entries: twins.entries,
+        entries: twins.entries.clone(),
         members,
         nodes,
     }

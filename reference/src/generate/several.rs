@@ -131,7 +131,7 @@ fn among(rng: &mut Rng, proved: Proved, others: usize) -> Several {
 
 /// Another goal over the same table: the same again, with a member more, or proved
 /// anew.
-fn beside(rng: &mut Rng, proved: &Proved) -> Proved {
+pub fn beside(rng: &mut Rng, proved: &Proved) -> Proved {
     let other = match rng.below(3) {
         0 => None,
         1 => with_a_spare_member(rng, proved),
@@ -149,7 +149,7 @@ fn beside(rng: &mut Rng, proved: &Proved) -> Proved {
 }
 
 /// A member of another formula, dropped by the root.
-fn with_a_spare_member(rng: &mut Rng, proved: &Proved) -> Option<Proved> {
+pub fn with_a_spare_member(rng: &mut Rng, proved: &Proved) -> Option<Proved> {
     let least = least_alike(&proved.entries);
     let formula = |entry: u16| least[usize::from(entry)];
     let spare: Vec<u16> = (0..proved.entries.len() as u16)
@@ -216,7 +216,7 @@ pub fn joined(rng: &mut Rng, parts: Vec<Proved>) -> Several {
 }
 
 /// The nodes over a table that begins further up.
-fn moved(mut nodes: Vec<DraftNode>, offset: u16) -> Vec<DraftNode> {
+pub fn moved(mut nodes: Vec<DraftNode>, offset: u16) -> Vec<DraftNode> {
     let moved = |code: &mut u16| *code = code.wrapping_add(2 * offset);
     for node in &mut nodes {
         moved(&mut node.principal);

@@ -340,3 +340,46 @@ impl LentRecords {
         self.out.assert_holds(file, &format!("{what}: output"));
     }
 }
+
+/// What a join is lent for its two files.
+pub struct LentFiles {
+    claim: Slice<u8>,
+    proof: Slice<u8>,
+}
+
+pub struct FileSlices<'a> {
+    pub claim: &'a mut [u8],
+    pub proof: &'a mut [u8],
+}
+
+impl Default for LentFiles {
+    /// Blocks with room for longer slices than any test lends.
+    fn default() -> LentFiles {
+        LentFiles {
+            claim: Slice::new(CLAIM_BYTES + 1000),
+            proof: Slice::new(PROOF_BYTES + 1000),
+        }
+    }
+}
+
+impl LentFiles {
+    /// Slices with room for every claim and proof of one goal.
+    pub const ROOM: reference::Lengths = reference::Lengths {
+        claim: CLAIM_BYTES,
+        proof: PROOF_BYTES,
+    };
+
+    /// Slices of these lengths with canaries in them.
+    pub fn lend(&mut self, lengths: reference::Lengths) -> FileSlices<'_> {
+        FileSlices {
+            claim: self.claim.lend_with(&[], lengths.claim),
+            proof: self.proof.lend_with(&[], lengths.proof),
+        }
+    }
+
+    /// Each slice begins with its file; all else is as it was lent.
+    pub fn assert_holds(&self, claim: &[u8], proof: &[u8], what: &str) {
+        self.claim.assert_holds(claim, &format!("{what}: claim"));
+        self.proof.assert_holds(proof, &format!("{what}: proof"));
+    }
+}

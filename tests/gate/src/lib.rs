@@ -8,7 +8,8 @@ pub mod random;
 pub mod tables;
 pub mod vectors;
 
-use lent::{Lent, LentWords, RecordSlices, Slices};
+use lent::{FileSlices, Lent, LentWords, RecordSlices, Slices};
+use reference::Files;
 
 /// The gate state that each call is lent.
 #[repr(C)]
@@ -173,6 +174,22 @@ mod calls {
             out: *mut u8,
             out_len: usize,
         ) -> u64;
+
+        pub fn focus_join(
+            entry: u16,
+            claim1: *const u8,
+            claim1_len: usize,
+            proof1: *const u8,
+            proof1_len: usize,
+            claim2: *const u8,
+            claim2_len: usize,
+            proof2: *const u8,
+            proof2_len: usize,
+            claim_out: *mut u8,
+            claim_out_len: usize,
+            proof_out: *mut u8,
+            proof_out_len: usize,
+        ) -> u64;
     }
 }
 
@@ -296,6 +313,30 @@ pub fn write_proof(slices: &mut RecordSlices) -> u64 {
             slices.codes.len(),
             slices.out.as_mut_ptr(),
             slices.out.len(),
+        )
+    }
+}
+
+/// Claim length + 65,536 × proof length, or 2^32 + refusal × 65,536 + place.
+pub fn join(entry: u16, first: &Files, second: &Files, out: &mut FileSlices) -> u64 {
+    let FileSlices { claim, proof } = out;
+    // SAFETY: the gate stays within the lengths of all six slices and keeps none; the two
+    // that it writes overlap no other.
+    unsafe {
+        calls::focus_join(
+            entry,
+            first.claim.as_ptr(),
+            first.claim.len(),
+            first.proof.as_ptr(),
+            first.proof.len(),
+            second.claim.as_ptr(),
+            second.claim.len(),
+            second.proof.as_ptr(),
+            second.proof.len(),
+            claim.as_mut_ptr(),
+            claim.len(),
+            proof.as_mut_ptr(),
+            proof.len(),
         )
     }
 }

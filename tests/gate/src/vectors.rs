@@ -1,6 +1,6 @@
 //! The records of the vectors.
 
-use reference::corpus::{self, CheckRecord, EvalRecord, WriteRecord};
+use reference::corpus::{self, CheckRecord, EvalRecord, JoinRecord, WriteRecord};
 use std::path::Path;
 
 /// Those of the base, then those of the requests.
@@ -50,6 +50,12 @@ pub fn writes() -> Vec<WriteRecord> {
         records
     });
     records.concat()
+}
+
+pub fn joins() -> Vec<JoinRecord> {
+    let records = corpus::read_joins(&read("t07/join.bin")).expect("whole records");
+    assert_eq!(records.len(), 300, "t07/join.bin");
+    records
 }
 
 fn read(file: &str) -> Vec<u8> {

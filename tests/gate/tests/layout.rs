@@ -83,6 +83,6 @@ fn the_header_names_the_lengths_the_phases_the_forms_and_every_refusal() {
     }
     let mut refusals: Vec<usize> = numbers.into_values().collect();
     refusals.sort_unstable();
-    let ranges = [1..=1, 10..=14, 20..=23, 30..=39, 50..=53, 60..=64, 70..=72];
+    let ranges = [1..=1, 10..=14, 20..=23, 30..=39, 50..=53, 60..=64, 70..=74];
     assert_eq!(refusals, ranges.into_iter().flatten().collect::<Vec<_>>());
 }

@@ -17,7 +17,7 @@ abbrev μ-loop : tie.MeasureT-loop
 μ-loop set₀ canon members from to i₀ set i = i - from
 
 loop-holds : tie.Need-loop-holds Inv-loop μ-loop
-loop-holds c = (search needs, search needs, each-end (inFocus (c .args .canon .now)) (c .args .members .now) (c .args .to) (c .pre .2))
+loop-holds c = (search needs, search needs, each-end (inFocus (c .before .args .canon .now)) (c .before .args .members .now) (c .before .args .to) (c .before .pre .2))
 
 sub-i : tie.Need-sub-i Inv-loop μ-loop
 sub-i c = search needs
@@ -25,15 +25,15 @@ sub-i c = search needs
 mul-wide : tie.Need-mul-wide Inv-loop μ-loop
 mul-wide c = search needs
 
-element-copy-out-wide : tie.Need-element-copy-out-wide Inv-loop μ-loop
-element-copy-out-wide c = search needs
+shared-slice-read-wide : tie.Need-shared-slice-read-wide Inv-loop μ-loop
+shared-slice-read-wide c = search needs
 
 wide-requires : tie.Need-wide-requires Inv-loop μ-loop
 wide-requires c κs = search needs
 
 key-requires : tie.Need-key-requires Inv-loop μ-loop
 key-requires c κs =
-    let s = c .before .before .before .before .before in
+    let s = c .before .before .before .before .before .before in
     let here = part-member (s .args .members .now) (s .args .from) (s .args .to) (c .before .before .before .before .loop .i - 1) (omega arith) (omega arith) (s .pre .1 .long) in
     (s .pre .0, rw (c .wide .ensures) (s .pre .1 .inside _ here), search needs)
 
@@ -45,7 +45,7 @@ loop-less c = search needs
 
 loop-again : tie.Need-loop-again Inv-loop μ-loop
 loop-again c =
-    let s = c .before .before .before .before .before .before .before in
+    let s = c .before .before .before .before .before .before .before .before in
     let l = c .before .before .before .before .before .before .loop in
     let here = rw (c .before .before .wide .ensures) at (c .before .key .ensures .1) in (
       search needs,
@@ -56,7 +56,7 @@ loop-again c =
 
 returns : tie.Need-returns Inv-loop μ-loop
 returns c =
-    let whole : c .before .loop .i ≡ c .before .before .args .from = omega arith in
+    let whole : c .before .loop .i ≡ c .before .before .before .args .from = omega arith in
     rw whole at (c .before .loop .inv .2)
 
 pub put-goal-spec : {M : Type 1} → statement M
@@ -68,7 +68,7 @@ put-goal-spec =
     loop-holds
     sub-i
     mul-wide
-    element-copy-out-wide
+    shared-slice-read-wide
     wide-requires
     key-requires
     put-requires

@@ -29,12 +29,12 @@ same-requires c κs = search needs
 returns : tie.Need-returns
 unfolding states keys
 returns c t R rs ls n h =
-    let a = c .before .before .before .before .before .before .before .before .before .args in
+    let a = c .before .before .before .before .before .before .before .before .before .before .args in
     let found = keys-of (R .numbers) (codesAt (a .starts .now) (a .codes .now) (a .root)) (R .codes)
     ∙ ap (λ (l : List ℕ). each (keyIn t) l) (sym (ap (λ (x : Node). x .codes) (proofOf-node rs ls (a .starts .now) (a .codes .now) n (a .root) h))) in
     let claimed = each-same {g = λ e. keyIn t (code e 1)} (part (a .members .now) (a .from) (a .to)) (λ e m. key-code (R .numbers) e 1 (omega arith) (R .members e m)) in
     c .same .ensures (keysOf (a .canon .now) (codesAt (a .starts .now) (a .codes .now) (a .root))) (each (inFocus (a .canon .now)) (part (a .members .now) (a .from) (a .to)))
-    (c .before .before .before .before .before .put-sequent .ensures) (c .before .before .before .put-goal .ensures)
+    (c .before .before .before .before .before .before .put-sequent .ensures) (c .before .before .before .put-goal .ensures)
     ∙ ap₂ {C = Bool} sameSet found claimed
 
 pub root-is-goal-spec : {M : Type 1} → statement M

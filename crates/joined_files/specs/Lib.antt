@@ -1,0 +1,3 @@
+pub mod Wholly
+pub mod Ready
+pub mod Paired
