@@ -60,10 +60,10 @@ others : joining twins twins (2 ∷ 6 ∷ []) (5 ∷ 6 ∷ []) (circle 5 3) (cir
 unfolding joining ℕ-discrete
 others = refl
 
--- 1,024 nodes are no more than may be, 1,025 are: 74 at 0, before the slices
+-- 1,024 nodes are no more than may be, 1,025 are: 74 at 0, before the slices, and after an entry that does not fit
 abbrev many : ℕ → ℕ → Verdict
-many n room = joining twins twins (2 ∷ []) (5 ∷ []) (replicate n (node [] 0)) (circle 11 9) 6 60 room
+many n e = joining twins twins (2 ∷ []) (5 ∷ []) (replicate n (node [] 0)) (circle 11 9) e 60 0
 
-nodes : many 1020 0 ∷ many 1019 0 ∷ [] ≡ refused 74 0 ∷ refused 70 0 ∷ []
+nodes : many 1020 6 ∷ many 1019 6 ∷ many 1020 8 ∷ [] ≡ refused 74 0 ∷ refused 70 0 ∷ refused 73 8 ∷ []
 unfolding joining ℕ-discrete
 nodes = refl

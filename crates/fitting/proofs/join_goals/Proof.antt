@@ -1,10 +1,10 @@
 -- `join_goals` meets its contract, test by test: the entry, its kind, the size of the rest, and that the rest fits.
 use mathlib.Core.Path.{_≡_, refl, sym, ap, _∙_}
-use mathlib.Core.Bool.{Bool, true, false, not, true≢false, false≢true}
 use mathlib.Core.List.{List}
 use Prim.Native.Nat.{ℕ, _<_, _≤_}
 use native.Mathlib.Omega.{arith}
 use borrow.Author.Needs.{needs}
+use borrow.Author.Tests.{not-true, not-false}
 use lib.ListN.{getD}
 use Rattle.verdict.specs.Tests.{each}
 use Rattle.formula.specs.Kind
@@ -81,43 +81,53 @@ find-rest-requires c κs = let p = c .before .before .before .before .before .be
 abbrev keys : tie.Start → List ℕ
 keys s = each (inFocus (s .args .canon .now)) (second s)
 
+-- where the rest is found: the start from there, the entry's row, and that it is an "A and B"
+abbrev begun : tie.After-find-rest → tie.Start
+begun k = k .before .before .before .before .before .before .before .before .before .before .before .before .before .before .before
+
+abbrev row : tie.After-find-rest → tie.After-wide2
+row k = k .before .before .before .before .before .before .before .before .before .before .before .before
+
+is-and : (k : tie.After-find-rest) → kind (table (begun k)) (begun k .args .entry) ≡ Kind.AND
+is-and k = kind-is (row k) ∙ k .before .before .before .before .before .before .before .before .before .before .if2 .left
+
+kept-and : (k : tie.After-find-rest) → getD (begun k .args .kinds .now) (begun k .args .entry) 0 ≡ Kind.AND
+kept-and k = ap (λ (e : ℕ). getD (begun k .args .kinds .now) e 0) (sym (row k .wide2 .ensures)) ∙ k .before .before .before .before .before .before .before .before .before .before .if2 .left
+
 returns-3 : tie.Need-returns-3
 returns-3 c =
-    let s = c .before .before .before .before .before .before .before .before .before .before .before .before .before .before .before .before in
-    let found = c .before .find-rest .ensures (keys s) (c .before .before .before .before .before .put-goal2 .ensures) in
-    let k : kind (table s) (s .args .entry) ≡ Kind.AND = kind-is (c .before .before .before .before .before .before .before .before .before .before .before .before .before) ∙ c .before .before .before .before .before .before .before .before .before .before .before .if2 .left in
-    many-left (table s) (s .args .entry) (first s) (second s) k (omega (arith, rest-many (s .pre .0) (s .pre .1) found, c .if3 .taken))
+    let k = c .before in
+    let s = begun k in
+    let found = k .find-rest .ensures (keys s) (k .before .before .before .before .put-goal2 .ensures) in
+    many-left (table s) (s .args .entry) (first s) (second s) (is-and k) (omega (arith, rest-many (s .pre .0) (s .pre .1) found, c .if3 .taken))
 
 rest-fits-requires : tie.Need-rest-fits-requires
 rest-fits-requires c κs =
-    let s = c .before .before .before .before .before .before .before .before .before .before .before .before .before .before .before .before .before .before .before in
+    let k = c .before .before .before .before in
+    let s = begun k in
     let p = s .pre .0 in
-    let found = c .before .before .before .before .find-rest .ensures (keys s) (c .before .before .before .before .before .before .before .before .put-goal2 .ensures) in
-    let k : getD (s .args .kinds .now) (s .args .entry) 0 ≡ Kind.AND = ap (λ (e : ℕ). getD (s .args .kinds .now) e 0) (sym (c .before .before .before .before .before .before .before .before .before .before .before .before .before .before .before .before .wide2 .ensures)) ∙ c .before .before .before .before .before .before .before .before .before .before .before .before .before .before .if2 .left in
-    (record { well = p .well; numbers = p .numbers; small = p .small; inside = there (c .before .before .before .before .before .before .before .before .before .before .before .before .before .before .before .before); of-kind = k }, rest-inside p (s .pre .1) found)
+    let found = k .find-rest .ensures (keys s) (k .before .before .before .before .put-goal2 .ensures) in
+    (record { well = p .well; numbers = p .numbers; small = p .small; inside = there (row k); of-kind = kept-and k }, rest-inside p (s .pre .1) found)
 
 -- what the last test says
-fit-told : (c : tie.After-rest-fits) → let s = c .before .before .before .before .before .before .before .before .before .before .before .before .before .before .before .before .before .before .before .before in c .rest-fits .result ≡ fits (table s) (s .args .entry) (first s) (second s)
+fit-told : (c : tie.After-rest-fits) → let s = begun (c .before .before .before .before .before) in c .rest-fits .result ≡ fits (table s) (s .args .entry) (first s) (second s)
 fit-told c =
-    let s = c .before .before .before .before .before .before .before .before .before .before .before .before .before .before .before .before .before .before .before .before in
+    let k = c .before .before .before .before .before in
+    let s = begun k in
     let p = s .pre .0 in
-    let found = c .before .before .before .before .before .find-rest .ensures (keys s) (c .before .before .before .before .before .before .before .before .before .put-goal2 .ensures) in
-    let k : kind (table s) (s .args .entry) ≡ Kind.AND = kind-is (c .before .before .before .before .before .before .before .before .before .before .before .before .before .before .before .before .before) ∙ c .before .before .before .before .before .before .before .before .before .before .before .before .before .before .before .if2 .left in
-    c .rest-fits .ensures (first s) (second s) (goals-held p (c .before .before .before .before .before .before .before .before .before .before .before .before .put-goal .ensures) (c .before .before .before .before .before .before .before .before .before .put-goal2 .ensures))
+    let found = k .find-rest .ensures (keys s) (k .before .before .before .before .put-goal2 .ensures) in
+    c .rest-fits .ensures (first s) (second s) (goals-held p (k .before .before .before .before .before .before .before .put-goal .ensures) (k .before .before .before .before .put-goal2 .ensures))
     ∙ ap (restFits (table s) (s .args .entry) (first s) (second s)) (rest-stands p (s .pre .1) found)
-    ∙ sym (few-left (table s) (s .args .entry) (first s) (second s) k (omega (arith, rest-many p (s .pre .1) found, c .before .before .before .before .if3 .left)))
+    ∙ sym (few-left (table s) (s .args .entry) (first s) (second s) (is-and k) (omega (arith, rest-many p (s .pre .1) found, c .before .before .before .before .if3 .left)))
 
 returns-4 : tie.Need-returns-4
-returns-4 c = sym (fit-told (c .before)) ∙ unfit (c .before .rest-fits .result) (c .if4 .taken)
-  where
-    unfit : (b : Bool) → not b ≡ true → b ≡ false
-    unfit true h = absurd (false≢true h)
-    unfit false h = refl
+returns-4 c = sym (fit-told (c .before)) ∙ not-true (c .before .rest-fits .result) (c .if4 .taken)
 
 enter-requires : tie.Need-enter-requires
 enter-requires c κs =
-    let s = c .before .before .before .before .before .before .before .before .before .before .before .before .before .before .before .before .before .before .before .before .before .before in
-    let found = c .before .before .before .before .before .before .before .find-rest .ensures (keys s) (c .before .before .before .before .before .before .before .before .before .before .before .put-goal2 .ensures) in
+    let k = c .before .before .before .before .before .before .before in
+    let s = begun k in
+    let found = k .find-rest .ensures (keys s) (k .before .before .before .before .put-goal2 .ensures) in
     (rest-long (s .pre .0) (s .pre .1) found, c .before .before .before .before .before .before .if3 .left, rest-rising (s .pre .0) (s .pre .1) found)
 
 add-t17 : tie.Need-add-t17
@@ -125,13 +135,11 @@ add-t17 c = search needs
 
 returns-5 : tie.Need-returns-5
 returns-5 c =
-    let s = c .before .before .before .before .before .before .before .before .before .before .before .before .before .before .before .before .before .before .before .before .before .before .before in
-    let found = c .before .before .before .before .before .before .before .before .find-rest .ensures (keys s) (c .before .before .before .before .before .before .before .before .before .before .before .before .put-goal2 .ensures) in
-    goal-joined (s .pre .0) (s .pre .1) found (sym (fit-told (c .before .before .before)) ∙ fit (c .before .before .before .rest-fits .result) (c .before .before .if4 .left)) (c .before .before .before .before .before .before .before .if3 .left) (c .enter .ensures)
-  where
-    fit : (b : Bool) → not b ≡ false → b ≡ true
-    fit true h = refl
-    fit false h = absurd (true≢false h)
+    let k = c .before .before .before .before .before .before .before .before in
+    let s = begun k in
+    let found = k .find-rest .ensures (keys s) (k .before .before .before .before .put-goal2 .ensures) in
+    let fit = sym (fit-told (c .before .before .before)) ∙ not-false (c .before .before .before .rest-fits .result) (c .before .before .if4 .left) in
+    goal-joined (s .pre .0) (s .pre .1) found fit (c .before .before .before .before .before .before .before .if3 .left) (c .enter .ensures)
 
 pub join-goals-spec : {M : Type 1} → statement M
 join-goals-spec =
