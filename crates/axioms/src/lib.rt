@@ -1,4 +1,6 @@
 // Rules 0 and 1, the axioms, which no child follows.
+#![tactic(auto)]
+
 ghost use Rattle.std.specs.Prelude.{◌≡◌, List, ℕ, ◌+◌, ◌<◌};
 ghost use Rattle.verdict.specs.Tests.{all};
 ghost use Rattle.formula.specs.Plain.{table_of};

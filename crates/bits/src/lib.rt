@@ -1,4 +1,6 @@
 // Numbers in machine words: a two-byte field as an index, what a bit of a map brings, a word's lowest bit. The bits of a word are in specs/.
+#![tactic(auto)]
+
 ghost use Rattle.std.specs.Prelude.{◌≡◌, ◌≤◌};
 ghost use Rattle.bits.specs.IfSet.{if_set_lem};
 ghost use Rattle.bits.specs.LowestBit.{LowestBit};

@@ -1,4 +1,6 @@
 // A fixpoint's block: gathered from what its entries read, and iterated until each word is formed of the others.
+#![tactic(auto)]
+
 ghost use Rattle.std.specs.Prelude.{◌≡◌, ◌<◌, ◌≤◌, length, get_or, set};
 ghost use Rattle.bits.specs.WordSet.{in_set};
 ghost use Rattle.entry_sets.specs.Sets.{Inserted};

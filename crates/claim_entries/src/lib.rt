@@ -1,4 +1,6 @@
 // The entries of a claim file: each at its place (13), their count (12), and their columns.
+#![tactic(auto)]
+
 ghost use Rattle.std.specs.Prelude.{◌≡◌, ◌&&◌, ◌+◌, ◌*◌, ◌≤◌, eqb, length};
 ghost use Rattle.verdict.specs.Tests.{choose};
 ghost use Rattle.formula.specs.Fields.{is_modal_lem};
@@ -14,7 +16,7 @@ use file_parts::{Number, Part, count_at, field_at};
 use formula::Kind;
 
 // An entry as the columns hold it, and the place after it.
-#[derive(Drop)]
+#[derive(Clone, Copy)]
 pub enum EntryRead {
     Read {
         kind: u8,

@@ -1,5 +1,6 @@
 // Claim files: their encoding, what 10 to 14 and 72 mean, the first fault in the order of the bytes, and that this is exact: in specs/. Here only the
 // numbers that code above goes by.
+#![tactic(auto)]
 
 // The first four bytes of a claim file: with one goal, and with several.
 pub const CLAIM_OPENING: [u8; 4] = *b"CLM1";
@@ -7,7 +8,7 @@ pub const CLAIM_OPENING: [u8; 4] = *b"CLM1";
 pub const GOALS_OPENING: [u8; 4] = *b"CLM2";
 
 // What the bytes of a claim earn.
-#[derive(Drop)]
+#[derive(Clone, Copy)]
 pub struct ClaimFault;
 
 impl ClaimFault {

@@ -1,4 +1,6 @@
 // The members of a claim's goals: each at its place (14), their count (12), and their column. The goals, one after the other, are in `goals`.
+#![tactic(auto)]
+
 ghost use Rattle.std.specs.Prelude.{◌≡◌, ◌+◌, ◌*◌, ◌≤◌, length};
 ghost use Rattle.encoding.specs.Places.{InFile};
 ghost use Rattle.file_parts.specs.Numbers.{NumberTells};

@@ -1,5 +1,7 @@
 // Claim files: the first fault in the order of the bytes (10 to 14 and 72), and the table and goals of a file that has none. What these
 // numbers mean is in the crate claim_files.
+#![tactic(auto)]
+
 ghost use Rattle.std.specs.Prelude.{◌≡◌, ◌<◌};
 ghost use Rattle.encoding.specs.Opening.{opens};
 ghost use Rattle.formula.specs.Claim.{clm1, clm2};
@@ -18,7 +20,7 @@ use formula::Form;
 use verdict::Verdict;
 
 // A claim's form and its counts, or its refusal. Number and place are whole words: what is stored in halves and loaded at once has to wait.
-#[derive(Drop)]
+#[derive(Clone, Copy)]
 pub enum ClaimRead {
     Read {
         form: u8,

@@ -1,4 +1,6 @@
 // A back leaf's link to its companion (38), told in one step by the entry and exit numbers of the trees.
+#![tactic(auto)]
+
 ghost use Rattle.std.specs.Prelude.{◌+◌, ◌*◌, ◌<◌, length};
 ghost use Rattle.companions.specs.Companions.{Companion};
 

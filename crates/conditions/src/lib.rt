@@ -1,1 +1,2 @@
 // Free names, alternation and guardedness: what refusals 20 to 23 mean, their tests, and that these are exact: all in specs/.
+#![tactic(auto)]

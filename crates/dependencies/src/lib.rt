@@ -1,4 +1,6 @@
 // What each entry depends on: its highest free name, and which entries read whose words; and the actions that the claim has.
+#![tactic(auto)]
+
 ghost use Rattle.std.specs.Prelude.{◌≡◌, true, false, max, ◌<◌, ◌≤◌, length, get_or};
 ghost use Rattle.forming.specs.Claim.{Claim};
 ghost use Rattle.dependencies.specs.Tops.{top_from, Tops};

@@ -1,4 +1,6 @@
 // The successors of each state as words, made edge by edge: quicker than action by action where there are few edges.
+#![tactic(auto)]
+
 ghost use Rattle.std.specs.Prelude.{◌≡◌, ◌+◌, ◌*◌, ◌%◌, ◌<◌, ◌≤◌, length, replicate};
 ghost use Rattle.bits.specs.Bits.{bit};
 ghost use Rattle.states.specs.Rows.{RowWords};

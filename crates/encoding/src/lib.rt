@@ -1,5 +1,7 @@
 // What the readers of files share: opening letters, and numbers of two and four bytes, little-endian. The encodings, the parsers
 // and their laws are in specs/.
+#![tactic(auto)]
+
 ghost use Rattle.std.specs.Prelude.{◌≡◌, [], ◌∷◌, ◌+◌, ◌<◌, length};
 ghost use Rattle.encoding.specs.Parse.{word, double};
 ghost use Rattle.encoding.specs.Opening.{opens};

@@ -1,4 +1,6 @@
 // Sets of entries, by number: number k is bit k % 64 of word k / 64.
+#![tactic(auto)]
+
 ghost use Rattle.std.specs.Prelude.{◌≡◌, ◌*◌, ◌%◌, ◌<◌, length};
 ghost use Rattle.bits.specs.WordLaws.{without_bit};
 ghost use Rattle.bits.specs.WordSet.{in_set};

@@ -1,5 +1,7 @@
 // An evaluation in plain numbers: the claim's refusals, then the model's, then each entry's word. The claim's columns are lent, since its
 // entries' records are stored from them.
+#![tactic(auto)]
+
 ghost use Rattle.std.specs.Prelude.{◌≤◌, length};
 ghost use Rattle.formula.specs.Plain.{table_of};
 ghost use Rattle.claim_entries.specs.ClaimEntries.{EntryArrays};
@@ -15,7 +17,7 @@ use model::tables::{decode_model, state_count};
 use reader::read_formed;
 
 // How many entries' records are to be stored, and what is answered: 0, or refusal × 2^32 + place.
-#[derive(Drop)]
+#[derive(Clone, Copy)]
 pub struct Evaluation {
     pub answer: u64,
     pub entries: usize,

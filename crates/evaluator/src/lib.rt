@@ -1,4 +1,6 @@
 // The evaluator: the word of every entry of a claim in a model. What it writes is defined in the crate states (specs/Words).
+#![tactic(auto)]
+
 ghost use Rattle.std.specs.Prelude.{◌≡◌, ◌<◌, ◌≤◌, length, get_or};
 ghost use Rattle.states.specs.Words.{words as entryWords};
 ghost use Rattle.states.specs.PlainModel.{words_in};

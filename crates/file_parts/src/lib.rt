@@ -1,16 +1,18 @@
 // The parts of a file, at their places: two-byte numbers, little-endian, which are fields that stand or not and counts in their range; lists.
+#![tactic(auto)]
+
 ghost use Rattle.std.specs.Prelude.{◌+◌};
 ghost use Rattle.encoding.specs.Places.{InFile};
 ghost use Rattle.file_parts.specs.Numbers.{NumberTells, two_at_lem, field_at, count_at_lem};
 
-#[derive(Drop)]
+#[derive(Clone, Copy)]
 pub enum Number {
     Read { value: u16, next: usize },
     Refused { number: u16, place: u16 },
 }
 
 // The part of the file that lists entries or members: how many, and the place after it.
-#[derive(Drop)]
+#[derive(Clone, Copy)]
 pub enum Part {
     Read { count: usize, next: usize },
     Refused { number: u16, place: u16 },

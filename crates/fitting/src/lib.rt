@@ -1,5 +1,7 @@
 // 73: whether two claims have the same entries, and whether their goals fit at an entry "A and B"; the members of the joined goal. Formulas are
 // compared by their numbers (crate numbers), in sets.
+#![tactic(auto)]
+
 ghost use Rattle.std.specs.Prelude.{◌≡◌, List, true, ℕ, ◌+◌, ◌<◌, ◌≤◌, length, take};
 ghost use Rattle.verdict.specs.Lists.{Rising, written};
 ghost use Rattle.verdict.specs.Tests.{member};
@@ -132,7 +134,7 @@ fn rest_fits(
 }
 
 // How many members the joined goal has, or that the two do not fit.
-#[derive(Drop)]
+#[derive(Clone, Copy)]
 pub enum Goal {
     Joined { members: usize },
     Unfit,

@@ -3,13 +3,15 @@
 // A buffer holds 65,536 bytes, more than any good file has: of a longer file its start earns the same refusal, 11 or 31 at the first
 // byte that follows. A file is whole once a read has met its end; one that cannot be opened, or of which a read fails, gets a line on
 // standard error, and there is no verdict.
+#![tactic(auto)]
+
 ghost use Rattle.io.specs.Counts.{IsPrefixLen};
 
 use libc::STDOUT_FILENO;
 use verdict::Verdict;
 
 // How many bytes of a file came, and whether they are all of it, or as many as the buffer holds: not so after a read that failed.
-#[derive(Drop)]
+#[derive(Clone, Copy)]
 struct FileRead {
     count: usize,
     whole: bool,

@@ -1,4 +1,6 @@
 // An entry's word formed of the words of others, one step. Why steps lead to own meanings is in specs/ (Settled).
+#![tactic(auto)]
+
 ghost use Rattle.std.specs.Prelude.{◌≡◌, ◌<◌, ◌≤◌, length};
 ghost use Rattle.forming.specs.Ready.{Ready, leaf_word_lem, formed_word};
 

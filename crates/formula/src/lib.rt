@@ -1,4 +1,6 @@
 // The entry kinds and the rules, each with one named constant for each number and the fields that it has; and the target of an operand.
+#![tactic(auto)]
+
 ghost use Rattle.std.specs.Prelude.{◌≡◌, List, ℕ, ◌+◌, ◌<◌, ◌≤◌};
 ghost use Rattle.bits.specs.IfSet.{if_set_lem};
 ghost use Rattle.formula.specs.Claim as claims;
@@ -9,7 +11,7 @@ ghost use Rattle.formula.specs.Target as targets;
 
 use bits::if_set;
 
-#[derive(Drop)]
+#[derive(Clone, Copy)]
 pub struct Kind;
 
 impl Kind {
@@ -78,7 +80,7 @@ impl Kind {
 }
 
 // The forms of a claim with its proof, as the calls name them: CLM1 with PRF1 for one goal, CLM2 with PRF2 for several.
-#[derive(Drop)]
+#[derive(Clone, Copy)]
 pub struct Form;
 
 impl Form {
@@ -97,7 +99,7 @@ impl Form {
     }
 }
 
-#[derive(Drop)]
+#[derive(Clone, Copy)]
 pub struct Rule;
 
 impl Rule {

@@ -1,4 +1,6 @@
 // Refusal 36: each root's members are its goal's, all in focus.
+#![tactic(auto)]
+
 ghost use Rattle.std.specs.Prelude.{ℕ, ◌<◌, ◌≡◌, List, take};
 ghost use Rattle.verdict.specs.Shown.{shown};
 ghost use Rattle.formula.specs.Table.{Table};

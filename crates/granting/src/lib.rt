@@ -1,4 +1,6 @@
 // The two ends of presenting: what stands before the files, and the state that a verdict leaves.
+#![tactic(auto)]
+
 ghost use Rattle.std.specs.Prelude.{◌≡◌};
 ghost use Rattle.verdict.specs.Shown.{shown};
 ghost use Rattle.verdict.specs.declared.Verdict.TheVariants.{Refused};

@@ -1,4 +1,6 @@
 // Two goals over one table with their proofs: 73, 74 and 70, and then both files of the whole. No refusal writes a byte.
+#![tactic(auto)]
+
 ghost use Rattle.std.specs.Prelude.{length, take};
 ghost use Rattle.formula.specs.Plain.{table_of};
 ghost use Rattle.nodes.specs.ProofDecode.{proof_in};
@@ -16,7 +18,7 @@ use numbers::number_formulas;
 use writer::{SliceFault, refuse};
 
 // What two accepted inputs earn that do not join.
-#[derive(Drop)]
+#[derive(Clone, Copy)]
 pub struct JoinFault;
 
 impl JoinFault {

@@ -1,4 +1,6 @@
 // The joined proof laid down in a lent slice: opening and count, the new root, the first tree and the second, renumbered in that order.
+#![tactic(auto)]
+
 ghost use Rattle.std.specs.Prelude.{◌≡◌, ◌+◌, ◌<◌, ◌≤◌, length, take};
 ghost use Rattle.verdict.specs.Lists.{written};
 ghost use Rattle.proof_files.specs.ProofFile.{encode_node};

@@ -1,5 +1,7 @@
 // Two claims with their proofs joined (T-07): both inputs are judged first, each in memory that is given back before the next is judged; then
 // their claims are read once more, side by side, and the whole is laid down. No refusal writes a byte.
+#![tactic(auto)]
+
 ghost use Rattle.std.specs.Prelude.{◌≡◌, length};
 ghost use Rattle.verdict.specs.Verdict.{accepted};
 ghost use Rattle.verdict.specs.Shown.{shown};

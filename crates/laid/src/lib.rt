@@ -1,1 +1,2 @@
 // What was read, laid out as the judge of the rules asks. No code.
+#![tactic(auto)]

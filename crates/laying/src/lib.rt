@@ -1,5 +1,7 @@
 // Claims and proofs of both forms as bytes: records that were judged, laid down in a lent slice from columns of plain numbers. Beyond the file the
 // slice is as it was.
+#![tactic(auto)]
+
 ghost use Rattle.std.specs.Prelude.{◌≡◌, [], ◌∷◌, ◌++◌, ◌+◌, ◌*◌, ◌<◌, ◌≤◌, length};
 ghost use Rattle.std.proofs.lemmas.List.Edits.{sets};
 ghost use Rattle.verdict.specs.Lists.{written};

@@ -1,5 +1,7 @@
 // The files judged as they stand in lent slices: the claim's entries are stored as records and loaded from where they stand, then the nodes.
 // A refusal before the rules stores nothing.
+#![tactic(auto)]
+
 ghost use Rattle.std.specs.Prelude.{◌≡◌};
 ghost use Rattle.verdict.specs.Verdict.{accepted};
 ghost use Rattle.verdict.specs.Shown.{shown};

@@ -1,5 +1,7 @@
 // The records of a proof as they stand in the slices that a caller lends, loaded into columns of plain numbers and written from there as a
 // file, the claim's records judged first: the file's length, or 2^32 + refusal × 65,536 + place.
+#![tactic(auto)]
+
 ghost use Rattle.std.specs.Prelude.{◌≤◌};
 ghost use Rattle.lent_records.specs.WriteCall.{WriteProofCall};
 

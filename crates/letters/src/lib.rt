@@ -1,4 +1,6 @@
 // The words of all states and of those with a letter; how a word is made from the last state down.
+#![tactic(auto)]
+
 ghost use Rattle.std.specs.Prelude.{◌≡◌, ◌+◌, ◌*◌, ◌^◌, ◌<◌, ◌≤◌, eqb, get_or};
 ghost use Rattle.formula.specs.Shape.{nu};
 ghost use Rattle.meaning.specs.States.{start};

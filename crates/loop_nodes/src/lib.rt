@@ -1,4 +1,6 @@
 // Which nodes may lie on a loop path (39): by the rule and the sequent of each alone.
+#![tactic(auto)]
+
 ghost use Rattle.std.specs.Prelude.{◌≡◌, ◌+◌, ◌-◌, ◌<◌, ◌≤◌, length, take, drop, get_or};
 ghost use Rattle.verdict.specs.Tests.{any};
 ghost use Rattle.formula.specs.PlainNodes.{codes_at_lem};

@@ -1,4 +1,6 @@
 // The loop path from a back leaf's companion down to it (39), told in one step by two tables of the trees.
+#![tactic(auto)]
+
 ghost use Rattle.std.specs.Prelude.{◌≡◌, ◌+◌, ◌*◌, ◌<◌, ◌≤◌, length, get_or};
 ghost use Rattle.verdict.specs.Shown.{shown};
 ghost use Rattle.formula.specs.PlainNodes.{proof_of};

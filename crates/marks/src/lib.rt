@@ -1,5 +1,7 @@
 // Sixteen marks of the successor table at a time: of each the bit of one action. Four marks lie side by side in a word, so that a shift and
 // a mask take the bit of each at once.
+#![tactic(auto)]
+
 ghost use Rattle.std.specs.Prelude.{◌≡◌, ◌+◌, ◌<◌, ◌≤◌};
 ghost use Rattle.bits.specs.Bits.{bit, digit};
 ghost use Rattle.model_files.specs.DescribedLaws.{cell};

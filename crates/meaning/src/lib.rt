@@ -1,1 +1,2 @@
 // The Kripke meaning of formulas in finite models: definitions and theorems alone, in specs/.
+#![tactic(auto)]

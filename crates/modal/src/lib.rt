@@ -1,4 +1,6 @@
 // Rule 4, the box step.
+#![tactic(auto)]
+
 ghost use Rattle.std.specs.Prelude.{◌≡◌, List, [], ℕ, ◌<◌, get_or};
 ghost use Rattle.verdict.specs.Sets.{elements};
 ghost use Rattle.verdict.specs.Tests.{all, each};

@@ -1,4 +1,6 @@
 // The modal steps on words, over the successors of each state by one action as words.
+#![tactic(auto)]
+
 ghost use Rattle.std.specs.Prelude.{◌≡◌, ◌||◌, ◌&&◌, not, ◌≤◌, length, get_or};
 ghost use Rattle.meaning.specs.Truth.{some, every};
 ghost use Rattle.bits.specs.Bits.{bit};

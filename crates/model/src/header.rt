@@ -8,13 +8,13 @@ ghost use Rattle.model.specs.HeaderSteps.{InModel, MaskFollows, MaskedTells, Act
 
 use model_files::ModelFault;
 
-#[derive(Drop)]
+#[derive(Clone, Copy)]
 pub enum Masked {
     Read { map: u8, mask: u32, next: usize },
     Refused { number: u16, place: u32 },
 }
 
-#[derive(Drop)]
+#[derive(Clone, Copy)]
 pub enum Header {
     Read {
         mask: u32,

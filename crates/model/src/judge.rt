@@ -17,14 +17,14 @@ use super::header::{Header, header_at};
 use model_files::{MODEL_OPENING, ModelFault, STATES};
 
 // The verdict on a model: its places can lie above 65,535.
-#[derive(Drop)]
+#[derive(Clone, Copy)]
 pub enum Judged {
     Accepted,
     Refused { number: u16, place: u32 },
 }
 
 // What a step over the file finds: the place after what it read, or a refusal.
-#[derive(Drop)]
+#[derive(Clone, Copy)]
 enum Step {
     Next(usize),
     Stop { number: u16, place: u32 },

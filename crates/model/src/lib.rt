@@ -1,4 +1,6 @@
 // Model files, in both forms: judged first, and decoded only where they are good. The encoding, the reading and its laws are in model_files.
+#![tactic(auto)]
+
 ghost use Rattle.std.specs.Prelude.{◌≡◌};
 ghost use Rattle.encoding.specs.Opening.{opens};
 ghost use Rattle.model_files.specs.ModelFile.{mdl2, opening};

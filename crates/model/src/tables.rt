@@ -12,7 +12,7 @@ use super::FIRST_STATE;
 use super::header::{Header, header_at};
 
 // A header with the place of what follows it.
-#[derive(Drop)]
+#[derive(Clone, Copy)]
 struct Known {
     mask: u32,
     actions: u16,
@@ -20,7 +20,7 @@ struct Known {
 }
 
 // A state's letter mask, and the place of what follows it.
-#[derive(Drop)]
+#[derive(Clone, Copy)]
 struct Put {
     mask: u32,
     next: usize,

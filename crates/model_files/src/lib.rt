@@ -1,5 +1,6 @@
 // Model files: their encoding in both forms, what 60 to 64 mean, the first fault in the order of the bytes, and that this is exact: in specs/.
 // Here only the numbers that code above goes by.
+#![tactic(auto)]
 
 // The first four bytes of a model file for action 0 alone, and of one for all actions.
 pub const MODEL_OPENING: [u8; 4] = *b"MDL1";
@@ -10,7 +11,7 @@ pub const ACTIONS_OPENING: [u8; 4] = *b"MDL2";
 pub const STATES: usize = 64;
 
 // What the bytes of a model earn.
-#[derive(Drop)]
+#[derive(Clone, Copy)]
 pub struct ModelFault;
 
 impl ModelFault {

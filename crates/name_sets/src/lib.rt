@@ -1,5 +1,7 @@
 // Sets of names: an entry's free names, or those reached from it through no box or diamond. A bit for each entry number below 256; word i
 // has the bits of the numbers from 64 × i on. A slice of words holds a set in each row of four.
+#![tactic(auto)]
+
 ghost use Rattle.std.specs.Prelude.{◌≡◌, false, not, ◌||◌, ◌&&◌, ◌+◌, ◌*◌, ◌<◌, ◌≤◌, eqb, ltb, length};
 ghost use Rattle.verdict.specs.Tells.{Tells};
 ghost use Rattle.name_sets.specs.NameSets.{holds, Marks, Shared, kept};
@@ -8,7 +10,7 @@ ghost use Rattle.name_sets.specs.RowWords.{row_of, with_row};
 
 use bits::lowest_bit;
 
-#[derive(Drop)]
+#[derive(Clone, Copy)]
 pub struct Names(pub u64, pub u64, pub u64, pub u64);
 
 pub fn none() -> Names

@@ -1,4 +1,6 @@
 // The roots of a judged proof file, and its nodes as columns of plain numbers: rules, links, starts and codes.
+#![tactic(auto)]
+
 ghost use Rattle.std.specs.Prelude.{◌≡◌, ℕ, ◌+◌, ◌*◌, ◌≤◌, ◌<◌, length, set};
 ghost use Rattle.std.proofs.lemmas.List.Edits.{sets};
 ghost use Rattle.bits.specs.IfSet.{if_set_lem};
@@ -64,7 +66,7 @@ fn copy_words(bytes: &[u8], at: usize, n: usize, words: &mut [u16], start: usize
 }
 
 // Where the next node stands, and where its codes go.
-#[derive(Drop)]
+#[derive(Clone, Copy)]
 pub struct Spot {
     pub at: usize,
     pub start: usize,

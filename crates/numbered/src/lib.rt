@@ -1,4 +1,6 @@
 // Opening, closing and taking by value, answered by the numbers of the C calls.
+#![tactic(auto)]
+
 ghost use Rattle.std.specs.Prelude.{◌≡◌};
 ghost use Rattle.permit.specs.GateState.{opening, closing, taking};
 ghost use Rattle.permit.specs.Numbers.{packed_permit};
@@ -9,7 +11,7 @@ use permit::{Numbered, Permit, State, close_step, open_step, take_step};
 use verdict::pack;
 
 // The state that taking leaves, and the number that it answers.
-#[derive(Drop)]
+#[derive(Clone, Copy)]
 pub struct NumberedPermit {
     pub state: State,
     pub answer: u64,

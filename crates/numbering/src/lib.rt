@@ -1,1 +1,2 @@
 // When a table of numbers, one for each entry and number of names bound, tells formulas apart: definitions and theorems alone, in specs/.
+#![tactic(auto)]

@@ -1,5 +1,7 @@
 // The number of each formula of a table that earns none of 20 to 23: the least entry, no name, that has it. Entries are the same formula
 // just where these numbers are equal.
+#![tactic(auto)]
+
 ghost use Rattle.std.specs.Prelude.{◌≡◌, ◌<◌, ◌≤◌, length};
 ghost use Rattle.formula.specs.Plain.{table_of};
 ghost use Rattle.numbers.specs.First.{Told, Firsts, FirstEach};

@@ -1,5 +1,7 @@
 // Whether two entries, with the same number of names bound in each, are the same form one level down: their shapes, which of the bound
 // names each operand has, and the numbers that the operands' forms have got. What lies deeper is told by these numbers.
+#![tactic(auto)]
+
 ghost use Rattle.std.specs.Prelude.{◌≡◌, ◌+◌, ◌*◌, ◌<◌, ◌≤◌, length, get_or};
 ghost use Rattle.verdict.specs.Tells.{Tells};
 ghost use Rattle.name_sets.specs.RowWords.{row_of};

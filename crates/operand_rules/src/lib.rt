@@ -1,5 +1,7 @@
 // The rules that put operands of the principal in its place (2, 3, 5, 6): the sequent that the rule asks of a child, and the child's, are
 // compared as sets.
+#![tactic(auto)]
+
 ghost use Rattle.std.specs.Prelude.{◌≡◌, ◌<◌};
 ghost use Rattle.formula.specs.Plain.{table_of};
 ghost use Rattle.sequents.specs.Placed.{Coded, OneChild, TwoChildren};

@@ -1,5 +1,7 @@
 // Refusals 20 and 71 in one walk over all entries: a letter, operand or name out of its bounds, or a name of no fixpoint; then an action
 // above 15.
+#![tactic(auto)]
+
 ghost use Rattle.std.specs.Prelude.{◌≡◌, ◌<◌, ◌≤◌};
 ghost use Rattle.formula.specs.Plain.{table_of};
 ghost use Rattle.conditions.specs.Judge.{far};
@@ -74,7 +76,7 @@ fn number_at(kinds: &[u8; 256], a: &[u16; 256], b: &[u16; 256], count: usize, e:
 }
 
 // What the first entry with a fault earns, and which entry that is.
-#[derive(Drop)]
+#[derive(Clone, Copy)]
 pub struct Fault {
     pub number: u16,
     pub entry: usize,

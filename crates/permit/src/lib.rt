@@ -1,4 +1,6 @@
 // The gate's states, and its steps by value: opening, closing and taking.
+#![tactic(auto)]
+
 ghost use Rattle.std.specs.Prelude.{◌≡◌};
 ghost use Rattle.permit.specs.GateState.{opening, closing, taking};
 ghost use Rattle.permit.specs.Plain.{state_of, Stepped, TookStep, refused_with, moved_to, denied_with};
@@ -6,13 +8,13 @@ ghost use Rattle.permit.specs.Plain.{state_of, Stepped, TookStep, refused_with, 
 use verdict::Verdict;
 
 #[repr(C)]
-#[derive(Drop)]
+#[derive(Clone, Copy)]
 pub struct State {
     pub phase: u8,
     pub tag: u32,
 }
 
-#[derive(Drop)]
+#[derive(Clone, Copy)]
 pub struct Phase;
 
 impl Phase {
@@ -24,26 +26,26 @@ impl Phase {
 }
 
 // The answer of a step and the state that it leaves.
-#[derive(Drop)]
+#[derive(Clone, Copy)]
 pub struct Changed {
     pub answer: Verdict,
     pub state: State,
 }
 
-#[derive(Drop)]
+#[derive(Clone, Copy)]
 pub enum Permit {
     Granted { tag: u32 },
     Denied { number: u16, place: u16 },
 }
 
-#[derive(Drop)]
+#[derive(Clone, Copy)]
 pub struct Taken {
     pub answer: Permit,
     pub state: State,
 }
 
 // The state that a step leaves, and the number that it answers.
-#[derive(Drop)]
+#[derive(Clone, Copy)]
 pub struct Numbered {
     pub state: State,
     pub answer: u32,

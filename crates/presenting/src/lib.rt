@@ -1,5 +1,7 @@
 // "Presenting a tag, claim and proof (on acceptance it holds that tag)": what stands before the files, what the judge says of the files in
 // the lent slices, and the state that the verdict leaves.
+#![tactic(auto)]
+
 ghost use Rattle.std.specs.Prelude.{◌≡◌};
 ghost use Rattle.verdict.specs.Verdict.{accepted};
 ghost use Rattle.verdict.specs.Shown.{shown};

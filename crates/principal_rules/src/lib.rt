@@ -1,5 +1,7 @@
 // The rules with a principal (2 to 9), at a node: the sequent that the rule asks of a child, and the child's, are compared as sets. The tests
 // of 2 and 3 are in the crate operand_rules, that of 4 in modal, those of 5 to 9 in side_rules.
+#![tactic(auto)]
+
 ghost use Rattle.std.specs.Prelude.{◌≡◌, ◌*◌, ◌<◌, ◌≤◌, get_or};
 ghost use Rattle.formula.specs.Rule.{OR, U};
 ghost use Rattle.formula.specs.Plain.{table_of};

@@ -1,5 +1,6 @@
 // Proof files: their encoding in both forms, what 30 to 34 mean, the first fault in the order of the bytes, and that this is exact: in specs/. Here only the
 // numbers that code above goes by.
+#![tactic(auto)]
 
 // The first four bytes of a proof file beside a claim for one goal, and of one beside a claim for several.
 pub const PROOF_OPENING: [u8; 4] = *b"PRF1";
@@ -10,7 +11,7 @@ pub const GOALS_OPENING: [u8; 4] = *b"PRF2";
 pub const AFTER_COUNT: usize = 6;
 
 // What the bytes of a proof earn.
-#[derive(Drop)]
+#[derive(Clone, Copy)]
 pub struct ProofFault;
 
 impl ProofFault {

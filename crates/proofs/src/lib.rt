@@ -1,5 +1,7 @@
 // Proof files: the first fault in the order of the bytes, and the nodes of a file that has none.
 // Places fit two bytes: at most 16 roots take two bytes each and a node at most 57, so none begins after 6 + 2 × 16 + 57 × 1,024 = 58,406.
+#![tactic(auto)]
+
 ghost use Rattle.std.specs.Prelude.{◌≡◌, true, ◌+◌, ◌*◌, ◌≤◌, ◌<◌, length, drop};
 ghost use Rattle.verdict.specs.Shown.{shown};
 ghost use Rattle.formula.specs.Claim.{Form, form_number};
@@ -18,7 +20,7 @@ use proof_files::{AFTER_COUNT, GOALS_OPENING, PROOF_OPENING, ProofFault};
 use verdict::Verdict;
 
 // What a step over the file finds: the place after what it read, or a refusal.
-#[derive(Drop)]
+#[derive(Clone, Copy)]
 enum Step {
     Next(usize),
     Stop { number: u16, place: u16 },

@@ -1,1 +1,2 @@
 // Refutation within a number of modal steps, on which soundness rests: definitions and theorems alone, in specs/.
+#![tactic(auto)]

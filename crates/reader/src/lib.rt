@@ -1,5 +1,7 @@
 // The files in document 01's order, the one reading of all calls: the claim by bytes, its table, then the proof beside it. A claim that is
 // well formed is held in columns and lists of members that the caller lends, the roots of its proof in another; a refused file may leave a part of its decoding there.
+#![tactic(auto)]
+
 ghost use Rattle.std.specs.Prelude.{◌≡◌, length};
 ghost use Rattle.claims.specs.ClaimWalk.{ClaimArrays, ClaimTells};
 ghost use Rattle.reader.specs.Files.{read_formed_lem};
@@ -68,7 +70,7 @@ pub fn read_formed(
 }
 
 // How many entries, goals and nodes there are and where the nodes begin, or what comes before the rules.
-#[derive(Drop)]
+#[derive(Clone, Copy)]
 pub enum FilesRead {
     Read {
         entries: usize,
@@ -120,7 +122,7 @@ pub fn read_beside(
 
 // What was found of a claim and a proof, by value: a refusal, and no place, or how many entries, goals and nodes there are, and where the
 // nodes begin, which is after the opening.
-#[derive(Drop)]
+#[derive(Clone, Copy)]
 pub struct Found {
     pub verdict: Verdict,
     pub entries: usize,

@@ -1,5 +1,7 @@
 // "The decoded nodes stand as records in a slice the caller lends", and so do the entries: the records, read and written one at a time,
 // stored from columns of plain numbers and loaded into them.
+#![tactic(auto)]
+
 ghost use Rattle.std.specs.Prelude.{◌≡◌, ◌+◌, ◌*◌, ◌<◌, ◌≤◌, length, get_or, set};
 ghost use Rattle.verdict.specs.Lists.{written};
 ghost use Rattle.records.specs.Records.{blank_entry, blank_node, entry_of_lem, entries_of, node_of_lem, nodes_of};
@@ -7,7 +9,7 @@ ghost use Rattle.records.specs.Records.{EntryRoom, NodeRoom, FieldRoom, CountFit
 
 // "An entry's record is its kind, A and B."
 #[repr(C)]
-#[derive(Drop)]
+#[derive(Clone, Copy)]
 pub struct Entry {
     pub kind: u8,
     pub a: u16,
@@ -16,7 +18,7 @@ pub struct Entry {
 
 // "A record is the rule, the four two-byte fields and the code count."
 #[repr(C)]
-#[derive(Drop)]
+#[derive(Clone, Copy)]
 pub struct Node {
     pub rule: u8,
     pub principal: u16,

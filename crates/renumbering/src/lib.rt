@@ -1,5 +1,7 @@
 // A proof's nodes, numbered further on: each node of a judged file is decoded, the numbers of nodes in it are moved, and it is laid down in a
 // lent slice. Beyond the nodes the slice is as it was.
+#![tactic(auto)]
+
 ghost use Rattle.std.specs.Prelude.{◌≡◌, ◌≤◌, ◌<◌, length};
 ghost use Rattle.encoding.specs.Encode.{encode_all};
 ghost use Rattle.proof_files.specs.ProofFile.{encode_node};
@@ -36,7 +38,7 @@ fn move_links(rule: u8, links: &mut [u16; 4], by: u16)
 }
 
 // Where the next node stands, and where it goes.
-#[derive(Drop)]
+#[derive(Clone, Copy)]
 struct Places {
     from: usize,
     to: usize,

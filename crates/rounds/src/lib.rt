@@ -1,6 +1,8 @@
 // The rounds that fill the table of numbers. In the first every entry gets the number that it has with all its free names bound; then, for
 // each fixpoint from the highest down, every entry in which it is free gets that with one name fewer bound: the fixpoint is written out.
 // `hints` only guide the search, and nothing depends on them.
+#![tactic(auto)]
+
 ghost use Rattle.std.specs.Prelude.{◌≡◌, ◌||◌, ◌+◌, ◌*◌, ◌<◌, ◌≤◌, eqb, length, get_or};
 ghost use Rattle.name_sets.specs.NameSets.{holds, Marks};
 ghost use Rattle.name_sets.specs.RowWords.{row_of};

@@ -18,7 +18,7 @@ fn smaller(x: usize, y: usize) -> usize
 }
 
 // Field A of an entry, and where its operands' rows stand: at the operand, or at the entry itself where no operand lies below.
-#[derive(Drop)]
+#[derive(Clone, Copy)]
 pub struct Places {
     pub first: usize,
     pub left: usize,

@@ -1,5 +1,7 @@
 // The judge of refusals 20, 71 and 21 to 23 over an entry table in plain numbers. For 21, 22 and 23, free names, alternation and guardedness, it goes
 // entry by entry: an entry's free names, and the names reached from it through no box or diamond, are made once from those of its operands.
+#![tactic(auto)]
+
 ghost use Rattle.std.specs.Prelude.{◌≡◌, false, ◌&&◌, ℕ, ◌*◌, ◌<◌, ◌≤◌, eqb, ltb, length, get_or};
 ghost use Rattle.verdict.specs.Shown.{shown};
 ghost use Rattle.formula.specs.Plain.{table_of};

@@ -2,6 +2,8 @@
 // the same mark, one of 512 for each number of bound names, so where that mark does not stand yet there is none, and nothing is searched.
 // Where it stands, the last entry that had that mark, with whatever number of names bound, is tried before all others are: a twin is mostly
 // found there.
+#![tactic(auto)]
+
 ghost use Rattle.std.specs.Prelude.{◌≡◌, ◌||◌, ℕ, ◌+◌, ◌*◌, ◌<◌, ◌≤◌, eqb, length};
 ghost use Rattle.verdict.specs.Tells.{Tells};
 ghost use Rattle.bits.specs.WordSet.{in_set};

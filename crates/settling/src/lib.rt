@@ -1,5 +1,7 @@
 // An entry settled with what it reads: entry evaluation and fixpoint iteration, which call each other. Why the iteration is right is in
 // the crate blocks (specs/Iteration and specs/Gathering).
+#![tactic(auto)]
+
 ghost use Rattle.std.specs.Prelude.{◌<◌, length, get_or};
 ghost use Rattle.settling.specs.Evaluated.{Prepared, Known, Standing, Evaluated};
 

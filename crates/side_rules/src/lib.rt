@@ -1,5 +1,7 @@
 // The rules with one child, which has the side and at most one code more (5 to 9): what the rule asks of the child, and the child's sequent,
 // are compared as sets.
+#![tactic(auto)]
+
 ghost use Rattle.std.specs.Prelude.{◌≡◌, ◌<◌, ◌≤◌, length};
 ghost use Rattle.formula.specs.Rule.{MU, U};
 ghost use Rattle.formula.specs.Table.{Table};

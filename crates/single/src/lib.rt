@@ -1,4 +1,6 @@
 // The first fault of two files, or acceptance: claim, table, proof and rules, in that order, on memory of its own.
+#![tactic(auto)]
+
 ghost use Rattle.std.specs.Prelude.{◌≡◌, ◌≤◌};
 ghost use Rattle.verdict.specs.Shown.{shown};
 ghost use Rattle.formula.specs.Plain.{table_of};

@@ -1,5 +1,7 @@
 // Entry and exit numbers of a walk of the trees from their roots down, without the walk: sizes from the last node up, then numbers from
 // the first node on. They tell in one step whether one node is above another.
+#![tactic(auto)]
+
 ghost use Rattle.std.specs.Prelude.{◌≡◌, ◌∷◌, ◌<◌, ◌≤◌, length, get_or};
 ghost use Rattle.spans.specs.Spans.{at_parent_lem, Upward, CountedOnce, Counted, spanned};
 ghost use Rattle.spans.specs.Ancestors.{SpansFilled};

@@ -1,5 +1,7 @@
 // The nodes of a proof that was read, stored as records in the slices that a caller lends and judged as they stand there: the columns that
 // the rules read are loaded from the records, the codes read where they were lent.
+#![tactic(auto)]
+
 ghost use Rattle.verdict.specs.Shown.{shown};
 ghost use Rattle.formula.specs.Plain.{table_of};
 ghost use Rattle.formula.specs.Held.{held_claim};

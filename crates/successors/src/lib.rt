@@ -1,4 +1,6 @@
 // The successors of each state as a word, by each action that is used.
+#![tactic(auto)]
+
 ghost use Rattle.std.specs.Prelude.{◌≡◌, true, ℕ, ◌+◌, ◌*◌, ◌<◌, ◌≤◌, length};
 ghost use Rattle.bits.specs.Bits.{bit};
 ghost use Rattle.states.specs.Rows.{row_word_lem, ActionRows, RowWords};

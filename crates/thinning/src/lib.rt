@@ -1,5 +1,7 @@
 // The columns that the numbering of formulas goes by: how many free names an entry has, and which of them are free in each operand. A name
 // is marked by its place among the entry's names in rising order, not by its number: T-03 does not go by what bound names are called.
+#![tactic(auto)]
+
 ghost use Rattle.std.specs.Prelude.{◌≡◌, ◌*◌, ◌+◌, ◌<◌, ◌≤◌, length};
 ghost use Rattle.verdict.specs.Tells.{Tells};
 ghost use Rattle.numbering.specs.Count.{tally};
@@ -15,7 +17,7 @@ use formula::Kind;
 use name_sets::{Names, below, has, less, lowest, meet, only, put_row, row};
 
 // The names of an entry passed so far: how many, and which of them are free in an operand, by place.
-#[derive(Drop)]
+#[derive(Clone, Copy)]
 pub struct Passed {
     marks: Names,
     size: usize,

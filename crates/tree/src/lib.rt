@@ -1,4 +1,6 @@
 // Refusal 35: every child is numbered above its parent; every node but a root is a child once, and no root is.
+#![tactic(auto)]
+
 ghost use Rattle.std.specs.Prelude.{◌≡◌, List, true, ℕ, ◌<◌, ◌≤◌, length, take};
 ghost use Rattle.formula.specs.Nodes.{Proof};
 ghost use Rattle.tree.specs.Owners.{unowned, Columns, Ownerless, OneChild, Taken, TakenBy, OneParent, children_judged, orphans_judged, tree_judged, ChildrenTaken, OwnersFilled};

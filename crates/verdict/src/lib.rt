@@ -1,10 +1,12 @@
 // A verdict, and the number by which the C calls answer it. The definitions of verdicts and of tests are in specs/.
+#![tactic(auto)]
+
 ghost use Rattle.std.specs.Prelude.{◌≡◌};
 ghost use Rattle.verdict.specs.Verdict.{packed, packed_wide, Within};
 ghost use Rattle.verdict.specs.Verdict as verdicts;
 ghost use Rattle.verdict.specs.Shown.{shown};
 
-#[derive(Drop)]
+#[derive(Clone, Copy)]
 pub enum Verdict {
     Accepted,
     Refused { number: u16, place: u16 },

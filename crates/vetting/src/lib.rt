@@ -1,5 +1,7 @@
 // Records in columns of plain numbers, judged as the reader would judge the file of their form that they make: the first fault in the order of
 // its bytes, then 20, 71 and 21 to 23 of a claim, 35 of a proof. Nothing is written.
+#![tactic(auto)]
+
 ghost use Rattle.std.specs.Prelude.{◌≡◌, List, true, ℕ, ◌+◌, ◌*◌, ◌<◌, ◌≤◌, length, take, drop};
 ghost use Rattle.std.proofs.Math.Seq.{paste};
 ghost use Rattle.verdict.specs.Shown.{shown};
@@ -35,7 +37,7 @@ use tree::fill_owners;
 use verdict::Verdict;
 
 // What a step over the records finds: the place after them in the file that they make, or a refusal.
-#[derive(Drop)]
+#[derive(Clone, Copy)]
 pub enum Step {
     Next(usize),
     Stop { number: u16, place: u16 },

@@ -1,5 +1,7 @@
 // The writer of claims and proofs in plain numbers: records are judged as the reader would judge the file that they make, then the file is
 // laid down. No refusal writes a byte.
+#![tactic(auto)]
+
 ghost use Rattle.std.specs.Prelude.{◌≡◌, ◌+◌, ◌≤◌, ◌^◌, length};
 ghost use Rattle.verdict.specs.Verdict.{refused, packed};
 ghost use Rattle.proof_files.specs.ProofParts.{kind_table};
@@ -12,7 +14,7 @@ use laying::{put_claim, put_proof};
 use vetting::{Step, judge_claim, judge_proof};
 
 // What the slices that the writer is lent earn, before and after the records.
-#[derive(Drop)]
+#[derive(Clone, Copy)]
 pub struct SliceFault;
 
 impl SliceFault {

@@ -1,1 +1,2 @@
 // The file that records make, and what a writer answers of it. No code.
+#![tactic(auto)]

@@ -1,0 +1,11 @@
+-- the word is formed of the words as they stand
+use mathlib.Core.Path.{refl, ap}
+use native.Mathlib.Omega.{arith}
+use lib.ListN.{set}
+use borrow.Author.Rules.{rules}
+use Rattle.blocks.proofs.settle_entry.Goals as goal
+
+pub returns : goal.returns
+returns c =
+    let args2 = c.args in
+    (ap (set args2.words.now args2.e) c.formed-w.ensures, c.insert.ensures)

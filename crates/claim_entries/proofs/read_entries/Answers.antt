@@ -1,0 +1,19 @@
+-- The count is read, then as many entries are walked over.
+use borrow.Author.Rules.{rules}
+use Rattle.file_parts.specs.Numbers.{number_read, number_refused}
+use Rattle.claim_entries.specs.ClaimEntries.{entries_cut, entries_place, entries_tell}
+use Rattle.claim_entries.proofs.read_entries.Goals as goal
+
+pub store_entries-requires : goal.store_entries-requires
+store_entries-requires c =
+    let h = number_read _ _ c.count_at.ensures c.value-1.given.1 in
+    (c.requires.0, entries_place _ _ h)
+
+pub returns-in-Refused : goal.returns-in-Refused
+returns-in-Refused c = entries_cut _ _ _ (number_refused _ _ c.count_at.ensures c.number-1.given.1)
+
+pub returns-in-Read : goal.returns-in-Read
+returns-in-Read c =
+    entries_tell _ _
+    (number_read _ _ c.count_at.ensures c.value-1.given.1) _
+    c.store_entries.result c.store_entries.ensures

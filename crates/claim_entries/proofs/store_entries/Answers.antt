@@ -1,0 +1,28 @@
+use Prim.Native.Nat.{◌≤◌, ◌-◌}
+use native.Mathlib.Omega.{arith}
+use borrow.Author.Rules.{rules}
+use Rattle.claim_entries.specs.ClaimEntry.{entry_read, entry_refused}
+use Rattle.claim_entries.specs.ClaimEntries.{Entered, none_entered, entering_stops, one_entered, all_entered}
+use Rattle.claim_entries.proofs.store_entries.Goals as goal
+
+pub loop-i-init : goal.loop-i-init
+loop-i-init c = (omega arith, none_entered _ _ _ _ _ _ c.requires.1.0.within)
+
+pub entry_at-requires : goal.entry_at-requires
+entry_at-requires c = record { within = c.loop-i.invariant.1.within; low = omega (arith, c.loop-i.invariant.1.near) }
+
+pub returns-in-Refused : goal.returns-in-Refused
+returns-in-Refused c =
+    entering_stops _ _ _ _ _ _ c.loop-i.invariant.1 c.loop-i-test.true
+    (entry_refused _ _ c.entry_at.ensures c.number-1.given.1)
+
+pub loop-i-preserved : goal.loop-i-preserved
+loop-i-preserved c = (
+  omega arith,
+  one_entered _ _ _ _ _ _ c.loop-i.invariant.1 c.loop-i-test.true
+      c.requires.1.1 c.requires.0
+      (entry_read _ _ c.entry_at.ensures c.kind-1.given.1),
+)
+
+pub returns : goal.returns
+returns c = all_entered _ _ _ _ _ _ c.loop-i.invariant.1 c.loop-i.invariant.0 c.loop-i-test.false c.requires.1.1

@@ -1,0 +1,20 @@
+-- The count is read, then as many goals are walked over.
+use borrow.Author.Rules.{rules}
+use Rattle.file_parts.specs.Numbers.{number_read, number_refused}
+use Rattle.claim_members.specs.ClaimGoals.{goals_cut, goals_place, goals_tell}
+use Rattle.claim_members.proofs.goal_lists.read_goals.Goals as goal
+
+pub store_goals-requires : goal.store_goals-requires
+store_goals-requires c =
+    let given = c.requires in
+    let count = number_read _ _ c.goal_count.ensures c.value-1.given.1 in
+    (given.0, goals_place _ _ _ given.1 count)
+
+pub returns-in-Refused : goal.returns-in-Refused
+returns-in-Refused c = goals_cut _ _ _ _ _ (number_refused _ _ c.goal_count.ensures c.number-1.given.1)
+
+pub returns-in-Read : goal.returns-in-Read
+returns-in-Read c =
+    goals_tell _ _ _ _ _
+    (number_read _ _ c.goal_count.ensures c.value-1.given.1)
+    c.requires.1 _ c.store_goals.result c.store_goals.ensures

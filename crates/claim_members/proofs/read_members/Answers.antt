@@ -1,0 +1,20 @@
+-- The count is read, then as many members are walked over.
+use borrow.Author.Rules.{rules}
+use Rattle.file_parts.specs.Numbers.{number_read, number_refused}
+use Rattle.claim_members.specs.ClaimMembers.{members_cut, members_place, members_tell}
+use Rattle.claim_members.proofs.read_members.Goals as goal
+
+pub store_members-requires : goal.store_members-requires
+store_members-requires c =
+    let p = c.requires in
+    let h = number_read _ _ c.count_at.ensures c.value-1.given.1 in
+    (p.0, members_place _ _ p.1 h)
+
+pub returns-in-Refused : goal.returns-in-Refused
+returns-in-Refused c = members_cut _ _ _ _ (number_refused _ _ c.count_at.ensures c.number-1.given.1)
+
+pub returns-in-Read : goal.returns-in-Read
+returns-in-Read c =
+    members_tell _ _ _ _
+    (number_read _ _ c.count_at.ensures c.value-1.given.1) _
+    c.store_members.result c.store_members.ensures

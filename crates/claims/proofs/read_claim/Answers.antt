@@ -1,0 +1,54 @@
+-- One law for each way to end: opening, entries, goals, bytes that follow, acceptance.
+use native.Mathlib.Omega.{arith}
+use borrow.Author.Rules.{rules}
+use Rattle.file_parts.specs.Parts.{part_read, part_refused}
+use Rattle.claims.specs.ClaimWalk.{Opened, claim_refused, claim_closed, claim_opened, claim_long, claim_no_entries, claim_no_goals, claim_follows, claim_got}
+use Rattle.claims.proofs.read_claim.Goals as goal
+
+-- past the opening
+opened : (c : goal.After-fewest) → Opened c.args.bytes.now c.opening_form-form.result
+opened c = claim_opened _ c.opening_form-form.ensures c.if-form-eq0.false
+
+pub returns-then-form-eq0 : goal.returns-then-form-eq0
+returns-then-form-eq0 c = claim_refused _ _ _ _ _ c.refuse.ensures (claim_closed _ c.opening_form-form.ensures c.if-form-eq0.true)
+
+pub read_entries-requires : goal.read_entries-requires
+read_entries-requires c = (c.requires.entries, claim_long _ (opened (goal.at.read_entries-requires c).After-fewest))
+
+pub read_goals-requires : goal.read_goals-requires
+read_goals-requires c =
+    let x = part_read _ _ _ _ c.read_entries.ensures c.entries-1.given.1 in
+    let p = c.requires in
+    ((p.starts, p.members, x.few), record { within = x.reached.inside; low = x.reached.near })
+
+pub overflow_cast-end : goal.overflow_cast-end
+overflow_cast-end c =
+    let y = part_read _ _ _ _ c.read_goals.ensures c.goals-1.given.1 in
+    omega (arith, y.reached.near)
+
+pub returns-then-end-bytes : goal.returns-then-end-bytes
+returns-then-end-bytes c =
+    claim_refused _ _ _ _ _ c.refuse-then-end-bytes.ensures
+    (claim_follows _ (opened (goal.at.returns-then-end-bytes c).Else-form-eq0) c.fewest.ensures
+    (part_read _ _ _ _ c.read_entries.ensures c.entries-1.given.1)
+    (part_read _ _ _ _ c.read_goals.ensures c.goals-1.given.1)
+    c.if-end-bytes.true)
+
+pub returns-in-Refused : goal.returns-in-Refused
+returns-in-Refused c =
+    claim_refused _ _ _ _ _ c.refuse-in-Refused.ensures
+    (claim_no_entries _ (opened (goal.at.returns-in-Refused c).After-fewest) c.fewest.ensures (part_refused _ _ _ _ c.read_entries.ensures c.number-1.given.1))
+
+pub returns-in-Refused-read_goals : goal.returns-in-Refused-read_goals
+returns-in-Refused-read_goals c =
+    claim_refused _ _ _ _ _ c.refuse-in-Refused-read_goals.ensures
+    (claim_no_goals _ (opened (goal.at.returns-in-Refused-read_goals c).Else-form-eq0) c.fewest.ensures
+    (part_read _ _ _ _ c.read_entries.ensures c.entries-1.given.1)
+    (part_refused _ _ _ _ c.read_goals.ensures c.number-in-Refused-read_goals-1.given.1))
+
+pub returns-else-end-bytes : goal.returns-else-end-bytes
+returns-else-end-bytes c =
+    claim_got _ (opened (goal.at.returns-else-end-bytes c).Else-form-eq0) c.fewest.ensures
+    (part_read _ _ _ _ c.read_entries.ensures c.entries-1.given.1)
+    (part_read _ _ _ _ c.read_goals.ensures c.goals-1.given.1)
+    c.if-end-bytes.false

@@ -1,0 +1,14 @@
+-- the edges to the states below u are there
+use mathlib.Core.Path.{◌≡◌, ◌∙◌}
+use Prim.Native.Nat.{◌-◌, ◌%◌, ◌≤◌}
+use native.Mathlib.Omega.{arith}
+use borrow.Author.Rules.{rules}
+use Rattle.edges.specs.Added.{Added}
+use Rattle.edges.specs.Edges.{FromTo, four_none, four_more, four_all}
+use Rattle.edges.proofs.state_edges.Given as goal
+
+abbrev pub invariant-loop-u : goal.invariant-loop-u
+invariant-loop-u l = (l.u % 4 ≡ 0) × (l.u ≤ 64) × Added (FromTo l.s l.u l.marks l.used l.n) l.initial.rows l.rows
+
+abbrev pub decreases-loop-u : goal.decreases-loop-u
+decreases-loop-u l = 64 - l.u

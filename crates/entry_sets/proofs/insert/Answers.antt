@@ -1,0 +1,10 @@
+-- one bit more
+use mathlib.Core.Path.{refl}
+use native.Mathlib.Omega.{arith}
+use lib.ListN.{length-set}
+use Rattle.bits.specs.WordSet.{in_inserted}
+use borrow.Author.Rules.{rules}
+use Rattle.entry_sets.proofs.insert.Goals as goal
+
+pub returns : goal.returns
+returns c = record { long = length-set c.args.set.now _ _; tells = in_inserted c.args.set.now c.args.k (omega (arith, c.requires)) }

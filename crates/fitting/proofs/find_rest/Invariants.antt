@@ -1,0 +1,22 @@
+-- `find_rest` meets its contract. The invariant: of the members before i those that pass are stored.
+use mathlib.Core.Path.{◌≡◌, sym, ap, ◌∙◌}
+use mathlib.Core.Logic.{⊎_elim}
+use mathlib.Core.List.{List, ◌∷◌}
+use Prim.Native.Nat.{ℕ, ◌+◌, ◌-◌, ◌≤◌}
+use native.Mathlib.Omega.{arith}
+use borrow.Author.Rules.{rules}
+use lib.ListN.{length, length-set, get_or}
+use Rattle.verdict.specs.Tests.{member}
+use Rattle.sequents.specs.CodeSet.{Holds}
+use Rattle.sequents.specs.Keys.{in_focus}
+use Rattle.sequents.specs.Part.{part, part_none, part-more, part_member}
+use Rattle.fitting.specs.Sifting.{Sifting, sifting_begins, sifting_keeps, sifting_drops, sifting_ends}
+use Rattle.fitting.proofs.find_rest.Given as goal
+
+abbrev pub invariant-loop-i : goal.invariant-loop-i
+invariant-loop-i l =
+    (l.from ≤ l.i) × (l.i ≤ l.to) × (l.found + l.from ≤ l.i) × (length l.rest ≡ 24)
+    × ((l : List ℕ) → Holds l.second l → Sifting (λ e. member l (in_focus l.canon e)) (part l.members l.from l.to) (part l.members l.i l.to) l.initial.rest l.found l.rest)
+
+abbrev pub decreases-loop-i : goal.decreases-loop-i
+decreases-loop-i l = l.to - l.i

@@ -1,0 +1,7 @@
+-- Four fields, each by whether the rule has it.
+use native.Mathlib.Omega.{arith}
+use borrow.Author.Rules.{rules}
+use Rattle.formula.proofs.Rule.field_sum.Goals as goal
+
+pub returns : goal.returns
+returns c = (cc, omega arith)

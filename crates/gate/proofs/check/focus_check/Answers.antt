@@ -1,0 +1,12 @@
+-- what the answer promises follows from its number
+use mathlib.Core.Path.{ap, ◌∙◌}
+use borrow.Author.Rules.{rules}
+use Rattle.verdict.specs.Verdict.{packed}
+use Rattle.encoding.specs.ByteLaws.{lent_bytes}
+use Rattle.demands.specs.Single.{single}
+use Rattle.gate.proofs.check.focus_check.Goals as goal
+
+pub returns : goal.returns
+returns c =
+    single c.args.claim.now c.args.proof.now (lent_bytes _ c.shared_slice_known-1.given) (lent_bytes _ c.shared_slice_known-2-1.given) _ (c.pack.ensures.0 ∙ ap packed c.judge_files.ensures)
+    (rw c.judge_files.ensures at c.pack.ensures.1)

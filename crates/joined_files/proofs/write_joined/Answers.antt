@@ -1,0 +1,103 @@
+-- `write_joined` meets its contract: 74, 70 for either slice, and then both files.
+use mathlib.Core.Path.{◌≡◌, refl, ap, ◌∙◌}
+use mathlib.Core.List.{List}
+use Prim.Native.Nat.{ℕ, ◌+◌, ◌≤◌}
+use native.Mathlib.Omega.{arith}
+use borrow.Author.Rules.{rules}
+use lib.ListN.{length, take}
+use Rattle.verdict.specs.Lists.{written}
+use Rattle.formula.specs.Claim.{clm1}
+use Rattle.formula.specs.Nodes.{Proof}
+use Rattle.formula.specs.Table.{Table}
+use Rattle.formula.specs.Plain.{table_of}
+use Rattle.encoding.specs.Places.{word_at}
+use Rattle.nodes.specs.ProofDecode.{proof_in, nodes_at_length}
+use Rattle.joined_files.specs.Wholly.{wholly_refused, wholly_good}
+use Rattle.joined_files.specs.Ready.{HalfProof, too_many, claim_short, proof_short, both_fit, proof_long, claim_is, one_goal_room}
+use Rattle.joined_files.proofs.write_joined.Goals as goal
+
+-- the table, the joined goal, and the nodes of the two proofs
+module _ (s : tie.Start) where
+  abbrev table : Table
+  table = table_of s.args.kinds.now s.args.a.now s.args.b.now s.args.entries
+
+  abbrev goal : List ℕ
+  goal = take s.args.members s.args.goal.now
+
+  abbrev first : Proof
+  first = proof_in s.args.first.now 6
+
+  abbrev second : Proof
+  second = proof_in s.args.second.now 6
+
+-- how many nodes there are
+counted : (c : goal.After-node_count-2) → (c.node_count.result ≡ length (first c.before.before.before.before.before.before-LEFT-Start)) × (c.node_count-2.result ≡ length (second c.before.before.before.before.before.before-LEFT-Start))
+counted c = (c.node_count.ensures 6, c.node_count-2.ensures 6)
+
+most : {t : List ℕ} → HalfProof t → length (proof_in t 6) ≤ 1024
+most {t} h = omega (arith, nodes_at_length t 6 (word_at t 4), h.tree.decodes.few)
+
+-- not too many
+few : (c : goal.Else-node_count-gt1024) → length (first c.before.before.before.before.before.before.before-LEFT-Start) + length (second c.before.before.before.before.before.before.before-LEFT-Start) + 1 ≤ 1024
+few c = omega (arith, c.if-node_count-gt1024.false, (counted c.before-LEFT-After-node_count-2).0, (counted c.before-LEFT-After-node_count-2).1)
+
+pub node_count-requires : goal.node_count-requires
+node_count-requires c = c.requires.first_proof.tree.decodes.counted
+
+pub node_count-requires-2 : goal.node_count-requires-2
+node_count-requires-2 c = c.requires.second_proof.tree.decodes.counted
+
+pub overflow_add-node_count : goal.overflow_add-node_count
+overflow_add-node_count c = let p = c.requires in omega (arith, (counted c).0, (counted c).1, most p.first_proof, most p.second_proof)
+
+pub overflow_add-node_count-2 : goal.overflow_add-node_count-2
+overflow_add-node_count-2 c = let p = c.requires in omega (arith, (counted c).0, (counted c).1, most p.first_proof, most p.second_proof)
+
+pub returns-then-node_count-gt1024 : goal.returns-then-node_count-gt1024
+returns-then-node_count-gt1024 c =
+    wholly_refused (too_many (table (goal.at.returns-then-node_count-gt1024 c).Start) (goal (goal.at.returns-then-node_count-gt1024 c).Start) (first (goal.at.returns-then-node_count-gt1024 c).Start) (second (goal.at.returns-then-node_count-gt1024 c).Start) c.args.entry _ _ (omega (arith, c.if-node_count-gt1024.true, (counted (goal.at.returns-then-node_count-gt1024 c).After-node_count-2).0, (counted (goal.at.returns-then-node_count-gt1024 c).After-node_count-2).1))) c.refuse.ensures
+
+pub returns-then-claim-claim_length : goal.returns-then-claim-claim_length
+returns-then-claim-claim_length c =
+    wholly_refused (claim_short (table (goal.at.returns-then-claim-claim_length c).Start) (goal (goal.at.returns-then-claim-claim_length c).Start) (first (goal.at.returns-then-claim-claim_length c).Start) (second (goal.at.returns-then-claim-claim_length c).Start) c.args.entry _ _ (few (goal.at.returns-then-claim-claim_length c).Else-node_count-gt1024) (omega (arith, c.if-claim-claim_length.true, c.requires.long))) c.refuse-then-claim-claim_length.ensures
+
+pub overflow_mul-proof_length : goal.overflow_mul-proof_length
+overflow_mul-proof_length c = omega (arith, c.requires.members.few)
+
+pub overflow_add-proof_length-2 : goal.overflow_add-proof_length-2
+overflow_add-proof_length-2 c = omega (arith, c.requires.members.few, c.requires.first_proof.near, c.requires.second_proof.near)
+
+pub overflow_add-proof_length-3 : goal.overflow_add-proof_length-3
+overflow_add-proof_length-3 c = omega (arith, c.requires.members.few, c.requires.first_proof.near, c.requires.second_proof.near)
+
+pub returns-then-proof-proof_length : goal.returns-then-proof-proof_length
+returns-then-proof-proof_length c =
+    wholly_refused
+    (proof_short (table (goal.at.returns-then-proof-proof_length c).Start) (goal (goal.at.returns-then-proof-proof_length c).Start) (first (goal.at.returns-then-proof-proof_length c).Start) (second (goal.at.returns-then-proof-proof_length c).Start) c.args.entry _ _ (few (goal.at.returns-then-proof-proof_length c).Else-node_count-gt1024) (omega (arith, c.if-claim-claim_length.false, c.requires.long)) (omega (arith, c.if-proof-proof_length.true, proof_long c.requires)))
+    c.refuse-then-proof-proof_length.ensures
+
+pub overflow_cast-counts : goal.overflow_cast-counts
+overflow_cast-counts c = omega (arith, c.requires.members.few)
+
+pub put_claim-requires : goal.put_claim-requires
+put_claim-requires c =
+    let laid = claim_is c.requires _ refl in
+    (omega (arith, ap length laid, c.requires.long, c.if-claim-claim_length.false), c.requires.entries, one_goal_room c.requires _ refl)
+
+pub put_joined-requires : goal.put_joined-requires
+put_joined-requires c =
+    let p = c.requires in
+    (p.members, p.entry, p.first_proof.tree, p.second_proof.tree, omega (arith, few (goal.at.put_joined-requires c).Else-node_count-gt1024), omega (arith, proof_long p, c.if-proof-proof_length.false))
+
+pub overflow_mul-result : goal.overflow_mul-result
+overflow_mul-result c = let p = c.requires in omega (arith, p.members.few, p.first_proof.near, p.second_proof.near)
+
+pub overflow_add-result : goal.overflow_add-result
+overflow_add-result c = let p = c.requires in omega (arith, p.near, p.members.few, p.first_proof.near, p.second_proof.near)
+
+pub returns : goal.returns
+returns c =
+    let fits = both_fit (table (goal.at.returns c).Start) (goal (goal.at.returns c).Start) (first (goal.at.returns c).Start) (second (goal.at.returns c).Start) c.args.entry (length c.args.claim.now) (length c.args.proof.now) (few (goal.at.returns c).Else-node_count-gt1024) (omega (arith, c.requires.long, c.if-claim-claim_length.false)) (omega (arith, proof_long c.requires, c.if-proof-proof_length.false)) in
+    wholly_good fits (omega (arith, c.requires.long, proof_long c.requires))
+    (c.put_claim.ensures clm1 refl ∙ ap (λ (b : List ℕ). written b c.args.claim.now) (claim_is c.requires _ refl))
+    c.put_joined.ensures

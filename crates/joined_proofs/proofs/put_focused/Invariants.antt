@@ -1,0 +1,16 @@
+-- After i turns the first i members stand there as codes in focus.
+use native.Mathlib.Omega.{arith}
+use mathlib.Core.Path.{◌≡◌}
+use Prim.Native.Nat.{◌-◌, ◌≤◌}
+use lib.ListN.{take}
+use Rattle.verdict.specs.Lists.{written}
+use Rattle.joining.specs.Joined.{in_focus}
+use Rattle.joined_proofs.specs.Focusing.{none_focused, more_focused, member_small}
+use borrow.Author.Rules.{rules}
+use Rattle.joined_proofs.proofs.put_focused.Given as goal
+
+abbrev pub invariant-loop-i : goal.invariant-loop-i
+invariant-loop-i l = (l.i ≤ l.count) × (l.codes ≡ written (in_focus (take l.i l.members)) l.initial.codes)
+
+abbrev pub decreases-loop-i : goal.decreases-loop-i
+decreases-loop-i l = l.count - l.i

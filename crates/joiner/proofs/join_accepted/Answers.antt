@@ -1,0 +1,74 @@
+-- `join_accepted` meets its contract: both claims are held, 73 where their tables differ, and else what goals over one table get.
+use mathlib.Core.Path.{sym, ◌∙◌}
+use borrow.Author.Rules.{rules}
+use borrow.Author.Tests.{not-true, not-false}
+use lib.ListN.{length}
+use Rattle.encoding.specs.Encode.{Bytes}
+use Rattle.encoding.specs.ByteLaws.{lent_bytes}
+use Rattle.demands.specs.JoinExact.{CorrectHalf, half_accepts}
+use Rattle.joined_files.specs.Wholly.{wholly_refused, wholly_as}
+use Rattle.joiner.specs.Reading.{both_read, paired, other_entries, one_table, one_fitted}
+use Rattle.joiner.proofs.join_accepted.Goals as goal
+
+-- the four lent files, and that both inputs are accepted
+module _ (c : tie.After-shared-slice-known4) where
+  abbrev start : tie.Start
+  start = c.before.before.before.before
+
+  claim_bytes_lem : Bytes start.args.claim1.now
+  claim_bytes_lem = lent_bytes _ c.before.before.before.shared-slice-known.given
+
+  proof_bytes_lem : Bytes start.args.proof1.now
+  proof_bytes_lem = lent_bytes _ c.before.before.shared-slice-known2.given
+
+  other-claim-bytes : Bytes start.args.claim2.now
+  other-claim-bytes = lent_bytes _ c.before.shared-slice-known3.given
+
+  other-proof-bytes : Bytes start.args.proof2.now
+  other-proof-bytes = lent_bytes _ c.shared-slice-known4.given
+
+  first : CorrectHalf start.args.claim1.now start.args.proof1.now
+  first = (half_accepts _ _ claim_bytes_lem proof_bytes_lem).0 start.pre.0
+
+  second : CorrectHalf start.args.claim2.now start.args.proof2.now
+  second = (half_accepts _ _ other-claim-bytes other-proof-bytes).0 start.pre.1
+
+pub same_entries-requires : goal.same_entries-requires
+same_entries-requires c =
+    let x = first (goal.at.same_entries-requires c).After-shared_slice_known-4-1 in
+    (c.read_half-entries.ensures x.correct.read.claim x.correct.formed.claim_formed x.one).entries
+
+pub returns-then-not-same_entries : goal.returns-then-not-same_entries
+returns-then-not-same_entries c =
+    let x = first (goal.at.returns-then-not-same_entries c).After-shared_slice_known-4-1 in
+    let y = second (goal.at.returns-then-not-same_entries c).After-shared_slice_known-4-1 in
+    let held = c.read_half-entries.ensures x.correct.read.claim x.correct.formed.claim_formed x.one in
+    let other = c.read_half-other_entries.ensures y.correct.read.claim y.correct.formed.claim_formed y.one in
+    let differ = sym (not-true c.same_entries.result c.if-not-same_entries.true) ∙ c.same_entries.ensures in
+    wholly_refused
+    (both_read x y (claim_bytes_lem (goal.at.returns-then-not-same_entries c).After-shared_slice_known-4-1) (proof_bytes_lem (goal.at.returns-then-not-same_entries c).After-shared_slice_known-4-1) (other-claim-bytes (goal.at.returns-then-not-same_entries c).After-shared_slice_known-4-1) (other-proof-bytes (goal.at.returns-then-not-same_entries c).After-shared_slice_known-4-1) (start (goal.at.returns-then-not-same_entries c).After-shared_slice_known-4-1).args.entry _ _
+    ∙ other_entries x y held other (start (goal.at.returns-then-not-same_entries c).After-shared_slice_known-4-1).args.entry (length (start (goal.at.returns-then-not-same_entries c).After-shared_slice_known-4-1).args.claim.now) (length (start (goal.at.returns-then-not-same_entries c).After-shared_slice_known-4-1).args.proof.now) differ)
+    c.refuse.ensures
+
+pub join_goals_of-requires : goal.join_goals_of-requires
+join_goals_of-requires c =
+    let x = first (goal.at.join_goals_of-requires c).After-shared_slice_known-4-1 in
+    let y = second (goal.at.join_goals_of-requires c).After-shared_slice_known-4-1 in
+    let held = c.read_half-entries.ensures x.correct.read.claim x.correct.formed.claim_formed x.one in
+    let other = c.read_half-other_entries.ensures y.correct.read.claim y.correct.formed.claim_formed y.one in
+    let same = sym (not-false c.same_entries.result c.if-not-same_entries.false) ∙ c.same_entries.ensures in
+    rw (c.wide.ensures, c.wide-2.ensures, c.wide-3.ensures, c.wide-4.ensures) (
+    paired x y held other (one_table x y held other (start (goal.at.join_goals_of-requires c).After-shared_slice_known-4-1).args.entry (length (start (goal.at.join_goals_of-requires c).After-shared_slice_known-4-1).args.claim.now) (length (start (goal.at.join_goals_of-requires c).After-shared_slice_known-4-1).args.proof.now) same)
+    )
+
+pub returns : goal.returns
+returns c =
+    let x = first (goal.at.returns c).After-shared_slice_known-4-1 in
+    let y = second (goal.at.returns c).After-shared_slice_known-4-1 in
+    let held = c.read_half-entries.ensures x.correct.read.claim x.correct.formed.claim_formed x.one in
+    let other = c.read_half-other_entries.ensures y.correct.read.claim y.correct.formed.claim_formed y.one in
+    let same = sym (not-false c.same_entries.result c.if-not-same_entries.false) ∙ c.same_entries.ensures in
+    wholly_as
+    (both_read x y (claim_bytes_lem (goal.at.returns c).After-shared_slice_known-4-1) (proof_bytes_lem (goal.at.returns c).After-shared_slice_known-4-1) (other-claim-bytes (goal.at.returns c).After-shared_slice_known-4-1) (other-proof-bytes (goal.at.returns c).After-shared_slice_known-4-1) (start (goal.at.returns c).After-shared_slice_known-4-1).args.entry _ _
+    ∙ one_fitted x y held other (start (goal.at.returns c).After-shared_slice_known-4-1).args.entry (length (start (goal.at.returns c).After-shared_slice_known-4-1).args.claim.now) (length (start (goal.at.returns c).After-shared_slice_known-4-1).args.proof.now) same)
+    (rw (c.wide.ensures, c.wide-2.ensures, c.wide-3.ensures, c.wide-4.ensures) at c.join_goals_of.ensures)

@@ -1,0 +1,29 @@
+-- `judge_half` meets its contract: the opening first, and then the check.
+use mathlib.Core.Path.{◌≡◌, refl, sym, ◌∙◌}
+use mathlib.Core.Bool.{true, false}
+use mathlib.Core.List.{List}
+use Prim.Native.Nat.{ℕ}
+use borrow.Author.Rules.{rules}
+use borrow.Author.Tests.{not-true, not-false}
+use Rattle.encoding.specs.Opening.{opens}
+use Rattle.formula.specs.Claim.{clm1}
+use Rattle.claim_files.specs.ClaimFile.{claim_opening}
+use Rattle.verdict.specs.Verdict.{refused}
+use Rattle.demands.specs.Check.{verdict}
+use Rattle.demands.specs.Join.{half_verdict}
+use Rattle.joiner.proofs.judge_half.Goals as goal
+
+module _ (claim proof : List ℕ) where
+  closed : opens (claim_opening clm1) claim ≡ false → refused 10 0 ≡ half_verdict claim proof
+  unfolding half_verdict
+  closed h = rw h refl
+
+  opened : opens (claim_opening clm1) claim ≡ true → verdict claim proof ≡ half_verdict claim proof
+  unfolding half_verdict
+  opened h = rw h refl
+
+pub returns-then-not-opens : goal.returns-then-not-opens
+returns-then-not-opens c = closed _ _ (sym c.opens.ensures ∙ not-true c.opens.result c.if-not-opens.true)
+
+pub returns : goal.returns
+returns c = c.judge_files.ensures ∙ opened _ _ (sym c.opens.ensures ∙ not-false c.opens.result c.if-not-opens.false)

@@ -1,0 +1,49 @@
+use native.Mathlib.Omega.{arith}
+use mathlib.Core.List.{List, ◌++◌}
+use Prim.Native.Nat.{ℕ, ◌+◌, ◌-◌, ◌≤◌}
+use Rattle.formula.specs.Spelled.{Spelled}
+use Rattle.formula.specs.Plain.{plain_entry}
+use Rattle.claim_files.specs.ClaimFile.{encode_entry}
+use Rattle.writing.specs.Spelling.{spelled_as}
+use Rattle.laying.specs.Laying.{Left, entries_left, entries_begin, entries_step, entries_end_lem, less_left, none_left, room_left}
+use borrow.Author.Rules.{rules}
+use Rattle.laying.proofs.put_entries.Goals as goal
+
+-- in a turn: this entry, and what comes after it
+module _ (c : tie.In-loop invariant-loop decreases-loop) where
+  abbrev s : tie.Start invariant-loop decreases-loop
+  s = c.before.before.before
+
+  abbrev i : ℕ
+  i = c.before.loop.i
+
+  abbrev this : Spelled
+  this = spelled_as (plain_entry s.args.kinds.now s.args.a.now s.args.b.now i)
+
+  abbrev left : ℕ → ℕ → List ℕ
+  left = entries_left s.args.kinds.now s.args.a.now s.args.b.now
+
+  abbrev after : List ℕ
+  after = left (i + 1) (s.args.count - (i + 1))
+
+  this_left : Left (left 0 s.args.count) 6 s.args.out.now (encode_entry this ++ after) c.before.loop.at c.before.loop.out
+  this_left = rw (← (entries_step s.args.kinds.now s.args.a.now s.args.b.now s.args.count i c.loop-test.true)) c.before.loop.invariant.1
+
+pub loop-i-init : goal.loop-i-init
+loop-i-init c = let entry = c.args in (omega arith, entries_begin entry.kinds.now entry.a.now entry.b.now entry.count entry.out.now)
+
+pub put_entry-at-requires : goal.put_entry-at-requires
+put_entry-at-requires c =
+    room_left (encode_entry (this (goal.at.put_entry-at-requires c).After-put_entry-arg-in-loop-i-1)) (after (goal.at.put_entry-at-requires c).After-put_entry-arg-in-loop-i-1) (this_left (goal.at.put_entry-at-requires c).After-put_entry-arg-in-loop-i-1) (s (goal.at.put_entry-at-requires c).After-put_entry-arg-in-loop-i-1).requires.0
+
+pub loop-i-preserved : goal.loop-i-preserved
+loop-i-preserved c =
+    (omega arith, less_left (encode_entry (this (goal.at.loop-i-preserved c).After-put_entry-arg-in-loop-i-1)) (after (goal.at.loop-i-preserved c).After-put_entry-arg-in-loop-i-1) (this_left (goal.at.loop-i-preserved c).After-put_entry-arg-in-loop-i-1) c.put_entry-at.ensures)
+
+pub shape_of-out : goal.shape_of-out
+shape_of-out c = c.loop-i.invariant.1.long
+
+pub returns : goal.returns
+returns c =
+    let entry = c.args in
+    none_left (entries_end_lem entry.kinds.now entry.a.now entry.b.now entry.count c.loop-i.i (omega arith)) c.loop-i.invariant.1

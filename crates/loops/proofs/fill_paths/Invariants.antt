@@ -1,0 +1,16 @@
+-- before node v: both tables tell the paths down to all nodes below v
+use mathlib.Core.Path.{◌≡◌, refl, ◌∙◌}
+use Prim.Native.Nat.{◌-◌, ◌≤◌}
+use native.Mathlib.Omega.{arith}
+use lib.ListN.{length, length-set}
+use borrow.Author.Rules.{rules}
+use Rattle.spans.specs.SpanLaws.{parent_room}
+use Rattle.loops.specs.PathLaws.{PathsBelow, none_below, paths_more, paths_done}
+use Rattle.loops.proofs.fill_paths.Given as goal
+
+abbrev pub invariant-loop-v : goal.invariant-loop-v
+invariant-loop-v l =
+    (l.v ≤ l.nodes) × (length l.bars ≡ length l.initial.bars) × (length l.boxes ≡ length l.initial.boxes) × PathsBelow l.rules l.starts l.codes l.nodes l.owners l.v l.bars l.boxes
+
+abbrev pub decreases-loop-v : goal.decreases-loop-v
+decreases-loop-v l = l.nodes - l.v

@@ -1,0 +1,11 @@
+-- a node that is no back leaf has no loop path
+use mathlib.Core.Path.{sym}
+use borrow.Author.Rules.{rules}
+use Rattle.loops.specs.LoopStages.{no_leaf, leaf_loop}
+use Rattle.loops.proofs.path_good.Goals as goal
+
+pub returns-then-rules-v-ne-BACK : goal.returns-then-rules-v-ne-BACK
+returns-then-rules-v-ne-BACK c ss cs n h T = sym (no_leaf _ _ ss cs n _ h c.if-rules-v-ne-BACK.true)
+
+pub returns : goal.returns
+returns c ss cs n h T = leaf_loop _ _ ss cs n _ h _ _ c.if-rules-v-ne-BACK.false T

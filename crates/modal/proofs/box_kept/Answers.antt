@@ -1,0 +1,71 @@
+-- `box_kept` meets its contract: once both tests are passed, every member is modal and has a target.
+use mathlib.Core.Path.{◌≡◌, refl, ap, ◌∙◌}
+use mathlib.Core.List.{List}
+use Prim.Native.Nat.{ℕ}
+use native.Mathlib.Omega.{arith}
+use lib.ListN.{get_or}
+use borrow.Author.Rules.{rules}
+use Rattle.verdict.specs.Sets.{elements}
+use Rattle.verdict.specs.Tests.{all, each, same as sameSet}
+use Rattle.written.specs.Canon.{key}
+use Rattle.calculus.specs.Judge.{keys, box_kept_lem as Kept}
+use Rattle.sequents.specs.Keys.{key_of_lem}
+use Rattle.sequents.specs.Part.{part}
+use Rattle.sequents.specs.CodeSet.{holds_none}
+use Rattle.sequents.specs.KeptLaws.{was_false, was_true, this_kind, other_kind}
+use Rattle.formula.specs.Codes.{entry_of_lem}
+use Rattle.formula.specs.Plain.{table_of}
+use Rattle.modal.specs.BoxLaws.{boxed, Modal, others_boxed, targets_stepped, modal}
+use Rattle.modal.proofs.box_kept.Goals as goal
+
+-- what the test of all members says: it is given the principal's key and action
+tested : (c : goal.After-all_boxed) → let a = c.args in
+    c.all_boxed.result
+    ≡ all (boxed a.kinds.now a.b.now a.canon.now (key_of_lem a.canon.now a.principal) (get_or a.b.now (entry_of_lem a.principal) 0)) (part a.codes.now a.from a.to)
+tested c = rw (c.key_of-key.ensures.1, c.entry_of-entry.ensures) at c.all_boxed.ensures
+
+-- where both tests are passed, every member has an operand
+modals : (c : goal.Else-not-all_boxed) → let a = c.args in
+    (d : ℕ) → elements (part a.codes.now a.from a.to) d → Modal a.kinds.now a.a.now a.b.now a.size d
+modals c =
+    let p = c.requires in
+    modal p.0 _ p.2 (rw c.entry_of-entry.ensures at c.if-kinds-entry-ne-BOX.false) (was_true (tested c.before-LEFT-After-all_boxed) c.if-not-all_boxed.false)
+
+pub returns-then-kinds-entry-ne-BOX : goal.returns-then-kinds-entry-ne-BOX
+unfolding Kept
+returns-then-kinds-entry-ne-BOX c m b M = rw (other_kind c.requires.0 _ _ _ b c.entry_of-entry.ensures c.if-kinds-entry-ne-BOX.true) refl
+
+pub key_of-key-requires : goal.key_of-key-requires
+key_of-key-requires c =
+    let p = c.requires.0 in
+    (p.numbers.narrow, omega (arith, p.inside, p.small))
+
+pub all_boxed-requires : goal.all_boxed-requires
+all_boxed-requires c = let p = c.requires in (p.0.numbers.narrow, p.1)
+
+pub returns-then-not-all_boxed : goal.returns-then-not-all_boxed
+unfolding Kept
+returns-then-not-all_boxed c m b M =
+    let p = c.requires in
+    rw (
+      this_kind p.0 _ _ _ b c.entry_of-entry.ensures c.if-kinds-entry-ne-BOX.false,
+      was_false (tested (goal.at.returns-then-not-all_boxed c).After-all_boxed ∙ others_boxed p.0 _ p.2) c.if-not-all_boxed.true,
+    ) refl
+
+pub put_targets-requires : goal.put_targets-requires
+put_targets-requires c =
+    let p = c.requires in
+    (p.0.numbers.narrow, p.1, λ d o. (modals (goal.at.put_targets-requires c).Else-not-all_boxed d o).within, holds_none)
+
+pub returns : goal.returns
+unfolding Kept keys
+returns c m b M =
+    let a = c.args in
+    let p = c.requires in
+    let told = modals (goal.at.returns c).Else-not-all_boxed in
+    let t = table_of a.kinds.now a.a.now a.b.now a.size in
+    rw (
+      this_kind p.0 _ _ _ b c.entry_of-entry.ensures c.if-kinds-entry-ne-BOX.false,
+      was_true (tested (goal.at.returns c).After-all_boxed ∙ others_boxed p.0 _ p.2) c.if-not-all_boxed.false,
+    )
+    (c.same.ensures _ _ M (c.put_targets.ensures a.b.now a.size told) ∙ ap (λ (l : List ℕ). sameSet (each (key t) m) l) (targets_stepped p.0 _ p.2 told))

@@ -1,0 +1,13 @@
+-- The invariant: the entries passed have the least of their numbers.
+use mathlib.Core.Path.{◌≡◌, refl, ap}
+use Prim.Native.Nat.{ℕ, ◌-◌, ◌<◌, ◌≤◌}
+use native.Mathlib.Omega.{arith}
+use lib.ListN.{get_or}
+use Rattle.numbers.specs.First.{FirstEach, first_more}
+use Rattle.numbers.proofs.take_firsts.Given as goal
+
+abbrev pub invariant-loop-e : goal.invariant-loop-e
+invariant-loop-e l = (l.e ≤ l.count) × FirstEach l.numbers l.least l.initial.canon l.canon l.e
+
+abbrev pub decreases-loop-e : goal.decreases-loop-e
+decreases-loop-e l = l.count - l.e

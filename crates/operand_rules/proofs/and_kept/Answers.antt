@@ -1,0 +1,66 @@
+-- `and_kept` meets its contract, test by test: the kind, the first child, the second.
+use mathlib.Core.Path.{◌≡◌, refl, ◌∙◌}
+use mathlib.Core.List.{List, ◌∷◌}
+use Prim.Native.Nat.{ℕ, ◌%◌}
+use native.Mathlib.Omega.{arith}
+use borrow.Author.Rules.{rules}
+use Rattle.verdict.specs.Tests.{same, remove, each}
+use Rattle.formula.specs.Table.{Table}
+use Rattle.formula.specs.Plain.{table_of}
+use Rattle.formula.specs.Codes.{code, entry_of_lem}
+use Rattle.formula.specs.Target.{target_a}
+use Rattle.written.specs.Canon.{key}
+use Rattle.calculus.specs.Judge.{keys, sides, and_kept as Kept}
+use Rattle.sequents.specs.Placed.{Side, HoldsKeys}
+use Rattle.sequents.specs.KeptLaws.{was_false, was_true, Operands, this_kind, other_kind, and_operands, operand_member}
+use Rattle.operand_rules.proofs.and_kept.Goals as goal
+
+-- where the first test is passed, the principal has two operands
+told : (c : goal.Else-kinds-entry_of-ne-AND) → let a = c.args in Operands a.kinds.now a.a.now a.b.now a.size (entry_of_lem a.principal)
+told c = and_operands c.requires c.entry_of.ensures c.if-kinds-entry_of-ne-AND.false
+
+-- the table that the function is lent
+abbrev table : tie.Start → Table
+table s = table_of s.args.kinds.now s.args.a.now s.args.b.now s.args.size
+
+-- what the test of the first child's sequent says
+first : (c : goal.After-is_side_plus) → (l m : List ℕ) → Side (table c.before.before.before.before.before-LEFT-After-entry_of) c.args.side.now c.args.principal l → HoldsKeys (table c.before.before.before.before.before-LEFT-After-entry_of) c.args.first.now m
+    → c.is_side_plus.result ≡ same (each (key (table c.before.before.before.before.before-LEFT-After-entry_of)) m)
+    (key (table c.before.before.before.before.before-LEFT-After-entry_of) (code (target_a (table c.before.before.before.before.before-LEFT-After-entry_of) (entry_of_lem c.args.principal)) (c.args.principal % 2)) ∷ remove (key (table c.before.before.before.before.before-LEFT-After-entry_of) c.args.principal) (each (key (table c.before.before.before.before.before-LEFT-After-entry_of)) l))
+first c l m S M =
+    let c.before.before.before.before.before-LEFT-After-entry_of = c.before.before.before.before.before-LEFT-After-entry_of in
+    let k = told c.before.before-LEFT-Else-kinds-entry_of-ne-AND in
+    let a_key = c.operand_key-of_a.ensures.1 c.args.b.now c.args.size k.a.inside ∙ operand_member c.requires k.a (omega arith) in
+    rw (← a_key) (c.is_side_plus.ensures _ _ S.holds M)
+
+pub returns-then-kinds-entry_of-ne-AND : goal.returns-then-kinds-entry_of-ne-AND
+unfolding Kept
+returns-then-kinds-entry_of-ne-AND c l m n S M N = rw (other_kind c.requires l m n S.belongs c.entry_of.ensures c.if-kinds-entry_of-ne-AND.true) refl
+
+pub operand_key-of_a-requires : goal.operand_key-of_a-requires
+operand_key-of_a-requires c = let p = c.requires in (p.numbers.narrow, omega (arith, p.inside, p.small), (told c).a.within, omega arith)
+
+pub returns-then-not-is_side_plus : goal.returns-then-not-is_side_plus
+unfolding Kept sides keys
+returns-then-not-is_side_plus c l m n S M N =
+    rw (
+      this_kind c.requires l m n S.belongs c.entry_of.ensures c.if-kinds-entry_of-ne-AND.false,
+      was_false (first (goal.at.returns-then-not-is_side_plus c).After-is_side_plus l m S M) c.if-not-is_side_plus.true,
+    ) refl
+
+pub operand_key-of_b-requires : goal.operand_key-of_b-requires
+operand_key-of_b-requires c =
+    let p = c.requires in
+    (p.numbers.narrow, omega (arith, p.inside, p.small), (told (goal.at.operand_key-of_b-requires c).Else-kinds-entry_of-ne-AND).b.within, omega arith)
+
+pub returns : goal.returns
+unfolding Kept sides keys
+returns c l m n S M N =
+    let k = told (goal.at.returns c).Else-kinds-entry_of-ne-AND in
+    let b-key = c.operand_key-of_b.ensures.1 c.args.b.now c.args.size k.b.inside ∙ operand_member c.requires k.b (omega arith) in
+    rw (
+      this_kind c.requires l m n S.belongs c.entry_of.ensures c.if-kinds-entry_of-ne-AND.false,
+      was_true (first (goal.at.returns c).After-is_side_plus l m S M) c.if-not-is_side_plus.false,
+      ← b-key,
+    )
+    (c.is_side_plus-2.ensures _ _ S.holds N)

@@ -1,0 +1,38 @@
+-- `or_kept` meets its contract: the set that is compared holds the side and both targets.
+use mathlib.Core.Path.{refl, ◌∙◌}
+use mathlib.Core.List.{[]}
+use native.Mathlib.Omega.{arith}
+use borrow.Author.Rules.{rules}
+use Rattle.formula.specs.Codes.{entry_of_lem}
+use Rattle.calculus.specs.Judge.{keys, sides, or_kept as Kept}
+use Rattle.sequents.specs.KeptLaws.{Operands, this_kind, other_kind, or_operands, operand_member}
+use Rattle.operand_rules.proofs.or_kept.Goals as goal
+
+-- where the first test is passed, the principal has two operands
+told : (c : goal.Else-kinds-entry_of-ne-OR) → let a = c.args in Operands a.kinds.now a.a.now a.b.now a.size (entry_of_lem a.principal)
+told c = or_operands c.requires c.entry_of.ensures c.if-kinds-entry_of-ne-OR.false
+
+pub returns-then-kinds-entry_of-ne-OR : goal.returns-then-kinds-entry_of-ne-OR
+unfolding Kept
+returns-then-kinds-entry_of-ne-OR c l m S M = rw (other_kind c.requires l m [] S.belongs c.entry_of.ensures c.if-kinds-entry_of-ne-OR.true) refl
+
+pub operand_key-left-requires : goal.operand_key-left-requires
+operand_key-left-requires c = let p = c.requires in (p.numbers.narrow, omega (arith, p.inside, p.small), (told c).a.within, omega arith)
+
+pub operand_key-right-requires : goal.operand_key-right-requires
+operand_key-right-requires c =
+    let p = c.requires in
+    (p.numbers.narrow, omega (arith, p.inside, p.small), (told (goal.at.operand_key-right-requires c).Else-kinds-entry_of-ne-OR).b.within, omega arith)
+
+pub returns : goal.returns
+unfolding Kept sides keys
+returns c l m S M =
+    let k = told (goal.at.returns c).After-t14-1 in
+    let a_key = c.operand_key-left.ensures.1 c.args.b.now c.args.size k.a.inside ∙ operand_member c.requires k.a (omega arith) in
+    let b-key = c.operand_key-right.ensures.1 c.args.b.now c.args.size k.b.inside ∙ operand_member c.requires k.b (omega arith) in
+    rw (
+      this_kind c.requires l m [] S.belongs c.entry_of.ensures c.if-kinds-entry_of-ne-OR.false,
+      ← a_key,
+      ← b-key,
+    )
+    (c.same.ensures _ _ M (c.put-2.ensures _ (c.put.ensures _ S.holds)))

@@ -1,0 +1,26 @@
+-- The nodes read so far are a walk of the parser of nodes, each at most 57 bytes long.
+use borrow.Author.Rules.{rules}
+use native.Mathlib.Omega.{arith}
+use mathlib.Core.Path.{◌≡◌, subst}
+use mathlib.Core.List.{List, []}
+use Prim.Native.Nat.{ℕ, ◌+◌, ◌*◌, ◌-◌, ◌≤◌}
+use lib.ListN.{length, drop}
+use Rattle.formula.specs.Table.{Table}
+use Rattle.formula.specs.Nodes.{Proof}
+use Rattle.proof_files.specs.ReadProof.{node}
+use Rattle.encoding.specs.Walk.{Walking, walk_begins, walk_steps, walk_stops, walk_ends}
+use Rattle.proof_files.specs.ProofParts.{kind_table, nodes_of}
+use Rattle.proofs.specs.ProofSteps.{Finds}
+use Rattle.proofs.specs.declared.Step.{Step}
+use Rattle.proofs.specs.declared.Step.TheVariants.{Next, Stop}
+use Rattle.proofs.proofs.nodes_walk.Given as goal
+
+abbrev pub invariant-loop-i : goal.invariant-loop-i
+invariant-loop-i l =
+    (l.i ≤ l.n)
+    × (l.at ≤ length l.bytes)
+    × (l.at ≤ l.start + 57 * l.i)
+    × ((l : Proof) × Walking (λ _. node (kind_table l.kinds l.count)) (λ _ _. 0) (nodes_of (kind_table l.kinds l.count) l.n l.bytes l.start) l.n l.i l 0 (drop l.at l.bytes) l.at)
+
+abbrev pub decreases-loop-i : goal.decreases-loop-i
+decreases-loop-i l = l.n - l.i

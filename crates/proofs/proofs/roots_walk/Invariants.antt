@@ -1,0 +1,26 @@
+-- The roots read so far are a walk of the parser of numbers: each turn is one of its steps, and each refusal one of its stops.
+use borrow.Author.Rules.{rules}
+use native.Mathlib.Omega.{arith}
+use mathlib.Core.Path.{◌≡◌, refl}
+use mathlib.Core.List.{List, []}
+use mathlib.Core.Bool.{true, false}
+use Prim.Native.Nat.{ℕ, suc, ◌+◌, ◌*◌, ◌-◌, ◌<◌, ◌≤◌}
+use lib.ListN.{length, drop}
+use borrow.Author.Tests.{le-leb, lt-ltb, le-ltb}
+use Rattle.encoding.specs.Parse.{fault, fits_from}
+use Rattle.encoding.specs.Places.{word_at}
+use Rattle.encoding.specs.Walk.{Walking, walk_begins, walk_steps, walk_stops, walk_ends}
+use Rattle.proof_files.specs.ReadProof.{is_node}
+use Rattle.proof_files.specs.ProofParts.{number_from, after_number, numbers_of}
+use Rattle.proofs.specs.ProofLaws.{number_cut, number_unfit, number_fits, number_low}
+use Rattle.proofs.proofs.roots_walk.Given as goal
+
+abbrev pub invariant-loop-i : goal.invariant-loop-i
+invariant-loop-i l =
+    (l.i ≤ l.goals)
+    × (l.at ≤ length l.bytes)
+    × (l.at ≡ 6 + 2 * l.i)
+    × ((l : List ℕ) × Walking (number_from (is_node l.nodes)) after_number (numbers_of (is_node l.nodes) l.goals l.bytes 6) l.goals l.i l l.least (drop l.at l.bytes) l.at)
+
+abbrev pub decreases-loop-i : goal.decreases-loop-i
+decreases-loop-i l = l.goals - l.i

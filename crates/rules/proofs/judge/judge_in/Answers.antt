@@ -1,0 +1,35 @@
+-- 35 first, and then the rest over a tree
+use mathlib.Core.Path.{refl, sym, ap, ◌∙◌}
+use borrow.Author.Rules.{rules}
+use Rattle.verdict.specs.Shown.{shown}
+use Rattle.tree.specs.TreeStages.{filled_parented}
+use Rattle.rules.specs.JudgeStages.{tree_bad, tree_good, filled_tree, filled_judged}
+use Rattle.rules.proofs.judge.judge_in.Goals as goal
+
+pub fill_owners-requires : goal.fill_owners-requires
+fill_owners-requires c =
+    let (L, G, F, _) = c.requires in (
+      record { few = L.columns.few; room = (L.columns.rules, L.columns.links, F.room) },
+      record { few = G.roots.few; long = G.roots.long; inside = G.roots.inside },
+      F.ownerless,
+    )
+
+pub judge_tree-requires : goal.judge_tree-requires
+judge_tree-requires c =
+    let (L, M, F, N) = c.requires in
+    let filled = rw c.enum_told-1.given.1 at c.fill_owners.ensures in (
+      (filled_judged filled L N, M),
+      (
+        record { few = L.columns.few; room = search rules; parented = filled_parented _ _ _ _ _ filled },
+        filled.owned refl,
+        F.once,
+      ),
+    )
+
+pub returns-in-Accepted : goal.returns-in-Accepted
+returns-in-Accepted c f =
+    let filled = rw c.enum_told-1.given.1 at c.fill_owners.ensures in
+    c.judge_tree.ensures f ∙ sym (tree_good _ _ (filled_tree filled _ _))
+
+pub returns-in-Refused : goal.returns-in-Refused
+returns-in-Refused c f = sym (tree_bad _ _ (sym (c.fill_owners.ensures.answers _ _) ∙ ap shown c.number-1.given.1))

@@ -1,0 +1,28 @@
+-- The last arm is left to the kinds below 4, to boxes and diamonds, and to numbers past the last kind.
+use mathlib.Core.Logic.{⊎_elim, inl, inr}
+use native.Mathlib.Omega.{arith}
+use borrow.Author.Rules.{rules}
+use Rattle.conditions.specs.Judge.{open_row}
+use Rattle.scopes.specs.RowMarks.{open_joins, made_leaf, made_two, made_name, open_step, open_fix}
+use Rattle.scopes.proofs.entry.open_names.Goals as goal
+
+pub returns-in-10 : goal.returns-in-10
+returns-in-10 c = let given = c.args in made_name open_row open_joins given.kind given.first given.e given.x given.y _ c.in-10.keys1 c.only.ensures
+
+pub returns-in-4 : goal.returns-in-4
+returns-in-4 c =
+    let given = c.args in
+    made_two open_row open_joins given.kind given.first given.e given.x given.y _ (omega arith) (omega arith) c.union.ensures
+
+pub returns-in-8 : goal.returns-in-8
+returns-in-8 c = let given = c.args in open_fix given.kind given.first given.e given.x given.y (omega arith) (omega arith)
+
+pub returns-in_default : goal.returns-in_default
+returns-in_default c =
+    let given = c.args in
+    ⊎_elim
+    (λ w. made_leaf open_row open_joins given.kind given.first given.e given.x given.y _ (inl w.taken) c.none.ensures)
+    (⊎_elim
+    (λ w. open_step given.kind given.first given.e given.x given.y w.1.left (omega (arith, w.2.taken)) _ c.none.ensures)
+    (λ w. made_leaf open_row open_joins given.kind given.first given.e given.x given.y _ (inr (omega (arith, w.3.left, c.in_default-1.rest.1))) c.none.ensures))
+    c.in_default.branch

@@ -1,0 +1,14 @@
+-- The invariant: the rows of all entries passed.
+use mathlib.Core.Path.{refl}
+use Prim.Native.Nat.{ℕ, ◌+◌, ◌*◌, ◌-◌, ◌<◌, ◌≤◌}
+use native.Mathlib.Omega.{arith}
+use lib.ListN.{length}
+use borrow.Author.Rules.{rules}
+use Rattle.scopes.specs.FreeRows.{FreeReached, free_on}
+use Rattle.scopes.proofs.fill_free_rows.Given as goal
+
+abbrev pub invariant-loop-e : goal.invariant-loop-e
+invariant-loop-e l = FreeReached l.kinds l.a l.b l.count l.initial.rows l.rows l.e
+
+abbrev pub decreases-loop-e : goal.decreases-loop-e
+decreases-loop-e l = l.count - l.e

@@ -1,0 +1,30 @@
+use mathlib.Core.Path.{◌≡◌}
+use mathlib.Core.Logic.{⊎_elim}
+use mathlib.Core.Bool.{Bool}
+use Prim.Native.Nat.{ℕ, ◌≤◌, ◌-◌}
+use native.Mathlib.Omega.{arith}
+use lib.Dec.{eqb}
+use lib.ListN.{get_or}
+use borrow.Author.Rules.{rules}
+use borrow.Author.Tests.{eq-eqb, ne_eqb}
+use Rattle.name_sets.specs.MarksBelow.{MarksBelow, below_none, below_skip, below_with}
+use Rattle.scopes.proofs.of_kind.Goals as goal
+
+pub loop-e-init : goal.loop-e-init
+loop-e-init c = (omega arith, below_none _ _ c.none-found.ensures)
+
+pub loop-e-preserved : goal.loop-e-preserved
+loop-e-preserved c =
+    let given = c.args in
+    let P : ℕ → Bool = λ n. eqb (get_or given.kinds.now n 0) given.kind in (
+      omega arith,
+      ⊎_elim
+          (λ w. rw w.2 (below_with c.loop-e.found P c.loop-e.e c.loop-e.invariant.1 (eq-eqb _ _ w.0.taken) _ w.1.ensures))
+          (λ w. rw w.1 (below_skip c.loop-e.found P c.loop-e.e c.loop-e.invariant.1 (ne_eqb _ _ w.0.left)))
+          c.if-kinds-e.branch,
+    )
+
+pub returns : goal.returns
+returns c =
+    let q : c.loop-e.e ≡ c.args.count = omega arith in
+    rw q at c.loop-e.invariant.1

@@ -1,0 +1,16 @@
+-- before node v: all below v have their numbers, and v and those after it are only counted
+use mathlib.Core.Path.{◌≡◌, refl, ◌∙◌}
+use Prim.Native.Nat.{◌-◌, ◌≤◌}
+use native.Mathlib.Omega.{arith}
+use lib.ListN.{length, length-set}
+use borrow.Author.Rules.{rules}
+use Rattle.spans.specs.Spans.{Numbered}
+use Rattle.spans.specs.Ancestors.{spans_tell}
+use Rattle.spans.specs.SpanLaws.{parent_room, none_numbered, exit_fits, number_more, spans_done}
+use Rattle.spans.proofs.number_nodes.Given as goal
+
+abbrev pub invariant-loop-v : goal.invariant-loop-v
+invariant-loop-v l = (l.v ≤ l.nodes) × (length l.entries ≡ length l.initial.entries) × (length l.exits ≡ length l.initial.exits) × Numbered l.owners l.nodes l.v l.initial.entries l.initial.exits l.entries l.exits
+
+abbrev pub decreases-loop-v : goal.decreases-loop-v
+decreases-loop-v l = l.nodes - l.v

@@ -1,0 +1,34 @@
+use mathlib.Core.Path.{◌≡◌, sym, subst}
+use mathlib.Core.Logic.{⊎_elim}
+use Prim.Native.Nat.{ℕ, ◌+◌, ◌*◌, ◌-◌, ◌≤◌}
+use native.Mathlib.Omega.{arith}
+use borrow.Author.Rules.{rules}
+use Rattle.states.specs.BitLaws.{read_set, read_clear}
+use Rattle.states.specs.Rows.{RowWords, words_none, words_pass, words_more}
+use Rattle.successors.proofs.row_words.Goals as goal
+
+pub loop-a-init : goal.loop-a-init
+loop-a-init c = (omega arith, words_none _ _ _ _)
+
+pub action_rows-requires : goal.action_rows-requires
+action_rows-requires c =
+    let turn = c.loop-a in
+    let room = c.requires.1 turn.a (read_set c.args.used turn.a c.if-used-a-eq1.true) in
+    (c.loop-a-test.true, c.requires.0, subst (λ (k : ℕ). 64 * turn.a + 64 ≤ k) (sym turn.invariant.1.long) room)
+
+pub loop-a-preserved : goal.loop-a-preserved
+loop-a-preserved c =
+    let turn = c.loop-a in
+    (
+      omega arith,
+      ⊎_elim (λ w. rw w.5 (words_more turn.invariant.1 c.requires.0 (read_set c.args.used turn.a w.0.taken) _ w.2.ensures))
+          (λ w. rw w.1 (words_pass turn.invariant.1 (read_clear c.args.used turn.a w.0.left))) c.if-used-a-eq1.branch,
+    )
+
+pub shape_of-rows : goal.shape_of-rows
+shape_of-rows c = c.loop-a.invariant.1.long
+
+pub returns : goal.returns
+returns c =
+    let e : c.loop-a.a ≡ 16 = omega arith in
+    rw e at c.loop-a.invariant.1

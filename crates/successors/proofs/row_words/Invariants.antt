@@ -1,0 +1,15 @@
+-- the actions below a that are in the map have their rows
+use mathlib.Core.Path.{◌≡◌, sym, subst}
+use mathlib.Core.Logic.{⊎_elim}
+use Prim.Native.Nat.{ℕ, ◌+◌, ◌*◌, ◌-◌, ◌≤◌}
+use native.Mathlib.Omega.{arith}
+use borrow.Author.Rules.{rules}
+use Rattle.states.specs.BitLaws.{read_set, read_clear}
+use Rattle.states.specs.Rows.{RowWords, words_none, words_pass, words_more}
+use Rattle.successors.proofs.row_words.Given as goal
+
+abbrev pub invariant-loop-a : goal.invariant-loop-a
+invariant-loop-a l = (l.a ≤ 16) × RowWords l.marks l.used l.n l.initial.rows l.a l.rows
+
+abbrev pub decreases-loop-a : goal.decreases-loop-a
+decreases-loop-a l = 16 - l.a

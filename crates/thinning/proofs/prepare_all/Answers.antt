@@ -1,0 +1,49 @@
+use mathlib.Core.Path.{◌≡◌, refl, ◌∙◌}
+use Prim.Native.Nat.{◌-◌, ◌≤◌}
+use native.Mathlib.Omega.{arith}
+use lib.ListN.{length}
+use Rattle.thinning.specs.Columns.{Prepared}
+use Rattle.thinning.proofs.prepare_all.Goals as goal
+
+abbrev start : tie.In-loop invariant-loop decreases-loop → tie.Start invariant-loop decreases-loop
+start c = c.before.before.before.before.before
+
+-- at the end of a turn: what `prepare` has left
+abbrev made : tie.After-slice-known4 invariant-loop decreases-loop → tie.After-prepare invariant-loop decreases-loop
+made c = c.before.before.before.before
+
+abbrev turn : tie.After-slice-known4 invariant-loop decreases-loop → tie.In-loop invariant-loop decreases-loop
+turn c = (made c).before.before.before.before.before
+
+pub loop-e-init : goal.loop-e-init
+loop-e-init c = (omega arith, refl, refl, c.requires.1)
+
+pub prepare-requires : goal.prepare-requires
+prepare-requires c =
+    let given = (start (goal.at.prepare-requires c).In-loop-e).requires.0 in
+    ((given.0, c.loop-e-test.true, given.1), c.loop-e.invariant.3)
+
+pub overflow_add-e : goal.overflow_add-e
+overflow_add-e c = record { fits = omega (arith, (turn c).loop-test.true, (start (turn c)).pre.0.0) }
+
+pub loop-e-smaller : goal.loop-e-smaller
+loop-e-smaller c = omega (arith, (turn c).loop-test.true)
+
+pub loop-e-preserved : goal.loop-e-preserved
+loop-e-preserved c =
+    let head = (turn c).before.loop in
+    let firsts = c.firsts-1.given ∙ head.inv.1 in
+    let seconds = c.seconds-1.given ∙ head.inv.2 in
+    (omega (arith, (turn c).loop-test.true), firsts, seconds, (made c).prepare.ensures)
+
+pub shape_of-firsts : goal.shape_of-firsts
+shape_of-firsts c = c.loop-e.invariant.1
+
+pub shape_of-seconds : goal.shape_of-seconds
+shape_of-seconds c = c.loop-e.invariant.2
+
+pub returns : goal.returns
+returns c =
+    let head = c.loop-e in
+    let all : head.e ≡ c.args.count = omega (arith, head.invariant.0, c.loop-e-test.false) in
+    rw all at head.invariant.3

@@ -1,0 +1,14 @@
+-- The invariant is that of `thin` over no name of an operand: the names below the one that is next are passed.
+use mathlib.Core.Path.{refl}
+use Prim.Native.Nat.{◌-◌, ◌<◌}
+use native.Mathlib.Omega.{arith}
+use Rattle.name_sets.specs.NameSets.{none_marks}
+use Rattle.name_sets.specs.declared.Names.{Names}
+use Rattle.thinning.specs.Marked.{Thinning, thinning_starts, thinning_nearer, thinning_on, thinning_ends, size-within, grown_without}
+use Rattle.thinning.proofs.size_of.Given as goal
+
+abbrev pub invariant-loop-name : goal.invariant-loop-name
+invariant-loop-name l = Thinning l.initial.rest empty l.count (record { marks = empty; l.size = l.size }) l.rest l.name
+
+abbrev pub decreases-loop-name : goal.decreases-loop-name
+decreases-loop-name l = 256 - l.name

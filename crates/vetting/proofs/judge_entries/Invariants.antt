@@ -1,0 +1,15 @@
+-- The entries before i fit, and the rest is walked over from here.
+use borrow.Author.Rules.{rules}
+use native.Mathlib.Omega.{arith}
+use mathlib.Core.Path.{sym, ◌∙◌}
+use Prim.Native.Nat.{◌+◌, ◌*◌, ◌-◌, ◌≤◌}
+use borrow.Author.Tests.{not-true, not-false}
+use Rattle.vetting.specs.StepLaws.{finds_stop, finds_next}
+use Rattle.vetting.specs.WalkLaws.{EntriesLeft, entries_begin, entries_stop, entries_on, entries_end_lem}
+use Rattle.vetting.proofs.judge_entries.Given as goal
+
+abbrev pub invariant-loop-i : goal.invariant-loop-i
+invariant-loop-i l = (l.i ≤ l.count) × (l.at ≤ 6 + 6 * l.i) × EntriesLeft l.kinds l.a l.b l.count l.i l.at
+
+abbrev pub decreases-loop-i : goal.decreases-loop-i
+decreases-loop-i l = l.count - l.i

@@ -1,0 +1,27 @@
+-- The roots are copied into an array of zeros, and a table of zeros is lent for the owners.
+use mathlib.Core.Path.{◌≡◌, ap, ◌∙◌}
+use mathlib.Core.List.{List}
+use Prim.Native.Nat.{ℕ}
+use native.Mathlib.Omega.{arith}
+use lib.ListN.{take, length-replicate, get_or-replicate}
+use Rattle.formula.specs.PlainNodes.{proof_of}
+use Rattle.tree.specs.Owners.{tree_judged}
+use Rattle.vetting.specs.RootLaws.{placed, roots_placed, roots_taken}
+use borrow.Author.Rules.{rules}
+use Rattle.vetting.proofs.judge_tree.Goals as goal
+
+copied : (c : goal.After-copy_roots) → c.copy_roots.new.1.0 ≡ placed c.args.roots.now
+copied c = c.copy_roots.ensures
+
+pub fill_owners-requires : goal.fill_owners-requires
+fill_owners-requires c =
+    let p = c.requires in (
+      record { few = p.0; room = (p.1, p.2, omega (arith, length-replicate {A = ℕ} 1024 0)) },
+      rw (copied (goal.at.fill_owners-requires c).After-copy_roots) (roots_placed c.args.roots.now c.args.goals c.args.nodes p.4 p.3),
+      λ w h. get_or-replicate {A = ℕ} 1024 w 0 0 (omega arith),
+    )
+
+pub returns : goal.returns
+returns c f many fit ss cs =
+    let roots = ap (take c.args.goals) (copied (goal.at.returns c).After-copy_roots) ∙ roots_taken f c.args.goals c.args.roots.now many fit in
+    c.fill_owners.ensures.answers ss cs ∙ ap (λ (l : List ℕ). tree_judged l (proof_of c.args.rules.now c.args.links.now ss cs c.args.nodes)) roots

@@ -1,0 +1,99 @@
+-- Each answer is what the judge of the records found, and the file is laid down only where there is room for it.
+use native.Mathlib.Omega.{arith}
+use mathlib.Core.Path.{◌≡◌, refl}
+use mathlib.Core.List.{List}
+use Prim.Native.Nat.{ℕ, ◌≤◌}
+use lib.ListN.{length}
+use Rattle.formula.specs.Table.{Table}
+use Rattle.formula.specs.Claim.{Form, form_number}
+use Rattle.formula.specs.Plain.{table_of, table_of_length}
+use Rattle.claim_files.specs.ClaimFile.{encode_claim}
+use Rattle.formula.specs.NamedForm.{named_form}
+use Rattle.writing.specs.RecordBytes.{split}
+use Rattle.writing.specs.Spelling.{spelled_claim}
+use Rattle.writing.specs.Ends.{End, next}
+use Rattle.writing.specs.Encoded.{claim_judged, ClaimPasses, claim_passes}
+use Rattle.writing.specs.Held.{ClaimWritten}
+use Rattle.writing.specs.Answers.{answered}
+use Rattle.vetting.specs.StepLaws.{found_stop, found_next}
+use Rattle.writer.specs.Written.{asked_form, asked_none, Wrote, wrote_refusal, wrote_no_room, wrote_file, claim_too_short, claim_of_no_form, claim_written, goals_room}
+use borrow.Author.Rules.{rules}
+use Rattle.writer.proofs.write_claim.Goals as goal
+
+-- the claim that stands in the columns, its file, and what its judge finds
+module _ (s : tie.Start) where
+  abbrev form : Form
+  form = named_form s.args.form
+
+  abbrev table : Table
+  table = table_of s.args.kinds.now s.args.a.now s.args.b.now s.args.count
+
+  abbrev sizes : List ℕ
+  sizes = s.args.sizes.now
+
+  abbrev members : List ℕ
+  members = s.args.members.now
+
+  abbrev file : List ℕ
+  file = encode_claim (spelled_claim form table (split sizes members))
+
+  abbrev found : End
+  found = claim_judged form s.args.count table sizes members
+
+  abbrev out : List ℕ
+  out = s.args.out.now
+
+  abbrev Promised : ℕ → List ℕ → Type 0
+  Promised r after = ClaimWritten s.args.form s.args.lent s.args.count s.args.kinds.now s.args.a.now s.args.b.now sizes members out r after
+
+  promised : (r : ℕ) (after : List ℕ) → 256 ≤ s.args.lent → s.args.form ≡ form_number form → Wrote (answered found (length out) file) out r after → Promised r after
+  promised r after h =
+      claim_written s.args.form s.args.lent s.args.count s.args.kinds.now s.args.a.now s.args.b.now sizes members out h form
+
+  passes : {o : ℕ} → found ≡ next o → ClaimPasses form s.args.count table sizes members o
+  passes = claim_passes form s.args.count table sizes members (table_of_length s.args.kinds.now s.args.a.now s.args.b.now s.args.count)
+
+-- records of a form, in a slice that is long enough
+abbrev start : tie.Else2 → tie.Start
+start c = c.before.before.before.before.before.before
+
+long : (c : goal.Else-not-is_form) → 256 ≤ (start c).args.lent
+long c = omega (arith, c.if-lent-lt256.false)
+
+named : (c : goal.Else-not-is_form) → (start c).args.form ≡ form_number (form (start c))
+named c = asked_form (start c).args.form c.is_form.ensures c.if-not-is_form.false
+
+pub returns-then-lent-lt256 : goal.returns-then-lent-lt256
+returns-then-lent-lt256 c =
+    claim_too_short c.args.form c.args.lent c.args.count c.args.kinds.now c.args.a.now c.args.b.now (sizes (goal.at.returns-then-lent-lt256 c).Start) (members (goal.at.returns-then-lent-lt256 c).Start) (out (goal.at.returns-then-lent-lt256 c).Start) c.if-lent-lt256.true
+    (record { answer = c.refuse.ensures; laid = refl })
+
+pub returns-then-not-is_form : goal.returns-then-not-is_form
+returns-then-not-is_form c =
+    claim_of_no_form c.args.form c.args.lent c.args.count c.args.kinds.now c.args.a.now c.args.b.now (sizes (goal.at.returns-then-not-is_form c).Start) (members (goal.at.returns-then-not-is_form c).Start) (out (goal.at.returns-then-not-is_form c).Start)
+    (omega (arith, c.if-lent-lt256.false)) (asked_none c.args.form c.is_form.ensures c.if-not-is_form.true) (record { answer = c.refuse-then-not-is_form.ensures; laid = refl })
+
+pub returns-then-out-end : goal.returns-then-out-end
+returns-then-out-end c =
+    let s = start (goal.at.returns-then-out-end c).Else-not-is_form in
+    promised s _ _ (long (goal.at.returns-then-out-end c).Else-not-is_form) (named (goal.at.returns-then-out-end c).Else-not-is_form)
+    (wrote_no_room (file s) (out s) (found_next (c.judge_claim.ensures (form s) (named (goal.at.returns-then-out-end c).Else-not-is_form)) c.end-1.given.1) c.if-out-end.true c.refuse-then-out-end.ensures)
+
+pub put_claim-requires : goal.put_claim-requires
+put_claim-requires c =
+    let s = start (goal.at.put_claim-requires c).Else-not-is_form in
+    let p = passes s (found_next (c.judge_claim.ensures (form s) (named (goal.at.put_claim-requires c).Else-not-is_form)) c.end-1.given.1) in
+    (omega (arith, p.end, c.if-out-end.false), p.entries, goals_room p)
+
+pub returns-in-Stop : goal.returns-in-Stop
+returns-in-Stop c =
+    let s = start (goal.at.returns-in-Stop c).Else-not-is_form in
+    promised s _ _ (long (goal.at.returns-in-Stop c).Else-not-is_form) (named (goal.at.returns-in-Stop c).Else-not-is_form)
+    (wrote_refusal (length (out s)) (file s) (out s) (found_stop (c.judge_claim.ensures (form s) (named (goal.at.returns-in-Stop c).Else-not-is_form)) c.number-1.given.1) c.refuse-in-Stop.ensures)
+
+pub returns-else-out-end : goal.returns-else-out-end
+returns-else-out-end c =
+    let s = start (goal.at.returns-else-out-end c).Else-not-is_form in
+    let walked = found_next (c.judge_claim.ensures (form s) (named (goal.at.returns-else-out-end c).Else-not-is_form)) c.end-1.given.1 in
+    promised s _ _ (long (goal.at.returns-else-out-end c).Else-not-is_form) (named (goal.at.returns-else-out-end c).Else-not-is_form)
+    (wrote_file (file s) (out s) _ walked (omega (arith, c.if-out-end.false)) (passes s walked).end (c.put_claim.ensures (form s) (named (goal.at.returns-else-out-end c).Else-not-is_form)))

@@ -1,0 +1,145 @@
+-- The slices, the claim, then the proof: the first that refuses answers.
+use native.Mathlib.Omega.{arith}
+use mathlib.Core.Path.{◌≡◌, refl}
+use mathlib.Core.List.{List}
+use mathlib.Core.Bool.{true, false, ◌||◌}
+use Prim.Native.Nat.{ℕ, ◌≤◌}
+use borrow.Author.Tests.{lt-ltb, le-ltb}
+use lib.Dec.{ltb}
+use lib.ListN.{length}
+use Rattle.formula.specs.Table.{Table}
+use Rattle.formula.specs.Claim.{Form, form_number}
+use Rattle.formula.specs.Records.{NodeRecord}
+use Rattle.formula.specs.Plain.{table_of, table_of_length}
+use Rattle.encoding.specs.File.{refused}
+use Rattle.proof_files.specs.ProofParts.{kind_table}
+use Rattle.formula.specs.NamedForm.{named_form}
+use Rattle.writing.specs.Ends.{End, next, stop}
+use Rattle.writing.specs.Encoded.{claim_judged, claim_passes}
+use Rattle.writing.specs.Held.{records_of, ProofWritten}
+use Rattle.vetting.specs.StepLaws.{found_stop, found_next}
+use Rattle.writer.specs.Written.{formed, asked_form, asked_none, Wrote, proved_by, proof_too_short, proof_of_no_form, claim_refused_first, proof_written, stands_beside}
+use borrow.Author.Rules.{rules}
+use Rattle.writer.proofs.write_proof.Goals as goal
+
+-- what the claim's judge finds, and what is promised
+module _ (s : tie.Start) where
+  abbrev form : Form
+  form = named_form s.args.form
+
+  abbrev table : Table
+  table = table_of s.args.kinds.now s.args.a.now s.args.b.now s.args.count
+
+  abbrev sizes : List ℕ
+  sizes = s.args.sizes.now
+
+  abbrev members : List ℕ
+  members = s.args.members.now
+
+  abbrev found : End
+  found = claim_judged form s.args.count table sizes members
+
+  abbrev roots : List ℕ
+  roots = s.args.roots.now
+
+  abbrev records : List NodeRecord
+  records = records_of s.args.rules.now s.args.links.now s.args.counts.now s.args.nodes
+
+  abbrev codes : List ℕ
+  codes = s.args.codes.now
+
+  abbrev out : List ℕ
+  out = s.args.out.now
+
+  abbrev Promised : ℕ → List ℕ → Type 0
+  Promised r after =
+      ProofWritten s.args.form s.args.lent s.args.count s.args.kinds.now s.args.a.now s.args.b.now sizes members
+      s.args.nodes-lent s.args.nodes s.args.rules.now s.args.links.now s.args.counts.now roots codes out r after
+
+  abbrev Named : Type 0
+  Named = s.args.form ≡ form_number form
+
+  -- every slice is as long as document 01 asks
+  record Long : Type 0 where
+    pub entries : 256 ≤ s.args.lent
+    pub nodes : 1024 ≤ s.args.nodes-lent
+    pub codes : 24576 ≤ length codes
+
+  short : (r : ℕ) → (ltb s.args.lent 256 || (ltb s.args.nodes-lent 1024 || ltb (length codes) 24576)) ≡ true → Wrote (refused 1 0) out r out → Promised r out
+  short r =
+      proof_too_short s.args.form s.args.lent s.args.count s.args.kinds.now s.args.a.now s.args.b.now sizes members
+      s.args.nodes-lent s.args.nodes s.args.rules.now s.args.links.now s.args.counts.now roots codes out
+
+  no_form : (r : ℕ) → Long → formed s.args.form ≡ false → Wrote (refused 10 0) out r out → Promised r out
+  no_form r l =
+      proof_of_no_form s.args.form s.args.lent s.args.count s.args.kinds.now s.args.a.now s.args.b.now sizes members
+      s.args.nodes-lent s.args.nodes s.args.rules.now s.args.links.now s.args.counts.now roots codes out
+      l.entries l.nodes l.codes
+
+  refused-first : (r : ℕ) {n q : ℕ} → Long → Named → found ≡ stop n q → Wrote (refused n q) out r out → Promised r out
+  refused-first r l named =
+      claim_refused_first s.args.form s.args.lent s.args.count s.args.kinds.now s.args.a.now s.args.b.now sizes members
+      s.args.nodes-lent s.args.nodes s.args.rules.now s.args.links.now s.args.counts.now roots codes out
+      l.entries l.nodes l.codes form named
+
+  written : (r : ℕ) (after : List ℕ) {o : ℕ} → Long → Named → found ≡ next o
+      → Wrote (proved_by form (length sizes) (kind_table s.args.kinds.now s.args.count) s.args.nodes roots records codes (length out)) out r after → Promised r after
+  written r after l named =
+      proof_written s.args.form s.args.lent s.args.count s.args.kinds.now s.args.a.now s.args.b.now sizes members
+      s.args.nodes-lent s.args.nodes s.args.rules.now s.args.links.now s.args.counts.now roots codes out
+      l.entries l.nodes l.codes form named
+
+-- slices that are long enough, and then records of a form
+abbrev lent : tie.Else3 → tie.Start
+lent c = c.before.before.before.before.before.before.before.before.before.before.before
+
+long : (c : goal.Else-codes-lt24576) → Long (lent c)
+long c = record { entries = omega (arith, c.if-lent-lt256.false); nodes = omega (arith, c.if-nodes_lent-lt1024.false); codes = omega (arith, c.if-codes-lt24576.false) }
+
+abbrev start : tie.Else4 → tie.Start
+start c = lent c.before.before
+
+named : (c : goal.Else-not-is_form) → Named (start c)
+named c = asked_form (start c).args.form c.is_form.ensures c.if-not-is_form.false
+
+pub returns-then-lent-lt256 : goal.returns-then-lent-lt256
+returns-then-lent-lt256 c =
+    short (goal.at.returns-then-lent-lt256 c).Start _ (rw (lt-ltb c.args.lent 256 c.if-lent-lt256.true) refl) (record { answer = c.refuse.ensures; laid = refl })
+
+pub returns-then-nodes_lent-lt1024 : goal.returns-then-nodes_lent-lt1024
+returns-then-nodes_lent-lt1024 c =
+    short (goal.at.returns-then-nodes_lent-lt1024 c).Start _ (rw (le-ltb c.args.lent 256 (omega (arith, c.if-lent-lt256.false)), lt-ltb c.args.nodes-lent 1024 c.if-nodes_lent-lt1024.true) refl)
+    (record { answer = c.refuse-then-nodes_lent-lt1024.ensures; laid = refl })
+
+pub returns-then-codes-lt24576 : goal.returns-then-codes-lt24576
+returns-then-codes-lt24576 c =
+    short (goal.at.returns-then-codes-lt24576 c).Start _
+    (rw (
+      le-ltb c.args.lent 256 (omega (arith, c.if-lent-lt256.false)),
+      le-ltb c.args.nodes-lent 1024 (omega (arith, c.if-nodes_lent-lt1024.false)),
+      lt-ltb (length (codes (goal.at.returns-then-codes-lt24576 c).Start)) 24576 c.if-codes-lt24576.true,
+    ) refl)
+    (record { answer = c.refuse-then-codes-lt24576.ensures; laid = refl })
+
+pub returns-then-not-is_form : goal.returns-then-not-is_form
+returns-then-not-is_form c =
+    let s = lent (goal.at.returns-then-not-is_form c).Else-codes-lt24576 in
+    no_form s _ (long (goal.at.returns-then-not-is_form c).Else-codes-lt24576) (asked_none s.args.form c.is_form.ensures c.if-not-is_form.true) (record { answer = c.refuse-then-not-is_form.ensures; laid = refl })
+
+pub write_beside-requires : goal.write_beside-requires
+write_beside-requires c =
+    let s = start (goal.at.write_beside-requires c).Else-not-is_form in
+    let walked = found_next (c.judge_claim.ensures (form s) (named (goal.at.write_beside-requires c).Else-not-is_form)) c.enum_told-1.given.1 in
+    let p = claim_passes (form s) s.args.count (table s) (sizes s) (members s) (table_of_length s.args.kinds.now s.args.a.now s.args.b.now s.args.count) walked in
+    (stands_beside (named (goal.at.write_beside-requires c).Else-not-is_form) p, (long (goal.at.write_beside-requires c).Else-codes-lt24576).codes, s.pre)
+
+pub returns-in-Stop : goal.returns-in-Stop
+returns-in-Stop c =
+    let s = start (goal.at.returns-in-Stop c).Else-not-is_form in
+    refused-first s _ (long (goal.at.returns-in-Stop c).Else-codes-lt24576) (named (goal.at.returns-in-Stop c).Else-not-is_form) (found_stop (c.judge_claim.ensures (form s) (named (goal.at.returns-in-Stop c).Else-not-is_form)) c.number-1.given.1)
+    (record { answer = c.refuse-in-Stop.ensures; laid = refl })
+
+pub returns-in-Next : goal.returns-in-Next
+returns-in-Next c =
+    let s = start (goal.at.returns-in-Next c).Else-not-is_form in
+    written s _ _ (long (goal.at.returns-in-Next c).Else-codes-lt24576) (named (goal.at.returns-in-Next c).Else-not-is_form) (found_next (c.judge_claim.ensures (form s) (named (goal.at.returns-in-Next c).Else-not-is_form)) c.enum_told-1.given.1) c.write_beside.ensures
