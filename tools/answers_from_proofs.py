@@ -28,6 +28,10 @@ class Function:
             self.parent[plain(old)] = plain(parent) if parent else None
             self.steps_at[plain(old)] = step
             self.new_place[plain(old)] = new
+        self.callee = {}
+        for old, parent, step, callee, *_ in listed["places"]:
+            if callee:
+                self.callee[step[1]] = callee
         self.steps = {}
         for old, new in self.steps_at.values():
             if old:
@@ -37,6 +41,80 @@ class Function:
         self.by_plain = {}
         for i, (old, new) in enumerate(self.needs):
             self.by_plain.setdefault(plain(old), i)
+
+
+def clause_names():
+    """For each function, by its path in the code: the names of its requires and of its ensures, where they have names."""
+    found = {}
+    for crate in os.listdir("crates"):
+        src = os.path.join("crates", crate, "src")
+        for at, _, files in os.walk(src):
+            for file in files:
+                if not file.endswith(".rt"):
+                    continue
+                inner = os.path.relpath(os.path.join(at, file), src)[:-3].replace("/", "::")
+                path = crate if inner in ("lib", "main") else f"{crate}::{inner}"
+                with open(os.path.join(at, file), encoding="utf-8") as f:
+                    lines = f.read().split("\n")
+                fn, block = None, ""
+                for line in lines:
+                    m = re.match(r"impl (\w+)", line)
+                    if m:
+                        block = m[1] + "::"
+                    if line.startswith("}"):
+                        block = "" if block and not fn else block
+                    m = re.match(r"\s*(?:pub )?(?:unsafe )?(?:extern \"C\" )?fn (\w+)", line)
+                    if m:
+                        indented = line.startswith(" ")
+                        fn = f"{path}::{block if indented else ''}{m[1]}"
+                        found[fn] = {"requires": [], "ensures": []}
+                    m = re.match(r"\s+(requires|ensures) (\w+) \{", line)
+                    if m and fn:
+                        found[fn][m[1]].append(m[2])
+    return found
+
+
+def parts(text):
+    """The parts of a tuple in parentheses at the end of the text, with what stands before it, or None."""
+    t = text.rstrip()
+    if not t.endswith(")"):
+        return None
+    depth, i = 0, len(t) - 1
+    while i >= 0:
+        depth += (t[i] in ")}]") - (t[i] in "({[")
+        if depth == 0:
+            break
+        i -= 1
+    before, inner = t[:i], t[i + 1 : -1]
+    if before.strip() and not re.search(r"( in|\)|[\w'] )\s*$", before.rstrip() + " "):
+        return None
+    out, depth, start = [], 0, 0
+    for k, ch in enumerate(inner):
+        depth += (ch in "({[") - (ch in ")}]")
+        if ch == "," and depth == 0:
+            out.append(inner[start:k])
+            start = k + 1
+    if inner[start:].strip():
+        out.append(inner[start:])
+    return before, [o.strip() for o in out]
+
+
+def by_names(text, names):
+    """A tuple at the end of the text, as the record of the clauses."""
+    if len(names) < 2:
+        return text
+    found = parts(text)
+    if not found:
+        return text
+    before, values = found
+    if len(values) == 2 and len(names) > 2:
+        rest = parts(values[1])
+        if rest and not rest[0].strip():
+            values = [values[0], *rest[1]]
+    if len(values) != len(names) or re.search(r"omega\s*$|search\s*$|grind\s*$|rw\s*$|simp\s*$|cc\s*$", before):
+        return text
+    fields = "; ".join(f"{n} = {v}" for n, v in zip(names, values))
+    return f"{before}record {{ {fields} }}"
 
 
 def blocks(text):
@@ -72,7 +150,8 @@ def strip_chain(text):
     return re.sub(r"(?<=[\w'₀₁₂])((?:\.before)+)(?=\.)", "", text)
 
 
-def convert(function, text, crate, name, path):
+def convert(function, text, crate, name, clauses):
+    own = f"{crate}::{name.replace('/', '::').replace('+', '')}"
     bs = blocks(text)
     uses, rest, comments = [], [], []
     for b in bs:
@@ -88,13 +167,25 @@ def convert(function, text, crate, name, path):
                 comments.append(b)
             else:
                 rest.append(b)
-    module = path
     uses = [u for u in uses if not re.search(r"\.proofs\.\S*\.(Statement|Tie|Reads|Lts)\b", u)]
     order = []
     m = re.search(r"tie\.spec((?:\s+[^\s()]+)+)\)", text)
     if m:
         order = [n for n in m[1].split() if not n.startswith(("invariant", "decreases"))]
 
+    # `start c = c.before.before`: from a place to one before it, which needs no name now
+    steps_back = []
+    for b in list(rest):
+        h = head_of(b)
+        m = re.match(r"(?:abbrev )?(" + NAME + r") : (?:\(\w+ : )?tie\.[^→]*→ tie\.", h)
+        if m and re.search(r"(?m)^" + re.escape(m[1]) + r" (\w+) = \1(\.before)+\s*$", b):
+            steps_back.append(m[1])
+            rest.remove(b)
+    if steps_back:
+        word = "|".join(map(re.escape, steps_back))
+        for _ in range(4):
+            rest = [re.sub(r"\((?:" + word + r") (\w+)\)", r"\1", b) for b in rest]
+            rest = [re.sub(r"(?<![\w.'-])(?:" + word + r") (\w+)(?![\w'.])", r"\1", b) for b in rest]
     # lemmas over a place: name -> plain old place
     over = {}
     for b in rest:
@@ -161,9 +252,26 @@ def convert(function, text, crate, name, path):
 
         out = re.sub(r"(?<![\w.'-])(" + names + r")((?:\.before)*)(\.(?!before\b)[\w'-]+)?(?![\w'-])", path, text)
         out = re.sub(r"\{-LEFT ([^}]*)-\}", r"-LEFT-\1", out)
+        # a test of `!b` says what b is
+        out = re.sub(r"\bnot[-_](?:true|false) _ (c\.if-not-[\w'-]+\.(?:true|false))", r"«\1»", out)
+        out = re.sub(r"(?<![«\w.])(c\.if-not-[\w'-]+\.(?:true|false))", r"(ap not \1)", out).replace("«", "").replace("»", "")
+        mine = clauses.get(own, {"requires": [], "ensures": []})
+        for path, names in [(root + ".requires", mine["requires"])] + [
+            (f"{root}.{step}.ensures", clauses.get(callee, {"ensures": []})["ensures"]) for step, callee in function.callee.items()
+        ]:
+            if len(names) < 2:
+                continue
+            aliases = [path] + re.findall(r"let (\w+) = " + re.escape(path) + r" in", out)
+            for a in aliases:
+                head = r"(?<![\w.'-])" + re.escape(a)
+                if len(names) > 2:
+                    out = re.sub(head + r"((?:\.1)*)\.0(?![\w])", lambda m: f"{a}.{names[m[1].count('.1')]}" if m[1].count(".1") < len(names) else m[0], out)
+                    last = ".1" * (len(names) - 1)
+                    out = re.sub(head + re.escape(last) + r"(?![\w.])", f"{a}.{names[-1]}", out)
+                out = re.sub(head + r"\.(\d)(?![\w])", lambda m: f"{a}.{names[int(m[1])]}" if int(m[1]) < len(names) else m[0], out)
         return out
 
-    answers, invariants, helpers = [], [], []
+    answers, invariants, helpers, places = [], [], [], set()
     for b in rest:
         h = head_of(b)
         if re.match(r"(pub )?\S+[-_]spec : ", h):
@@ -184,7 +292,10 @@ def convert(function, text, crate, name, path):
                     return it
                 return f"l.initial.{it[:-1]}" if it.endswith("₀") else f"l.{it}"
 
-            rhs = re.sub(r"(?<![\w.'])" + r"[^\W\d][\w'₀₁₂]*" + r"(?![\w'])", live, rhs)
+            bound = set(re.findall(r"λ ([^.]*)\.", rhs)) | {n for m2 in re.findall(r"\((\w+(?: \w+)*) : ", rhs) for n in m2.split()}
+            if any(n in params for it in bound for n in it.split()):
+                rhs = "{- LEFT: a bound name -}" + rhs
+            rhs = re.sub(r"(?<![\w.'])" + r"[^\W\d][\w'₀₁₂]*" + r"(?![\w'])(?! = )", live, rhs)
             note = [l for l in lines[:at] if l.startswith("--")]
             invariants.append("\n".join(note + [f"abbrev pub {kind}-{new} : goal.{kind}-{new}", f"{kind}-{new} l ={rhs}"]))
             continue
@@ -215,6 +326,16 @@ def convert(function, text, crate, name, path):
             shown = [p for p in params if p != "κs"]
             rhs = term[k.end():] if k else term
             rhs = body(rhs, place, new, root)
+            if rhs.strip() == "tt":
+                continue
+            if new.startswith("returns"):
+                rhs = by_names(rhs, clauses.get(own, {}).get("ensures", []))
+            elif "-requires" in new:
+                called = new.split("-requires")[0]
+                for step, callee in function.callee.items():
+                    if step == called or step.startswith(called):
+                        rhs = by_names(rhs, clauses.get(callee, {}).get("requires", []))
+                        break
             answers.append("\n".join(note + [f"pub {new} : goal.{new}", *middle, f"{new} {' '.join(shown)} ={rhs}"]))
             continue
         # a lemma of its own
@@ -222,7 +343,8 @@ def convert(function, text, crate, name, path):
         if name_m and name_m[1] in over:
             root, place = over[name_m[1]]
             new = function.new_place.get(plain(place), "?" + place)
-            b = re.sub(r"\((\w+) : tie\.[\w-]+[^)]*\)", lambda t: f"({t[1]} : goal.{new})", b, count=1)
+            b = re.sub(r"\((\w+) : tie\.[\w-]+[^)]*\)", lambda t: f"({t[1]} : {new})", b, count=1)
+            places.add(new)
             b = body(b, place, None, root)
         helpers.append(b)
     text_out = {}
@@ -234,7 +356,14 @@ def convert(function, text, crate, name, path):
                 turn = lambda t: re.sub(r"(?<![\w.'-])" + re.escape(old) + r"(?![\w'-])", new, t)
                 helpers, answers, invariants = [turn(t) for t in helpers], [turn(t) for t in answers], [turn(t) for t in invariants]
     goal_use = f"use Rattle.{crate}.proofs.{name.replace('/', '.')}.Goals as goal"
+    if places:
+        goal_use += f"\nuse Rattle.{crate}.proofs.{name.replace('/', '.')}.Goals.{{{', '.join(sorted(places))}}}"
     given_use = f"use Rattle.{crate}.proofs.{name.replace('/', '.')}.Given as goal"
+    if any("(ap not c." in t for t in helpers + answers):
+        known = " ".join(uses)
+        for word, module in (("ap", "Rattle.std.proofs.Common"), ("not", "Rattle.std.specs.Prelude")):
+            if not re.search(r"[{ ]" + word + r"[,}]", known):
+                uses.append(f"use {module}.{{{word}}}")
     if invariants:
         text_out["Invariants.antt"] = "\n".join([*comments, *uses, given_use]) + "\n\n" + "\n\n".join(invariants) + "\n"
     if answers:
@@ -247,6 +376,7 @@ def convert(function, text, crate, name, path):
 
 def main(argv):
     names, crates = argv[0], argv[1:]
+    clauses = clause_names()
     for crate in crates:
         folder = os.path.join("crates", crate, "proofs")
         with open(os.path.join(names, "crates", crate, "names.json"), encoding="utf-8") as f:
@@ -265,7 +395,7 @@ def main(argv):
                 print(f"{crate}/{name}: a walk by hand, left")
                 continue
             try:
-                out, left = convert(Function(listed[key]), text, crate, name, name)
+                out, left = convert(Function(listed[key]), text, crate, name, clauses)
             except Exception as e:  # a form that the text alone does not show
                 print(f"{crate}/{name}: not converted: {e!r}")
                 continue

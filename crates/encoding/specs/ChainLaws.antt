@@ -15,7 +15,7 @@ module _ {A : Type 0} {P : A → Type 0} where
 
   pub each_chain : {c : ℕ} {l : List A} → Each P l → Chain (λ _. P) (λ _ _. 0) c l
   each_chain none = ends
-  each_chain (more h k) = goes h (each_chain k)
+  each_chain {c = c} (more h k) = goes h (each_chain {c = 0} k)
 
 -- a number that has the property, and lies at or above c
 abbrev pub From : (P Q : ℕ → Type 0) → ℕ → ℕ → Type 0

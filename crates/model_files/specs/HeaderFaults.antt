@@ -115,6 +115,9 @@ module _ (f : Form) (n : ℕ) where
   wrong_header at_map w number r (zero_actions z e k b) =
       (inr tt, tt, refl, unfit (z, 0) (record { masked = k; actions_fit = zero_actions_fit f (list_stands z.0) e }) (λ z. z b refl))
   wrong_header at_map w number r (zero_count z s) = absurd (omega (arith, s.fewer))
+  wrong_header (at_mask _) w number r x = elim x [ ]
+  wrong_header (at_actions _) w number r x = elim x [ ]
+  wrong_header (at_count _) w number r x = elim x [ ]
   wrong_header (at_successor z k us) w number r (unfit_successor z' k' us' u b x) = absurd (omega (arith, r.lists.fewer))
 
   pub begun_none : Refuses early (header f) (state_stages f n 0)

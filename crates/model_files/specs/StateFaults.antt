@@ -184,6 +184,9 @@ module _ (f : Form) (n : ℕ) (k : Counts 1 64 n) (c : ℕ) where
           let (h, b) = at_here s i in
           let wrong : Unfit encode_counted There Filled 63 (encode_counted (z, 0)) 63 = unfit (z, 0) (h, zero-fits 256 (stands c z) (omega arith)) (λ g. g b refl) in
           (inl (inr tt), tt, refl, subst (λ (b : Bool). Unfit encode_counted There Filled 63 (encode_begun f z ++ encode_part b encode_byte 0) 63) b wrong)
+  stages_wrong (at_mask _) w number r x = elim x [ ]
+  stages_wrong (at_actions _) w number r x = elim x [ ]
+  stages_wrong (at_count _) w number r x = elim x [ ]
   stages_wrong (at_successor z m us) w number r (unfit_successor z' m' us' x o u) = go (dec_lt (length z.1) c)
     where
       go : Dec (length z.1 < c) → WrongIn Parts (state_done f n (at_successor z m us)) (encode_byte x) 64

@@ -41,6 +41,7 @@ module _ (p : ℕ → Bool) where
 
   only_bound : (s : List ℕ) (x i : ℕ) → p x ≡ true → BoundAt s x i → Narrows s x i
   unfolding Narrows only marks
+  only_bound [] x i h q = elim q [ ]
   only_bound (y ∷ s) x zero h q = go (p y) (ap p (sym q) ∙ h)
     where
       go : (b : Bool) → b ≡ true → BoundAt (keep b y (only p s)) x (narrow (b ∷ marks p s) 0) × (widen (b ∷ marks p s) (narrow (b ∷ marks p s) 0) ≡ 0)

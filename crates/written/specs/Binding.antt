@@ -30,12 +30,14 @@ bound_or_free (y ∷ s) x = go (ℕ_discrete x y) (bound_or_free s x)
     go (no q) (inr u) = inr (q, u)
 
 pub not_both : (s : List ℕ) (x i : ℕ) → BoundAt s x i → Unbound s x → ⊥
+not_both [] x i q _ = elim q [ ]
 not_both (y ∷ s) x zero q (n, u) = n q
 not_both (y ∷ s) x (suc i) (d, b) (n, u) = not_both s x i b u
 
 module _ (f : ℕ → Form) where
   bound_from : (j : ℕ) (s : List ℕ) (x i : ℕ) → BoundAt s x i → named f j s x ≡ bound (i + j)
   unfolding named
+  bound_from j [] x i q = elim q [ ]
   bound_from j (y ∷ s) x zero q = rw (eq-eqb x y q) (ap (λ (k : ℕ). bound k) (omega arith))
   bound_from j (y ∷ s) x (suc i) (n, b) =
       let q : i + suc j ≡ suc i + j = omega arith in

@@ -9,27 +9,30 @@ use Rattle.sequents.specs.Keys.{keys_of}
 use Rattle.sequents.specs.Part.{part, span_small}
 use Rattle.axioms.specs.AxiomParts.{clash_alone, clash_pair, none_axiom, keys_none, key_member, other_within, other_none, other_key}
 use Rattle.sequents.specs.KeptLaws.{was_false, was_true}
+use Rattle.std.proofs.Common.{ap}
+use Rattle.std.specs.Prelude.{not}
 use Rattle.axioms.proofs.clash.Goals as goal
+use Rattle.axioms.proofs.clash.Goals.{After-key_of-x, After-key_of-y, Else-other-to}
 
 -- the first member, the other, and that it is another
-one : (c : goal.After-key_of-x) → let a = c.args in elements (keys_of a.canon.now (part a.codes.now a.from a.to)) c.key_of-x.result
+one : (c : After-key_of-x) → let a = c.args in elements (keys_of a.canon.now (part a.codes.now a.from a.to)) c.key_of-x.result
 one c =
     let a = c.args in
     rw c.key_of-x.ensures.1 (key_member a.canon.now c.requires.1 a.from (omega arith) (omega (arith, c.requires.1.order, c.if-from-to.false)))
 
-within : (c : goal.Else-other-to) → c.other_member-other.result < c.args.to
+within : (c : Else-other-to) → c.other_member-other.result < c.args.to
 within c =
     omega (arith, c.requires.1.order, c.if-other-to.false, c.other_member-other.ensures, other_within c.args.canon.now c.requires.1 c.key_of-x.result)
 
 -- the first member that is another
-two : (c : goal.After-key_of-y) → let a = c.args in
+two : (c : After-key_of-y) → let a = c.args in
     elements (keys_of a.canon.now (part a.codes.now a.from a.to)) c.key_of-y.result
 two c =
     let a = c.args in
     rw c.key_of-y.ensures.1 (key_member a.canon.now c.requires.1 c.other_member-other.result
     (omega (arith, c.other_member-other.ensures)) (within c.before.before-LEFT-Else-other-to))
 
-another : (c : goal.After-key_of-y) → c.key_of-y.result ≢ c.key_of-x.result
+another : (c : After-key_of-y) → c.key_of-y.result ≢ c.key_of-x.result
 another c e =
     let a = c.args in
     let o = c.other_member-other.ensures in
@@ -63,14 +66,14 @@ key_of-y-requires c =
 
 pub returns-then-not-only : goal.returns-then-not-only
 returns-then-not-only c ys n E =
-    rw (clash_pair _ _ _ _ (one (goal.at.returns-then-not-only c).After-key_of-x) (two (goal.at.returns-then-not-only c).After-key_of-y) (another (goal.at.returns-then-not-only c).After-key_of-y), was_false c.only.ensures c.if-not-only.true) refl
+    rw (clash_pair _ _ _ _ (one (goal.at.returns-then-not-only c).After-key_of-x) (two (goal.at.returns-then-not-only c).After-key_of-y) (another (goal.at.returns-then-not-only c).After-key_of-y), was_false c.only.ensures (ap not c.if-not-only.true)) refl
 
 pub returns-then-opposite : goal.returns-then-opposite
 returns-then-opposite c ys n E =
     let x = one (goal.at.returns-then-opposite c).After-key_of-x in
     rw (
       clash_pair _ _ _ _ x (two (goal.at.returns-then-opposite c).After-key_of-y) (another (goal.at.returns-then-opposite c).After-key_of-y),
-      was_true c.only.ensures c.if-not-only.false,
+      was_true c.only.ensures (ap not c.if-not-only.false),
       ← c.opposite.ensures ys n (E _ x) (E _ (two (goal.at.returns-then-opposite c).After-key_of-y)),
       c.if-opposite.true,
     ) refl
@@ -80,7 +83,7 @@ returns c ys n E =
     let x = one (goal.at.returns c).After-key_of-x in
     rw (
       clash_pair _ _ _ _ x (two (goal.at.returns c).After-key_of-y) (another (goal.at.returns c).After-key_of-y),
-      was_true c.only.ensures c.if-not-only.false,
+      was_true c.only.ensures (ap not c.if-not-only.false),
       ← c.opposite.ensures ys n (E _ x) (E _ (two (goal.at.returns c).After-key_of-y)),
       c.if-opposite.false,
     ) (c.opposite-2.ensures ys n (E _ (two (goal.at.returns c).After-key_of-y)) (E _ x))

@@ -8,6 +8,8 @@ use Rattle.sequents.specs.Keys.{keys_of}
 use Rattle.sequents.specs.Part.{part, span_small}
 use Rattle.axioms.specs.AxiomParts.{one_of, only_on, only_stop, only_end}
 use Rattle.sequents.specs.KeptLaws.{was_false, was_true}
+use Rattle.std.proofs.Common.{ap}
+use Rattle.std.specs.Prelude.{not}
 use Rattle.axioms.proofs.only.Given as goal
 
 abbrev pub invariant-loop-i : goal.invariant-loop-i

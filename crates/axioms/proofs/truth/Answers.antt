@@ -9,9 +9,10 @@ use Rattle.sequents.specs.Keys.{keys_of}
 use Rattle.sequents.specs.Part.{part, span_small}
 use Rattle.axioms.specs.AxiomParts.{truth_one, none_axiom, keys_none, key_member}
 use Rattle.axioms.proofs.truth.Goals as goal
+use Rattle.axioms.proofs.truth.Goals.{After-key_of-x}
 
 -- the first member is one of the members
-one : (c : goal.After-key_of-x) → let a = c.args in elements (keys_of a.canon.now (part a.codes.now a.from a.to)) c.key_of-x.result
+one : (c : After-key_of-x) → let a = c.args in elements (keys_of a.canon.now (part a.codes.now a.from a.to)) c.key_of-x.result
 one c =
     let a = c.args in
     rw c.key_of-x.ensures.1 (key_member a.canon.now c.requires.1 a.from (omega arith) (omega (arith, c.requires.1.order, c.if-to-from.false)))

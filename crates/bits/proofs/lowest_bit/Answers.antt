@@ -1,8 +1,6 @@
-use Rattle.std.proofs.Common.{rules, ◌≡◌, ◌≤◌, ℕ, ◌+◌, ◌-◌, ◌*◌, ◌<◌, length, ◌/◌, ◌%◌, Bool, true, false, nat_eq, nat_lt, List, [], ◌∷◌, ◌++◌, slice_index_or, slice_set, bit_and, bit_or, Fits, w8, w32, w64, Bor, MutBor}
-use Rattle.bits.specs.IfSet.{if_set_lem}
-use Rattle.bits.specs.LowestBit.{LowestBit}
+use Rattle.std.proofs.Common.{◌<◌, ◌^◌, rules}
+use Rattle.bits.specs.LowestBit.{lowest_bit_lem}
 use Rattle.bits.proofs.lowest_bit.Goals as goal
 
--- src/lib.rt:23:1
 pub returns : goal.returns
-returns c = ?
+returns c = let b : c.args.word < 2 ^ 64 = search rules in lowest_bit_lem c.args.word c.requires b

@@ -8,4 +8,4 @@ use Rattle.blocks.proofs.settle_entry.Goals as goal
 pub returns : goal.returns
 returns c =
     let args2 = c.args in
-    (ap (set args2.words.now args2.e) c.formed-w.ensures, c.insert.ensures)
+    record { words_after = ap (set args2.words.now args2.e) c.formed-w.ensures; inserted = c.insert.ensures }

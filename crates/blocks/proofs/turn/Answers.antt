@@ -8,9 +8,9 @@ use Rattle.blocks.proofs.turn.Goals as goal
 pub returns-then-w-words : goal.returns-then-w-words
 returns-then-w-words c =
     let args2 = c.args in
-    turned_quiet _ _ _ _ _ _ args2.users.now args2.block.now _ _ _ _ c.requires.1.1 c.remove.ensures _ c.formed-w.ensures c.if-w-words.true
+    turned_quiet _ _ _ _ _ _ args2.users.now args2.block.now _ _ _ _ c.requires.e_in_bounds.1 c.remove.ensures _ c.formed-w.ensures c.if-w-words.true
 
 pub returns : goal.returns
 returns c =
     let given = c.requires in
-    turned_loud _ _ _ _ _ _ _ _ _ _ _ _ given.1.1 c.remove.ensures _ c.formed-w.ensures c.if-w-words.false (omega (arith, given.0.words_there, given.0.claim.few, given.1.0)) _ c.wake.ensures
+    turned_loud _ _ _ _ _ _ _ _ _ _ _ _ given.e_in_bounds.1 c.remove.ensures _ c.formed-w.ensures c.if-w-words.false (omega (arith, given.ready.words_there, given.ready.claim.few, given.e_in_bounds.0)) _ c.wake.ensures

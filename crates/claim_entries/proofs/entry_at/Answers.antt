@@ -3,6 +3,8 @@ use native.Mathlib.Omega.{arith}
 use borrow.Author.Rules.{rules}
 use Rattle.file_parts.specs.Numbers.{number_read, number_refused}
 use Rattle.claim_entries.specs.ClaimEntry.{entry_cut, entry_unfit, entry_a_cut, entry_b_cut, entry_whole}
+use Rattle.std.proofs.Common.{ap}
+use Rattle.std.specs.Prelude.{not}
 use Rattle.claim_entries.proofs.entry_at.Goals as goal
 
 pub returns-then-bytes-start-lt2 : goal.returns-then-bytes-start-lt2
@@ -10,7 +12,7 @@ returns-then-bytes-start-lt2 c = entry_cut _ _ c.requires c.if-bytes-start-lt2.t
 
 pub returns-then-not-kind_fits : goal.returns-then-not-kind_fits
 returns-then-not-kind_fits c =
-    entry_unfit _ _ c.requires c.if-bytes-start-lt2.false c.kind_fits.ensures c.if-not-kind_fits.true
+    entry_unfit _ _ c.requires c.if-bytes-start-lt2.false c.kind_fits.ensures (ap not c.if-not-kind_fits.true)
 
 pub field_at-requires-in-Read : goal.field_at-requires-in-Read
 field_at-requires-in-Read c =
@@ -19,19 +21,19 @@ field_at-requires-in-Read c =
 
 pub returns-in-Refused : goal.returns-in-Refused
 returns-in-Refused c =
-    entry_a_cut _ _ c.requires c.if-bytes-start-lt2.false c.kind_fits.ensures c.if-not-kind_fits.false c.a_stands.ensures
+    entry_a_cut _ _ c.requires c.if-bytes-start-lt2.false c.kind_fits.ensures (ap not c.if-not-kind_fits.false) c.a_stands.ensures
     (number_refused _ _ c.field_at.ensures c.number-1.given.1)
 
 pub returns-in-Refused-field_at : goal.returns-in-Refused-field_at
 returns-in-Refused-field_at c =
-    entry_b_cut _ _ c.requires c.if-bytes-start-lt2.false c.kind_fits.ensures c.if-not-kind_fits.false c.a_stands.ensures
+    entry_b_cut _ _ c.requires c.if-bytes-start-lt2.false c.kind_fits.ensures (ap not c.if-not-kind_fits.false) c.a_stands.ensures
     (number_read _ _ c.field_at.ensures c.a-1.given.1)
     c.b_stands-second.ensures
     (number_refused _ _ c.field_at-in-Read.ensures c.number-in-Refused-field_at-2-1.given.1)
 
 pub returns-in-Read-field_at : goal.returns-in-Read-field_at
 returns-in-Read-field_at c =
-    entry_whole _ _ c.requires c.if-bytes-start-lt2.false c.kind_fits.ensures c.if-not-kind_fits.false c.a_stands.ensures
+    entry_whole _ _ c.requires c.if-bytes-start-lt2.false c.kind_fits.ensures (ap not c.if-not-kind_fits.false) c.a_stands.ensures
     (number_read _ _ c.field_at.ensures c.a-1.given.1)
     c.b_stands-second.ensures
     (number_read _ _ c.field_at-in-Read.ensures c.value-1.given.1)

@@ -6,7 +6,7 @@ use Rattle.claim_entries.specs.ClaimEntries.{Entered, none_entered, entering_sto
 use Rattle.claim_entries.proofs.store_entries.Goals as goal
 
 pub loop-i-init : goal.loop-i-init
-loop-i-init c = (omega arith, none_entered _ _ _ _ _ _ c.requires.1.0.within)
+loop-i-init c = (omega arith, none_entered _ _ _ _ _ _ c.requires.in_file.0.within)
 
 pub entry_at-requires : goal.entry_at-requires
 entry_at-requires c = record { within = c.loop-i.invariant.1.within; low = omega (arith, c.loop-i.invariant.1.near) }
@@ -20,9 +20,9 @@ pub loop-i-preserved : goal.loop-i-preserved
 loop-i-preserved c = (
   omega arith,
   one_entered _ _ _ _ _ _ c.loop-i.invariant.1 c.loop-i-test.true
-      c.requires.1.1 c.requires.0
+      c.requires.in_file.1 c.requires.entry_arrays
       (entry_read _ _ c.entry_at.ensures c.kind-1.given.1),
 )
 
 pub returns : goal.returns
-returns c = all_entered _ _ _ _ _ _ c.loop-i.invariant.1 c.loop-i.invariant.0 c.loop-i-test.false c.requires.1.1
+returns c = all_entered _ _ _ _ _ _ c.loop-i.invariant.1 c.loop-i.invariant.0 c.loop-i-test.false c.requires.in_file.1

@@ -2,12 +2,14 @@
 use borrow.Author.Rules.{rules}
 use Rattle.file_parts.specs.Numbers.{number_read, number_refused}
 use Rattle.claim_members.specs.ClaimMembers.{member_cut, member_unfit, member_whole}
+use Rattle.std.proofs.Common.{ap}
+use Rattle.std.specs.Prelude.{not}
 use Rattle.claim_members.proofs.member_at.Goals as goal
 
 pub returns-then-not-may_follow : goal.returns-then-not-may_follow
 returns-then-not-may_follow c =
     member_unfit _ _ _ _ _ (number_read _ _ c.two_at.ensures c.value-1.given.1) c.may_follow.ensures
-    c.if-not-may_follow.true
+    (ap not c.if-not-may_follow.true)
 
 pub returns-in-Refused : goal.returns-in-Refused
 returns-in-Refused c = member_cut _ _ _ _ _ (number_refused _ _ c.two_at.ensures c.number-1.given.1)
@@ -15,4 +17,4 @@ returns-in-Refused c = member_cut _ _ _ _ _ (number_refused _ _ c.two_at.ensures
 pub returns-else-not-may_follow : goal.returns-else-not-may_follow
 returns-else-not-may_follow c =
     member_whole _ _ _ _ _ (number_read _ _ c.two_at.ensures c.value-1.given.1) c.may_follow.ensures
-    c.if-not-may_follow.false
+    (ap not c.if-not-may_follow.false)

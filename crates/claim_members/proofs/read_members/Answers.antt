@@ -8,7 +8,7 @@ pub store_members-requires : goal.store_members-requires
 store_members-requires c =
     let p = c.requires in
     let h = number_read _ _ c.count_at.ensures c.value-1.given.1 in
-    (p.0, members_place _ _ p.1 h)
+    record { members_len = p.members_len; in_file = members_place _ _ p.in_file h }
 
 pub returns-in-Refused : goal.returns-in-Refused
 returns-in-Refused c = members_cut _ _ _ _ (number_refused _ _ c.count_at.ensures c.number-1.given.1)

@@ -4,22 +4,23 @@ use borrow.Author.Rules.{rules}
 use Rattle.file_parts.specs.Parts.{part_read, part_refused}
 use Rattle.claims.specs.ClaimWalk.{Opened, claim_refused, claim_closed, claim_opened, claim_long, claim_no_entries, claim_no_goals, claim_follows, claim_got}
 use Rattle.claims.proofs.read_claim.Goals as goal
+use Rattle.claims.proofs.read_claim.Goals.{After-fewest}
 
 -- past the opening
-opened : (c : goal.After-fewest) → Opened c.args.bytes.now c.opening_form-form.result
+opened : (c : After-fewest) → Opened c.args.bytes.now c.opening_form-form.result
 opened c = claim_opened _ c.opening_form-form.ensures c.if-form-eq0.false
 
 pub returns-then-form-eq0 : goal.returns-then-form-eq0
 returns-then-form-eq0 c = claim_refused _ _ _ _ _ c.refuse.ensures (claim_closed _ c.opening_form-form.ensures c.if-form-eq0.true)
 
 pub read_entries-requires : goal.read_entries-requires
-read_entries-requires c = (c.requires.entries, claim_long _ (opened (goal.at.read_entries-requires c).After-fewest))
+read_entries-requires c = record { entry_arrays = c.requires.entries; in_bounds = claim_long _ (opened (goal.at.read_entries-requires c).After-fewest) }
 
 pub read_goals-requires : goal.read_goals-requires
 read_goals-requires c =
     let x = part_read _ _ _ _ c.read_entries.ensures c.entries-1.given.1 in
     let p = c.requires in
-    ((p.starts, p.members, x.few), record { within = x.reached.inside; low = x.reached.near })
+    record { starts_len = (p.starts, p.members, x.few); in_file = record { within = x.reached.inside; low = x.reached.near } }
 
 pub overflow_cast-end : goal.overflow_cast-end
 overflow_cast-end c =

@@ -15,12 +15,12 @@ returns-then-v-link c = record {
 pub returns-then-not-is_spanned : goal.returns-then-not-is_spanned
 returns-then-not-is_spanned c = record {
   above = λ e. absurd (false≢true e);
-  fits = λ ss cs n h A. sym (no_ancestor _ _ ss cs n _ h _ _ A (rw c.wide-link.ensures at c.if-v-link.false) (rw c.wide-link.ensures at (sym c.is_spanned.ensures ∙ not-true _ c.if-not-is_spanned.true)));
+  fits = λ ss cs n h A. sym (no_ancestor _ _ ss cs n _ h _ _ A (rw c.wide-link.ensures at c.if-v-link.false) (rw c.wide-link.ensures at (sym c.is_spanned.ensures ∙ c.if-not-is_spanned.true)));
 }
 
 pub returns : goal.returns
 returns c = record {
   above = λ _. rw (← c.wide-link.ensures) c.if-v-link.false;
   fits = λ ss cs n h A.
-      sym (rw c.wide-link.ensures (some_ancestor _ _ ss cs n _ h _ _ A (rw c.wide-link.ensures at c.if-v-link.false) (rw c.wide-link.ensures at (sym c.is_spanned.ensures ∙ not-false _ c.if-not-is_spanned.false))));
+      sym (rw c.wide-link.ensures (some_ancestor _ _ ss cs n _ h _ _ A (rw c.wide-link.ensures at c.if-v-link.false) (rw c.wide-link.ensures at (sym c.is_spanned.ensures ∙ c.if-not-is_spanned.false))));
 }

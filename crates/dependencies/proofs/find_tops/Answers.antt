@@ -13,7 +13,7 @@ pub loop-e-init : goal.loop-e-init
 loop-e-init c = (omega arith, filled_none _ _)
 
 pub top_of-requires : goal.top_of-requires
-top_of-requires c = (c.requires, c.loop-e-test.true)
+top_of-requires c = record { claim = c.requires; e_in_bounds = c.loop-e-test.true }
 
 pub offset_bounds-tops-e : goal.offset_bounds-tops-e
 offset_bounds-tops-e c = omega (arith, c.requires.few)

@@ -13,6 +13,7 @@ use Rattle.model_files.specs.Decoded.{GoodModel}
 use Rattle.encoding.specs.ByteLaws.{lent_bytes}
 use Rattle.evaluation.specs.EvaluateStages.{staged_refused, model_refused, model_evaluated}
 use Rattle.evaluation.proofs.after_model.Goals as goal
+use Rattle.evaluation.proofs.after_model.Goals.{In-Accepted}
 
 -- what the verdict says of the model
 module _ (c : tie.After-judge-model) where
@@ -28,7 +29,7 @@ module _ (c : tie.After-judge-model) where
   judged : (r : Judged) → c.judge-model.result ≡ r → verdict_of (read_model file) ≡ models.judged r
   judged r e = sym c.judge-model.ensures ∙ ap models.judged e
 
-good : (c : goal.In-Accepted) → GoodModel (file c.before.before-LEFT-After-judge_model)
+good : (c : In-Accepted) → GoodModel (file c.before.before-LEFT-After-judge_model)
 good c = judged c.before.before-LEFT-After-judge_model Accepted c.enum_told-1.given.1
 
 pub decode_model-marks-requires : goal.decode_model-marks-requires

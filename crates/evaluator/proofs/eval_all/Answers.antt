@@ -7,7 +7,7 @@ use borrow.Author.Rules.{rules}
 use Rattle.evaluator.proofs.eval_all.Goals as goal
 
 pub loop-e-init : goal.loop-e-init
-loop-e-init c = (omega arith, swept_none _ _ _ _ _ _ _ _ c.requires.0)
+loop-e-init c = (omega arith, swept_none _ _ _ _ _ _ _ _ c.requires.standing)
 
 pub overflow_sub-e : goal.overflow_sub-e
 overflow_sub-e c = omega (arith, c.loop-e-test.true)
@@ -16,7 +16,7 @@ pub eval_entry-requires : goal.eval_entry-requires
 eval_entry-requires c =
     let inv2 = c.loop-e.invariant in
     let loop-test2 = c.loop-e-test.true in
-    (inv2.1.standing, (c.requires.1, (omega (arith, inv2.0, loop-test2), swept_known _ _ _ _ _ _ _ _ _ inv2.1 _ (omega (arith, loop-test2)))))
+    record { standing = inv2.1.standing; prepared = c.requires.prepared; e_in_bounds = (omega (arith, inv2.0, loop-test2), swept_known _ _ _ _ _ _ _ _ _ inv2.1 _ (omega (arith, loop-test2))) }
 
 pub loop-e-smaller : goal.loop-e-smaller
 loop-e-smaller c = omega (arith, c.loop-e-test.true)

@@ -7,29 +7,26 @@ use borrow.Author.Rules.{rules}
 use Rattle.evaluator.proofs.evaluate.Goals as goal
 
 pub slice_bounds-fill_all-end : goal.slice_bounds-fill_all-end
-slice_bounds-fill_all-end c = sym (length-take-le _ _ c.requires.0.kinds_there)
+slice_bounds-fill_all-end c = sym (length-take-le _ _ c.requires.given.kinds_there)
 
 pub slice_bounds-fill_all-end-2 : goal.slice_bounds-fill_all-end-2
-slice_bounds-fill_all-end-2 c = sym (length-take-le _ _ c.requires.0.as_there)
+slice_bounds-fill_all-end-2 c = sym (length-take-le _ _ c.requires.given.as_there)
 
 pub slice_bounds-fill_all-end-3 : goal.slice_bounds-fill_all-end-3
-slice_bounds-fill_all-end-3 c = sym (length-take-le _ _ c.requires.0.bs_there)
+slice_bounds-fill_all-end-3 c = sym (length-take-le _ _ c.requires.given.bs_there)
 
 pub slice_bounds-fill_all-end-5 : goal.slice_bounds-fill_all-end-5
 slice_bounds-fill_all-end-5 c =
-    sym (length-take-le _ _ c.requires.0.words_there)
+    sym (length-take-le _ _ c.requires.given.words_there)
 
 pub fill_all-requires : goal.fill_all-requires
 fill_all-requires c =
-    let given = c.requires.0 in (
-      first_claim given,
-      (
-        c.requires.1,
+    let given = c.requires.given in record { claim = first_claim given; size_bound = (
+        c.requires.size_bound,
         length-take-le _ _ given.words_there ∙ sym (length-take-le _ _ given.kinds_there),
-      ),
-    )
+      ) }
 
 pub returns : goal.returns
 returns c =
     -- t6: the successor table, which came by value
-    first_written c.requires.0 c.args.masks.now c.args.t6 _ _ c.fill_all.ensures
+    first_written c.requires.given c.args.masks.now c.args.t6 _ _ c.fill_all.ensures

@@ -18,7 +18,9 @@ use Rattle.sequents.specs.Placed.{Members}
 use Rattle.joining.specs.FitTest.{fits}
 use Rattle.fitting.specs.Fitting.{rest_fits_lem, other_entry, many_left, few_left}
 use Rattle.fitting.specs.GoalsJoined.{goals_held, rest_many, rest_long, rest_stands, rest_inside, rest_rising, goal_joined}
+use Rattle.std.specs.Prelude.{not}
 use Rattle.fitting.proofs.join_goals.Goals as goal
+use Rattle.fitting.proofs.join_goals.Goals.{After-find_rest-found, After-rest_fits, After-wide-2, Start}
 
 -- the table that the function is lent, and the two goals
 abbrev table : tie.Start → Table
@@ -31,7 +33,7 @@ abbrev second : tie.Start → List ℕ
 second s = part s.args.others.now s.args.others-from s.args.others-to
 
 -- an entry past the table is no "A and B"
-past : (s : goal.Start) → s.args.entries ≤ s.args.entry → kind (table s) s.args.entry ≡ Kind.AND → ⊥
+past : (s : Start) → s.args.entries ≤ s.args.entry → kind (table s) s.args.entry ≡ Kind.AND → ⊥
 past s h k =
     omega (
       arith,
@@ -40,10 +42,10 @@ past s h k =
     )
 
 -- the entry is one of the table
-there : (c : goal.After-wide-2) → c.args.entry < c.args.entries
+there : (c : After-wide-2) → c.args.entry < c.args.entries
 there c = omega (arith, c.wide.ensures, c.if-entries-wide.false)
 
-kind_is : (c : goal.After-wide-2) → kind (table c.before.before.before-LEFT-Start) c.args.entry ≡ get_or c.args.kinds.now c.wide-2.result 0
+kind_is : (c : After-wide-2) → kind (table c.before.before.before-LEFT-Start) c.args.entry ≡ get_or c.args.kinds.now c.wide-2.result 0
 kind_is c =
     let c.before.before.before-LEFT-Start = c.before.before.before-LEFT-Start in
     table_of_kind c.args.kinds.now c.args.a.now c.args.b.now c.args.entries c.args.entry (there c) ∙ ap (λ (e : ℕ). get_or c.args.kinds.now e 0) (sym c.wide-2.ensures)
@@ -56,28 +58,20 @@ widen h m = record { order = m.order; few = m.few; long = m.long; inside = λ e 
 abbrev keys : tie.Start → List ℕ
 keys s = each (in_focus s.args.canon.now) (second s)
 
--- where the rest is found: the start from there, the entry's row, and that it is an "A and B"
-abbrev begun : tie.After-find-rest → tie.Start
-begun k = k.before.before.before.before.before.before.before.before.before.before.before.before.before.before.before
+is_and : (k : After-find_rest-found) → kind (table k) k.args.entry ≡ Kind.AND
+is_and k = kind_is k ∙ k.if-kinds-wide-ne-AND.false
 
-abbrev row : tie.After-find-rest → tie.After-wide2
-row k = k.before.before.before.before.before.before.before.before.before.before.before.before
-
-is_and : (k : goal.After-find_rest-found) → kind (table (begun k)) (begun k).args.entry ≡ Kind.AND
-is_and k = kind_is (row k) ∙ k.if-kinds-wide-ne-AND.false
-
-kept_and : (k : goal.After-find_rest-found) → get_or (begun k).args.kinds.now (begun k).args.entry 0 ≡ Kind.AND
-kept_and k = ap (λ (e : ℕ). get_or (begun k).args.kinds.now e 0) (sym (row k).wide2.ensures) ∙ k.if-kinds-wide-ne-AND.false
+kept_and : (k : After-find_rest-found) → get_or k.args.kinds.now k.args.entry 0 ≡ Kind.AND
+kept_and k = ap (λ (e : ℕ). get_or k.args.kinds.now e 0) (sym k.wide-2.ensures) ∙ k.if-kinds-wide-ne-AND.false
 
 -- what the last test says
-fit_told : (c : goal.After-rest_fits) → let s = begun c.before.before.before.before.before-LEFT-After-find_rest-arg-2-1 in c.rest_fits.result ≡ fits (table s) s.args.entry (first s) (second s)
+fit_told : (c : After-rest_fits) → let c.before.before.before.before.before-LEFT-After-find_rest-arg-2-1 = begun c.before.before.before.before.before-LEFT-After-find_rest-arg-2-1 in c.rest_fits.result ≡ fits (table c.before.before.before.before.before-LEFT-After-find_rest-arg-2-1) c.args.entry (first c.before.before.before.before.before-LEFT-After-find_rest-arg-2-1) (second c.before.before.before.before.before-LEFT-After-find_rest-arg-2-1)
 fit_told c =
-    let s = begun c.before.before.before.before.before-LEFT-After-find_rest-arg-2-1 in
-    let p = s.pre.0 in
-    let found = c.find_rest-found.ensures (keys s) c.put_goal-2.ensures in
-    c.rest_fits.ensures (first s) (second s) (goals_held p c.put_goal.ensures c.put_goal-2.ensures)
-    ∙ ap (rest_fits_lem (table s) s.args.entry (first s) (second s)) (rest_stands p s.pre.1 found)
-    ∙ sym (few_left (table s) s.args.entry (first s) (second s) (is_and c.before.before.before.before.before-LEFT-After-find_rest-arg-2-1) (omega (arith, rest_many p s.pre.1 found, c.if-found-ge24.false)))
+    let p = c.pre.0 in
+    let found = c.find_rest-found.ensures (keys c.before.before.before.before.before-LEFT-After-find_rest-arg-2-1) c.put_goal-2.ensures in
+    c.rest_fits.ensures (first c.before.before.before.before.before-LEFT-After-find_rest-arg-2-1) (second c.before.before.before.before.before-LEFT-After-find_rest-arg-2-1) (goals_held p c.put_goal.ensures c.put_goal-2.ensures)
+    ∙ ap (rest_fits_lem (table c.before.before.before.before.before-LEFT-After-find_rest-arg-2-1) c.args.entry (first c.before.before.before.before.before-LEFT-After-find_rest-arg-2-1) (second c.before.before.before.before.before-LEFT-After-find_rest-arg-2-1)) (rest_stands p c.pre.1 found)
+    ∙ sym (few_left (table c.before.before.before.before.before-LEFT-After-find_rest-arg-2-1) c.args.entry (first c.before.before.before.before.before-LEFT-After-find_rest-arg-2-1) (second c.before.before.before.before.before-LEFT-After-find_rest-arg-2-1) (is_and c.before.before.before.before.before-LEFT-After-find_rest-arg-2-1) (omega (arith, rest_many p c.pre.1 found, c.if-found-ge24.false)))
 
 pub returns-then-entries-wide : goal.returns-then-entries-wide
 returns-then-entries-wide c = other_entry (table (goal.at.returns-then-entries-wide c).Start) c.args.entry (first (goal.at.returns-then-entries-wide c).Start) (second (goal.at.returns-then-entries-wide c).Start) (past (goal.at.returns-then-entries-wide c).Start (omega (arith, c.if-entries-wide.true, c.wide.ensures)))
@@ -99,29 +93,25 @@ find_rest-found-requires c = let p = c.requires in (p.0.numbers.narrow, widen p.
 
 pub returns-then-found-ge24 : goal.returns-then-found-ge24
 returns-then-found-ge24 c =
-    let s = begun (goal.at.returns-then-found-ge24 c).After-find_rest-found in
-    let found = c.find_rest-found.ensures (keys s) c.put_goal-2.ensures in
-    many_left (table s) s.args.entry (first s) (second s) (is_and (goal.at.returns-then-found-ge24 c).After-find_rest-found) (omega (arith, rest_many s.pre.0 s.pre.1 found, c.if-found-ge24.true))
+    let found = c.find_rest-found.ensures (keys (goal.at.returns-then-found-ge24 c).After-find_rest-found) c.put_goal-2.ensures in
+    many_left (table (goal.at.returns-then-found-ge24 c).After-find_rest-found) c.args.entry (first (goal.at.returns-then-found-ge24 c).After-find_rest-found) (second (goal.at.returns-then-found-ge24 c).After-find_rest-found) (is_and (goal.at.returns-then-found-ge24 c).After-find_rest-found) (omega (arith, rest_many c.pre.0 c.pre.1 found, c.if-found-ge24.true))
 
 pub rest_fits-requires : goal.rest_fits-requires
 rest_fits-requires c =
-    let s = begun (goal.at.rest_fits-requires c).After-find_rest-arg-2-1 in
-    let p = s.pre.0 in
-    let found = c.find_rest-found.ensures (keys s) c.put_goal-2.ensures in
-    (record { well = p.well; numbers = p.numbers; small = p.small; inside = there (row (goal.at.rest_fits-requires c).After-find_rest-arg-2-1); of_kind = kept_and (goal.at.rest_fits-requires c).After-find_rest-arg-2-1 }, rest_inside p s.pre.1 found)
+    let p = c.pre.0 in
+    let found = c.find_rest-found.ensures (keys (goal.at.rest_fits-requires c).After-find_rest-arg-2-1) c.put_goal-2.ensures in
+    (record { well = p.well; numbers = p.numbers; small = p.small; inside = there (goal.at.rest_fits-requires c).After-find_rest-arg-2-1; of_kind = kept_and (goal.at.rest_fits-requires c).After-find_rest-arg-2-1 }, rest_inside p c.pre.1 found)
 
 pub returns-then-not-rest_fits : goal.returns-then-not-rest_fits
-returns-then-not-rest_fits c = sym (fit_told (goal.at.returns-then-not-rest_fits c).After-rest_fits) ∙ not-true c.rest_fits.result c.if-not-rest_fits.true
+returns-then-not-rest_fits c = sym (fit_told (goal.at.returns-then-not-rest_fits c).After-rest_fits) ∙ not-true c.rest_fits.result (ap not c.if-not-rest_fits.true)
 
 pub enter-requires : goal.enter-requires
 enter-requires c =
-    let s = begun (goal.at.enter-requires c).After-find_rest-arg-2-1 in
-    let found = c.find_rest-found.ensures (keys s) c.put_goal-2.ensures in
-    (rest_long s.pre.0 s.pre.1 found, c.if-found-ge24.false, rest_rising s.pre.0 s.pre.1 found)
+    let found = c.find_rest-found.ensures (keys (goal.at.enter-requires c).After-find_rest-arg-2-1) c.put_goal-2.ensures in
+    (rest_long c.pre.0 c.pre.1 found, c.if-found-ge24.false, rest_rising c.pre.0 c.pre.1 found)
 
 pub returns : goal.returns
 returns c =
-    let s = begun (goal.at.returns c).After-find_rest-arg-2-1 in
-    let found = c.find_rest-found.ensures (keys s) c.put_goal-2.ensures in
-    let fit = sym (fit_told (goal.at.returns c).After-rest_fits) ∙ not-false c.rest_fits.result c.if-not-rest_fits.false in
-    goal_joined s.pre.0 s.pre.1 found fit c.if-found-ge24.false c.enter.ensures
+    let found = c.find_rest-found.ensures (keys (goal.at.returns c).After-find_rest-arg-2-1) c.put_goal-2.ensures in
+    let fit = sym (fit_told (goal.at.returns c).After-rest_fits) ∙ not-false c.rest_fits.result (ap not c.if-not-rest_fits.false) in
+    goal_joined c.pre.0 c.pre.1 found fit c.if-found-ge24.false c.enter.ensures

@@ -20,6 +20,7 @@ use Rattle.joining.specs.Joined.{in_focus}
 use Rattle.fitting.specs.Focused.{column_keys, code_keys, focused_holds}
 use Rattle.fitting.specs.RestKept.{root_side, root_kept, root_apart}
 use Rattle.fitting.proofs.rest_fits.Goals as goal
+use Rattle.fitting.proofs.rest_fits.Goals.{After-has, Start}
 
 -- the table that the function is lent
 abbrev table : tie.Start → Table
@@ -28,20 +29,20 @@ table s = table_of s.args.kinds.now s.args.a.now s.args.b.now s.args.entries
 abbrev found : tie.Start → List ℕ
 found s = part s.args.rest.now 0 s.args.count
 
-of_and : (s : goal.Start) → kind (table s) s.args.entry ≡ Kind.AND
+of_and : (s : Start) → kind (table s) s.args.entry ≡ Kind.AND
 of_and s = table_of_kind s.args.kinds.now s.args.a.now s.args.b.now s.args.entries s.args.entry s.requires.0.inside ∙ s.requires.0.of_kind
 
-inside : (s : goal.Start) (e : ℕ) → elements (found s) e → e < length (table s)
+inside : (s : Start) (e : ℕ) → elements (found s) e → e < length (table s)
 inside s e m = omega (arith, s.requires.1.inside e m, table_of_length s.args.kinds.now s.args.a.now s.args.b.now s.args.entries)
 
-is_formula : (s : goal.Start) → Formula (table s) s.args.entry
+is_formula : (s : Start) → Formula (table s) s.args.entry
 is_formula s = record {
   inside = omega (arith, s.requires.0.inside, table_of_length s.args.kinds.now s.args.a.now s.args.b.now s.args.entries);
   no_name = λ h. omega (arith, of_and s);
 }
 
 -- whether the entry is a member of the rest
-told : (c : goal.After-has) → c.has.result ≡ holds (table c.before.before.before.before.before.before.before-LEFT-Start) (found c.before.before.before.before.before.before.before-LEFT-Start) c.args.entry
+told : (c : After-has) → c.has.result ≡ holds (table c.before.before.before.before.before.before.before-LEFT-Start) (found c.before.before.before.before.before.before.before-LEFT-Start) c.args.entry
 told c =
     let c.before.before.before.before.before.before.before-LEFT-Start = c.before.before.before.before.before.before.before-LEFT-Start in
     let N = c.requires.0.numbers in

@@ -5,14 +5,8 @@ use borrow.Author.Rules.{rules}
 use Rattle.io.proofs.Counting.{prefix_len_of_le}
 use Rattle.focus.proofs.read_file.Goals as goal
 
-pub read-got-requires : goal.read-got-requires
-read-got-requires c = tt
-
 pub returns-then-got-lt0 : goal.returns-then-got-lt0
 returns-then-got-lt0 c = prefix_len_of_le _ _ (search rules)
-
-pub count-more-requires : goal.count-more-requires
-count-more-requires c = tt
 
 pub returns-after-loop-done : goal.returns-after-loop-done
 returns-after-loop-done c = prefix_len_of_le _ _ (search rules)

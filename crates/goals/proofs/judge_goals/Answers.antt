@@ -65,7 +65,7 @@ pub returns-then-not-root_is_goal : goal.returns-then-not-root_is_goal
 returns-then-not-root_is_goal c t over f rs ls =
     goals_fail t _ _ _ _ _ _ (start (goal.at.returns-then-not-root_is_goal c).After-root_is_goal).pre.0.2 f rs ls c.loop-i-test.true
     (c.loop-i.invariant.1 t over)
-    (sym (compared (goal.at.returns-then-not-root_is_goal c).After-root_is_goal t over rs ls) ∙ not-true _ c.if-not-root_is_goal.true)
+    (sym (compared (goal.at.returns-then-not-root_is_goal c).After-root_is_goal t over rs ls) ∙ c.if-not-root_is_goal.true)
 
 pub loop-i-smaller : goal.loop-i-smaller
 loop-i-smaller c = omega arith
@@ -76,8 +76,8 @@ loop-i-preserved c =
       omega arith,
       λ t over. one_stated t a.bounds.now a.members.now a.roots.now a.starts.now a.codes.now a.nodes
           (c.loop-i.invariant.1 t over)
-          (λ rs ls. sym (compared (goal.at.loop-i-preserved c).After-root_is_goal t over rs ls) ∙ not-false _ c.if-not-root_is_goal.false),
+          (λ rs ls. sym (compared (goal.at.loop-i-preserved c).After-root_is_goal t over rs ls) ∙ c.if-not-root_is_goal.false),
     )
 
 pub returns : goal.returns
-returns c t over f rs ls = goals_pass t _ _ _ _ _ _ c.requires.0.2 f rs ls c.loop-i-test.false (c.loop-i.invariant.1 t over)
+returns c t over f rs ls = goals_pass t _ _ _ _ _ _ c.requires.narrow.2 f rs ls c.loop-i-test.false (c.loop-i.invariant.1 t over)

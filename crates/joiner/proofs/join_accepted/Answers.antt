@@ -8,6 +8,8 @@ use Rattle.encoding.specs.ByteLaws.{lent_bytes}
 use Rattle.demands.specs.JoinExact.{CorrectHalf, half_accepts}
 use Rattle.joined_files.specs.Wholly.{wholly_refused, wholly_as}
 use Rattle.joiner.specs.Reading.{both_read, paired, other_entries, one_table, one_fitted}
+use Rattle.std.proofs.Common.{ap}
+use Rattle.std.specs.Prelude.{not}
 use Rattle.joiner.proofs.join_accepted.Goals as goal
 
 -- the four lent files, and that both inputs are accepted
@@ -44,7 +46,7 @@ returns-then-not-same_entries c =
     let y = second (goal.at.returns-then-not-same_entries c).After-shared_slice_known-4-1 in
     let held = c.read_half-entries.ensures x.correct.read.claim x.correct.formed.claim_formed x.one in
     let other = c.read_half-other_entries.ensures y.correct.read.claim y.correct.formed.claim_formed y.one in
-    let differ = sym (not-true c.same_entries.result c.if-not-same_entries.true) ∙ c.same_entries.ensures in
+    let differ = sym (not-true c.same_entries.result (ap not c.if-not-same_entries.true)) ∙ c.same_entries.ensures in
     wholly_refused
     (both_read x y (claim_bytes_lem (goal.at.returns-then-not-same_entries c).After-shared_slice_known-4-1) (proof_bytes_lem (goal.at.returns-then-not-same_entries c).After-shared_slice_known-4-1) (other-claim-bytes (goal.at.returns-then-not-same_entries c).After-shared_slice_known-4-1) (other-proof-bytes (goal.at.returns-then-not-same_entries c).After-shared_slice_known-4-1) (start (goal.at.returns-then-not-same_entries c).After-shared_slice_known-4-1).args.entry _ _
     ∙ other_entries x y held other (start (goal.at.returns-then-not-same_entries c).After-shared_slice_known-4-1).args.entry (length (start (goal.at.returns-then-not-same_entries c).After-shared_slice_known-4-1).args.claim.now) (length (start (goal.at.returns-then-not-same_entries c).After-shared_slice_known-4-1).args.proof.now) differ)
@@ -56,7 +58,7 @@ join_goals_of-requires c =
     let y = second (goal.at.join_goals_of-requires c).After-shared_slice_known-4-1 in
     let held = c.read_half-entries.ensures x.correct.read.claim x.correct.formed.claim_formed x.one in
     let other = c.read_half-other_entries.ensures y.correct.read.claim y.correct.formed.claim_formed y.one in
-    let same = sym (not-false c.same_entries.result c.if-not-same_entries.false) ∙ c.same_entries.ensures in
+    let same = sym (not-false c.same_entries.result (ap not c.if-not-same_entries.false)) ∙ c.same_entries.ensures in
     rw (c.wide.ensures, c.wide-2.ensures, c.wide-3.ensures, c.wide-4.ensures) (
     paired x y held other (one_table x y held other (start (goal.at.join_goals_of-requires c).After-shared_slice_known-4-1).args.entry (length (start (goal.at.join_goals_of-requires c).After-shared_slice_known-4-1).args.claim.now) (length (start (goal.at.join_goals_of-requires c).After-shared_slice_known-4-1).args.proof.now) same)
     )
@@ -67,7 +69,7 @@ returns c =
     let y = second (goal.at.returns c).After-shared_slice_known-4-1 in
     let held = c.read_half-entries.ensures x.correct.read.claim x.correct.formed.claim_formed x.one in
     let other = c.read_half-other_entries.ensures y.correct.read.claim y.correct.formed.claim_formed y.one in
-    let same = sym (not-false c.same_entries.result c.if-not-same_entries.false) ∙ c.same_entries.ensures in
+    let same = sym (not-false c.same_entries.result (ap not c.if-not-same_entries.false)) ∙ c.same_entries.ensures in
     wholly_as
     (both_read x y (claim_bytes_lem (goal.at.returns c).After-shared_slice_known-4-1) (proof_bytes_lem (goal.at.returns c).After-shared_slice_known-4-1) (other-claim-bytes (goal.at.returns c).After-shared_slice_known-4-1) (other-proof-bytes (goal.at.returns c).After-shared_slice_known-4-1) (start (goal.at.returns c).After-shared_slice_known-4-1).args.entry _ _
     ∙ one_fitted x y held other (start (goal.at.returns c).After-shared_slice_known-4-1).args.entry (length (start (goal.at.returns c).After-shared_slice_known-4-1).args.claim.now) (length (start (goal.at.returns c).After-shared_slice_known-4-1).args.proof.now) same)

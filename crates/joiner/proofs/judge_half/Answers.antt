@@ -11,6 +11,8 @@ use Rattle.claim_files.specs.ClaimFile.{claim_opening}
 use Rattle.verdict.specs.Verdict.{refused}
 use Rattle.demands.specs.Check.{verdict}
 use Rattle.demands.specs.Join.{half_verdict}
+use Rattle.std.proofs.Common.{ap}
+use Rattle.std.specs.Prelude.{not}
 use Rattle.joiner.proofs.judge_half.Goals as goal
 
 module _ (claim proof : List ℕ) where
@@ -23,7 +25,7 @@ module _ (claim proof : List ℕ) where
   opened h = rw h refl
 
 pub returns-then-not-opens : goal.returns-then-not-opens
-returns-then-not-opens c = closed _ _ (sym c.opens.ensures ∙ not-true c.opens.result c.if-not-opens.true)
+returns-then-not-opens c = closed _ _ (sym c.opens.ensures ∙ not-true c.opens.result (ap not c.if-not-opens.true))
 
 pub returns : goal.returns
-returns c = c.judge_files.ensures ∙ opened _ _ (sym c.opens.ensures ∙ not-false c.opens.result c.if-not-opens.false)
+returns c = c.judge_files.ensures ∙ opened _ _ (sym c.opens.ensures ∙ not-false c.opens.result (ap not c.if-not-opens.false))

@@ -9,9 +9,10 @@ use Rattle.formula.specs.NamedForm.{named_form, names_several, names_one}
 use Rattle.laying.specs.Laying.{Fits}
 use borrow.Author.Rules.{rules}
 use Rattle.laying.proofs.open_proof.Goals as goal
+use Rattle.laying.proofs.open_proof.Goals.{Start}
 
 -- four letters and two bytes, in the form that is named
-room : (s : goal.Start) {f : Form} → named_form s.args.form ≡ f → Fits s.args.out.now 0 (proof_opening f ++ encode_two s.args.nodes)
+room : (s : Start) {f : Form} → named_form s.args.form ≡ f → Fits s.args.out.now 0 (proof_opening f ++ encode_two s.args.nodes)
 room s e = subst (λ (f : Form). Fits s.args.out.now 0 (proof_opening f ++ encode_two s.args.nodes)) e s.requires.0
 
 pub put_opening-requires : goal.put_opening-requires

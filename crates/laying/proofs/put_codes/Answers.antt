@@ -7,6 +7,7 @@ use lib.ListN.{length, length-set}
 use Rattle.laying.specs.Laying.{Put, numbers_left, codes_part, codes_none, codes_some, numbers_length, put_as, put_join, put_long, nothing_put, byte_put}
 use borrow.Author.Rules.{rules}
 use Rattle.laying.proofs.put_codes.Goals as goal
+use Rattle.laying.proofs.put_codes.Goals.{Else-count-eq0}
 
 module _ (s : tie.Start) where
   abbrev coded : List ℕ
@@ -19,7 +20,7 @@ module _ (s : tie.Start) where
   some : 1 ≤ s.args.count → coded ≡ s.args.count ∷ numbers
   some h = codes_some s.args.codes.now s.args.start s.args.count s.pre.1 h
 
-with_codes : (c : goal.Else-count-eq0) → c.args.at + (1 + 2 * c.args.count) ≤ length c.args.out.now
+with_codes : (c : Else-count-eq0) → c.args.at + (1 + 2 * c.args.count) ≤ length c.args.out.now
 with_codes c =
     let c.before.before.before-LEFT-Start = c.before.before.before-LEFT-Start in
     omega (arith, c.requires.0, ap length (some c.before.before.before-LEFT-Start (omega arith)), numbers_length c.args.codes.now c.args.start c.args.count c.requires.1)

@@ -6,6 +6,8 @@ use Rattle.verdict.specs.Tests.{all}
 use Rattle.sequents.specs.Part.{part, span_small}
 use Rattle.modal.specs.BoxLaws.{boxed as Boxed, all_on, all-stop, all_end}
 use Rattle.sequents.specs.KeptLaws.{was_false, was_true}
+use Rattle.std.proofs.Common.{ap}
+use Rattle.std.specs.Prelude.{not}
 use Rattle.modal.proofs.all_boxed.Goals as goal
 
 pub loop-i-init : goal.loop-i-init
@@ -18,14 +20,14 @@ boxed-requires c =
 pub returns-then-not-boxed : goal.returns-then-not-boxed
 returns-then-not-boxed c =
     let l = c.loop-i in
-    sym (l.invariant.2 ∙ all-stop _ c.args.codes.now l.i c.args.to (omega arith) c.requires.1.long (was_false c.boxed.ensures c.if-not-boxed.true))
+    sym (l.invariant.2 ∙ all-stop _ c.args.codes.now l.i c.args.to (omega arith) c.requires.1.long (was_false c.boxed.ensures (ap not c.if-not-boxed.true)))
 
 pub loop-i-preserved : goal.loop-i-preserved
 loop-i-preserved c =
     let l = c.loop-i in (
       search rules,
       search rules,
-      l.invariant.2 ∙ all_on _ c.args.codes.now l.i c.args.to (omega arith) c.requires.1.long (was_true c.boxed.ensures c.if-not-boxed.false),
+      l.invariant.2 ∙ all_on _ c.args.codes.now l.i c.args.to (omega arith) c.requires.1.long (was_true c.boxed.ensures (ap not c.if-not-boxed.false)),
     )
 
 pub returns : goal.returns

@@ -7,6 +7,8 @@ use Rattle.verdict.specs.Tests.{all}
 use Rattle.sequents.specs.Part.{part, span_small}
 use Rattle.modal.specs.BoxLaws.{boxed as Boxed, all_on, all-stop, all_end}
 use Rattle.sequents.specs.KeptLaws.{was_false, was_true}
+use Rattle.std.proofs.Common.{ap}
+use Rattle.std.specs.Prelude.{not}
 use Rattle.modal.proofs.all_boxed.Given as goal
 
 abbrev pub invariant-loop-i : goal.invariant-loop-i

@@ -16,20 +16,22 @@ use Rattle.sequents.specs.KeptLaws.{was_false, was_true, this_kind, other_kind}
 use Rattle.formula.specs.Codes.{entry_of_lem}
 use Rattle.formula.specs.Plain.{table_of}
 use Rattle.modal.specs.BoxLaws.{boxed, Modal, others_boxed, targets_stepped, modal}
+use Rattle.std.specs.Prelude.{not}
 use Rattle.modal.proofs.box_kept.Goals as goal
+use Rattle.modal.proofs.box_kept.Goals.{After-all_boxed, Else-not-all_boxed}
 
 -- what the test of all members says: it is given the principal's key and action
-tested : (c : goal.After-all_boxed) → let a = c.args in
+tested : (c : After-all_boxed) → let a = c.args in
     c.all_boxed.result
     ≡ all (boxed a.kinds.now a.b.now a.canon.now (key_of_lem a.canon.now a.principal) (get_or a.b.now (entry_of_lem a.principal) 0)) (part a.codes.now a.from a.to)
 tested c = rw (c.key_of-key.ensures.1, c.entry_of-entry.ensures) at c.all_boxed.ensures
 
 -- where both tests are passed, every member has an operand
-modals : (c : goal.Else-not-all_boxed) → let a = c.args in
+modals : (c : Else-not-all_boxed) → let a = c.args in
     (d : ℕ) → elements (part a.codes.now a.from a.to) d → Modal a.kinds.now a.a.now a.b.now a.size d
 modals c =
     let p = c.requires in
-    modal p.0 _ p.2 (rw c.entry_of-entry.ensures at c.if-kinds-entry-ne-BOX.false) (was_true (tested c.before-LEFT-After-all_boxed) c.if-not-all_boxed.false)
+    modal p.0 _ p.2 (rw c.entry_of-entry.ensures at c.if-kinds-entry-ne-BOX.false) (was_true (tested c.before-LEFT-After-all_boxed) (ap not c.if-not-all_boxed.false))
 
 pub returns-then-kinds-entry-ne-BOX : goal.returns-then-kinds-entry-ne-BOX
 unfolding Kept
@@ -49,7 +51,7 @@ returns-then-not-all_boxed c m b M =
     let p = c.requires in
     rw (
       this_kind p.0 _ _ _ b c.entry_of-entry.ensures c.if-kinds-entry-ne-BOX.false,
-      was_false (tested (goal.at.returns-then-not-all_boxed c).After-all_boxed ∙ others_boxed p.0 _ p.2) c.if-not-all_boxed.true,
+      was_false (tested (goal.at.returns-then-not-all_boxed c).After-all_boxed ∙ others_boxed p.0 _ p.2) (ap not c.if-not-all_boxed.true),
     ) refl
 
 pub put_targets-requires : goal.put_targets-requires
@@ -66,6 +68,6 @@ returns c m b M =
     let t = table_of a.kinds.now a.a.now a.b.now a.size in
     rw (
       this_kind p.0 _ _ _ b c.entry_of-entry.ensures c.if-kinds-entry-ne-BOX.false,
-      was_true (tested (goal.at.returns c).After-all_boxed ∙ others_boxed p.0 _ p.2) c.if-not-all_boxed.false,
+      was_true (tested (goal.at.returns c).After-all_boxed ∙ others_boxed p.0 _ p.2) (ap not c.if-not-all_boxed.false),
     )
     (c.same.ensures _ _ M (c.put_targets.ensures a.b.now a.size told) ∙ ap (λ (l : List ℕ). sameSet (each (key t) m) l) (targets_stepped p.0 _ p.2 told))

@@ -11,9 +11,10 @@ use Rattle.sequents.specs.Part.{part, part_member}
 use Rattle.sequents.specs.CodeSet.{Holds, each_before, each_end}
 use Rattle.modal.specs.BoxLaws.{stepped_key, Modal}
 use Rattle.modal.proofs.put_targets.Goals as goal
+use Rattle.modal.proofs.put_targets.Goals.{After-shared_slice_known-in-loop-i-1}
 
 -- the code at hand is one of the part
-here : (c : goal.After-shared_slice_known-in-loop-i-1) → elements (part c.args.codes.now c.args.from c.args.to) (get_or c.args.codes.now (c.loop-i.i - 1) 0)
+here : (c : After-shared_slice_known-in-loop-i-1) → elements (part c.args.codes.now c.args.from c.args.to) (get_or c.args.codes.now (c.loop-i.i - 1) 0)
 here c =
     let c.before.before.before.before-LEFT-Start = c.before.before.before.before-LEFT-Start in
     part_member c.args.codes.now c.args.from c.args.to (c.loop-i.i - 1) (omega arith) (omega arith) c.requires.1.long

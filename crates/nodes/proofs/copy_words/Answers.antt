@@ -9,9 +9,10 @@ use Rattle.encoding.specs.Places.{word_at}
 use Rattle.verdict.specs.WrittenLaws.{sets_more}
 use Rattle.nodes.specs.ProofDecode.{words_at, words_at_length, words_at_more}
 use Rattle.nodes.proofs.copy_words.Goals as goal
+use Rattle.nodes.proofs.copy_words.Goals.{At-loop-i}
 
 -- the stores leave the slice as long as it was
-kept : (c : goal.At-loop-i) → length c.loop-i.words ≡ length c.args.words.now
+kept : (c : At-loop-i) → length c.loop-i.words ≡ length c.args.words.now
 kept c =
     let entry = c.args in
     ap length c.loop-i.invariant.1 ∙ length-sets entry.words.now entry.start (words_at entry.bytes.now entry.at c.loop-i.i)

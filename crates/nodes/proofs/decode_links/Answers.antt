@@ -8,9 +8,10 @@ use Rattle.bits.specs.IfSet.{if_set_lem}
 use Rattle.formula.specs.Fields.{has_principal_lem, has_first_lem, has_second_lem, has_back_lem}
 use borrow.Author.Rules.{rules}
 use Rattle.nodes.proofs.decode_links.Goals as goal
+use Rattle.nodes.proofs.decode_links.Goals.{After-has_back-has_back}
 
 -- the bytes of each field
-widths : (c : goal.After-has_back-has_back)
+widths : (c : After-has_back-has_back)
     → (if_set_lem c.has_principal-has_principal.result 2 ≡ if_set_lem (has_principal_lem c.args.rule) 2)
     × (if_set_lem c.has_first-has_first.result 2 ≡ if_set_lem (has_first_lem c.args.rule) 2)
     × (if_set_lem c.has_second-has_second.result 2 ≡ if_set_lem (has_second_lem c.args.rule) 2)

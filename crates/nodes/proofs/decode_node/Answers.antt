@@ -7,6 +7,7 @@ use lib.Seq.{sets}
 use Rattle.nodes.specs.ProofDecode.{codes_place, node_at, NodeFits, WithCodes, with_codes, no_codes}
 use borrow.Author.Rules.{rules}
 use Rattle.nodes.proofs.decode_node.Goals as goal
+use Rattle.nodes.proofs.decode_node.Goals.{Else-bytes-at-lt16}
 
 -- the node, and the place after its fields
 module _ (c : tie.After-link-width) where
@@ -28,7 +29,7 @@ module _ (c : tie.After-link-width) where
   placed : codes_at ≡ codes_place file here
   placed = omega (arith, c.link-width.ensures)
 
-coded : (c : goal.Else-bytes-at-lt16) → WithCodes (file c.before.before-LEFT-After-link_width) (here c.before.before-LEFT-After-link_width) (codes_at c.before.before-LEFT-After-link_width)
+coded : (c : Else-bytes-at-lt16) → WithCodes (file c.before.before-LEFT-After-link_width) (here c.before.before-LEFT-After-link_width) (codes_at c.before.before-LEFT-After-link_width)
 coded c = with_codes _ _ c.if-bytes-at-lt16.false _ (placed c.before.before-LEFT-After-link_width)
 
 pub decode_links-requires : goal.decode_links-requires

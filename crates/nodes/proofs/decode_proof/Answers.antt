@@ -8,22 +8,20 @@ use Rattle.encoding.specs.Places.{word_at}
 use Rattle.nodes.specs.ProofDecode.{proof_in, nodes_at_length}
 use Rattle.nodes.specs.ProofStored.{Storing, storing_begins, storing_steps, node_fits, room, node_room, SameLengths, stored_long, NodesStored, stored_nodes}
 use Rattle.nodes.proofs.decode_proof.Goals as goal
-
-abbrev entry : tie.At-loop invariant-loop decreases-loop → tie.Start invariant-loop decreases-loop
-entry c = c.before.before.before.before.before.before.before
+use Rattle.nodes.proofs.decode_proof.Goals.{At-loop-i, In-loop-i}
 
 -- in a turn there is a node left
-more : (c : goal.In-loop-i) → c.loop-i.i < word_at (entry c.before-LEFT-At-loop-i).args.bytes.now 4
+more : (c : In-loop-i) → c.loop-i.i < word_at (entry c.before-LEFT-At-loop-i).args.bytes.now 4
 more c = omega (arith, c.loop-i.invariant.1, c.loop-i-test.true)
 
 -- the slices are as long as they were
-lengths : (c : goal.At-loop-i) → let a = (entry c).args in
+lengths : (c : At-loop-i) → let a = c.args in
     SameLengths a.rules.now a.links.now a.starts.now a.codes.now c.loop-i.rules c.loop-i.links c.loop-i.starts c.loop-i.codes
-lengths c = stored_long (entry c).requires.0 (entry c).requires.2 c.loop-i.invariant.2 (omega (arith, c.loop-i.invariant.1))
+lengths c = stored_long c.requires.0 c.requires.2 c.loop-i.invariant.2 (omega (arith, c.loop-i.invariant.1))
 
 -- and have room for the nodes that the file has
-columns : (c : goal.At-loop-i) → let a = (entry c).args in Columns (word_at a.bytes.now 4) a.rules.now a.links.now a.starts.now a.codes.now
-columns c = room (entry c).requires.0 (entry c).requires.2 c.loop-i.invariant.2
+columns : (c : At-loop-i) → let a = c.args in Columns (word_at a.bytes.now 4) a.rules.now a.links.now a.starts.now a.codes.now
+columns c = room c.requires.0 c.requires.2 c.loop-i.invariant.2
 
 pub node_count-n-requires : goal.node_count-n-requires
 node_count-n-requires c = c.requires.0.counted
@@ -50,7 +48,7 @@ loop-i-preserved c =
     let left = c.decode_node-spot.ensures in (
       omega arith,
       stored.1,
-      storing_steps given.0 given.2 stored.2 (more (goal.at.loop-i-preserved c).In-loop-i) left.1.0 left.1.1.0 refl left.1.1.1 left.0.0 left.0.1,
+      storing_steps given.0 given.2 stored.2 (more (goal.at.loop-i-preserved c).In-loop-i) left.rules_after left.links_after refl left.codes_after left.at_value.0 left.at_value.1,
     )
 
 pub overflow_cast-starts-2 : goal.overflow_cast-starts-2
@@ -77,11 +75,8 @@ returns c =
     let a = given.args in
     let done = c.loop-i in
     let all : done.i ≡ c.node_count-n.result = omega arith in
-    let last : done.i ≡ word_at a.bytes.now 4 = all ∙ done.invariant.1 in (
-      c.node_count-n.ensures a.at,
-      subst
+    let last : done.i ≡ word_at a.bytes.now 4 = all ∙ done.invariant.1 in record { value = c.node_count-n.ensures a.at; nodes_stored = subst
           (λ (k : ℕ).
           NodesStored (proof_in a.bytes.now a.at) a.rules.now a.links.now a.starts.now a.codes.now
           done.rules done.links (set done.starts k done.spot.start) done.codes)
-          all (stored_nodes given.pre.0 given.pre.2 done.invariant.2 last),
-    )
+          all (stored_nodes given.pre.0 given.pre.2 done.invariant.2 last) }

@@ -8,7 +8,7 @@ use Rattle.nodes.specs.ProofDecode.{nodes_place_lem}
 use Rattle.nodes.proofs.nodes_place.Goals as goal
 
 pub returns-then-form-eq-CLM2 : goal.returns-then-form-eq-CLM2
-returns-then-form-eq-CLM2 c = (for_named (λ f. 6 + 2 * c.args.goals ≡ nodes_place_lem f c.args.goals) (rw (names_several c.if-form-eq-CLM2.true) refl), omega arith)
+returns-then-form-eq-CLM2 c = record { value = for_named (λ f. 6 + 2 * c.args.goals ≡ nodes_place_lem f c.args.goals) (rw (names_several c.if-form-eq-CLM2.true) refl); upper_bound = omega arith }
 
 pub returns : goal.returns
-returns c = (for_named (λ f. 6 ≡ nodes_place_lem f c.args.goals) (rw (names_one c.if-form-eq-CLM2.false) refl), omega arith)
+returns c = record { value = for_named (λ f. 6 ≡ nodes_place_lem f c.args.goals) (rw (names_one c.if-form-eq-CLM2.false) refl); upper_bound = omega arith }

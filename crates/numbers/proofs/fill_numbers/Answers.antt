@@ -7,19 +7,15 @@ use Rattle.numbers.specs.Ended.{told}
 use borrow.Author.Rules.{rules}
 use Rattle.numbers.proofs.fill_numbers.Goals as goal
 
--- where the rows of free names are filled, what the function was given
-abbrev start : tie.After-free → tie.Start
-start c = c.before.before.before.before.before.before.before.before
-
 pub prepare_all-requires : goal.prepare_all-requires
 prepare_all-requires c =
-    let given = (start (goal.at.prepare_all-requires c).After-fill_free_rows).requires in
+    let given = c.requires in
     let none = prepared_none _ _ _ _ _ _ _ _ _ refl refl given.1.firsts given.1.seconds in
-    ((given.0.small, omega (arith, given.1.free, c.free-1.given)), none)
+    record { count_bound = (given.0.small, omega (arith, given.1.free, c.free-1.given)); prepared = none }
 
 pub fill-requires : goal.fill-requires
 fill-requires c =
-    let given = (start (goal.at.fill-requires c).After-slice_known-4-1).requires in
+    let given = c.requires in
     begins given.0 c.prepare_all.ensures c.fill_free_rows.ensures
     (omega (arith, given.1.free, c.free-1.given)) given.1.cells given.1.marks
 

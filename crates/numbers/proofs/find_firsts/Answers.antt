@@ -3,15 +3,16 @@ use Prim.Native.Nat.{ℕ, suc, ◌-◌, ◌<◌, ◌≤◌}
 use native.Mathlib.Omega.{arith}
 use Rattle.numbers.specs.First.{Firsts, firsts_name, firsts_put}
 use Rattle.numbers.proofs.find_firsts.Goals as goal
+use Rattle.numbers.proofs.find_firsts.Goals.{In-loop-e}
 
 -- the entry of the turn
 abbrev at : tie.In-loop invariant-loop decreases-loop → ℕ
 at c = c.before.loop.e - 1
 
-inside : (c : goal.In-loop-e) → at c < c.args.count
+inside : (c : In-loop-e) → at c < c.args.count
 inside c = omega (arith, c.loop-e.invariant.0, c.loop-e-test.true)
 
-before_it : (c : goal.In-loop-e) →
+before_it : (c : In-loop-e) →
     let given = c.args in
     Firsts given.kinds.now given.numbers.now given.count c.loop-e.least (suc (at c))
 before_it c =
@@ -32,9 +33,6 @@ overflow_cast-least c = record { fits = omega (arith, inside (goal.at.overflow_c
 
 pub bounds-numbers-e : goal.bounds-numbers-e
 bounds-numbers-e c = omega (arith, inside (goal.at.bounds-numbers-e c).After-way_told-1, c.requires.1)
-
-pub place_of-requires : goal.place_of-requires
-place_of-requires c = tt
 
 pub offset_bounds-least-place_of : goal.offset_bounds-least-place_of
 offset_bounds-least-place_of c = record { fits = omega (arith, c.place_of.ensures.1) }

@@ -19,9 +19,6 @@ loop-e-init c = (omega arith, record { count = c.requires.2; each = λ e h. absu
 pub bounds-numbers-e : goal.bounds-numbers-e
 bounds-numbers-e c = omega (arith, c.loop-e-test.true, (start (goal.at.bounds-numbers-e c).In-loop-e).pre.1)
 
-pub place_of-requires : goal.place_of-requires
-place_of-requires c = tt
-
 pub offset_bounds-least-place_of : goal.offset_bounds-least-place_of
 offset_bounds-least-place_of c = record { fits = omega (arith, c.place_of.ensures.1) }
 

@@ -13,10 +13,13 @@ use Rattle.written.specs.Canon.{key}
 use Rattle.calculus.specs.Judge.{keys, sides, and_kept as Kept}
 use Rattle.sequents.specs.Placed.{Side, HoldsKeys}
 use Rattle.sequents.specs.KeptLaws.{was_false, was_true, Operands, this_kind, other_kind, and_operands, operand_member}
+use Rattle.std.proofs.Common.{ap}
+use Rattle.std.specs.Prelude.{not}
 use Rattle.operand_rules.proofs.and_kept.Goals as goal
+use Rattle.operand_rules.proofs.and_kept.Goals.{After-is_side_plus, Else-kinds-entry_of-ne-AND}
 
 -- where the first test is passed, the principal has two operands
-told : (c : goal.Else-kinds-entry_of-ne-AND) → let a = c.args in Operands a.kinds.now a.a.now a.b.now a.size (entry_of_lem a.principal)
+told : (c : Else-kinds-entry_of-ne-AND) → let a = c.args in Operands a.kinds.now a.a.now a.b.now a.size (entry_of_lem a.principal)
 told c = and_operands c.requires c.entry_of.ensures c.if-kinds-entry_of-ne-AND.false
 
 -- the table that the function is lent
@@ -24,7 +27,7 @@ abbrev table : tie.Start → Table
 table s = table_of s.args.kinds.now s.args.a.now s.args.b.now s.args.size
 
 -- what the test of the first child's sequent says
-first : (c : goal.After-is_side_plus) → (l m : List ℕ) → Side (table c.before.before.before.before.before-LEFT-After-entry_of) c.args.side.now c.args.principal l → HoldsKeys (table c.before.before.before.before.before-LEFT-After-entry_of) c.args.first.now m
+first : (c : After-is_side_plus) → (l m : List ℕ) → Side (table c.before.before.before.before.before-LEFT-After-entry_of) c.args.side.now c.args.principal l → HoldsKeys (table c.before.before.before.before.before-LEFT-After-entry_of) c.args.first.now m
     → c.is_side_plus.result ≡ same (each (key (table c.before.before.before.before.before-LEFT-After-entry_of)) m)
     (key (table c.before.before.before.before.before-LEFT-After-entry_of) (code (target_a (table c.before.before.before.before.before-LEFT-After-entry_of) (entry_of_lem c.args.principal)) (c.args.principal % 2)) ∷ remove (key (table c.before.before.before.before.before-LEFT-After-entry_of) c.args.principal) (each (key (table c.before.before.before.before.before-LEFT-After-entry_of)) l))
 first c l m S M =
@@ -45,7 +48,7 @@ unfolding Kept sides keys
 returns-then-not-is_side_plus c l m n S M N =
     rw (
       this_kind c.requires l m n S.belongs c.entry_of.ensures c.if-kinds-entry_of-ne-AND.false,
-      was_false (first (goal.at.returns-then-not-is_side_plus c).After-is_side_plus l m S M) c.if-not-is_side_plus.true,
+      was_false (first (goal.at.returns-then-not-is_side_plus c).After-is_side_plus l m S M) (ap not c.if-not-is_side_plus.true),
     ) refl
 
 pub operand_key-of_b-requires : goal.operand_key-of_b-requires
@@ -60,7 +63,7 @@ returns c l m n S M N =
     let b-key = c.operand_key-of_b.ensures.1 c.args.b.now c.args.size k.b.inside ∙ operand_member c.requires k.b (omega arith) in
     rw (
       this_kind c.requires l m n S.belongs c.entry_of.ensures c.if-kinds-entry_of-ne-AND.false,
-      was_true (first (goal.at.returns c).After-is_side_plus l m S M) c.if-not-is_side_plus.false,
+      was_true (first (goal.at.returns c).After-is_side_plus l m S M) (ap not c.if-not-is_side_plus.false),
       ← b-key,
     )
     (c.is_side_plus-2.ensures _ _ S.holds N)

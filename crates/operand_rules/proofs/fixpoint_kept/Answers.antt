@@ -9,9 +9,10 @@ use Rattle.formula.specs.Codes.{entry_of_lem}
 use Rattle.calculus.specs.Judge.{keys, sides}
 use Rattle.sequents.specs.KeptLaws.{Operand-in, this_kind, other_kind, body, operand_member}
 use Rattle.operand_rules.proofs.fixpoint_kept.Goals as goal
+use Rattle.operand_rules.proofs.fixpoint_kept.Goals.{Else-kinds-entry_of}
 
 -- where the first test is passed, the principal has a body
-told : (c : goal.Else-kinds-entry_of) → let a = c.args in
+told : (c : Else-kinds-entry_of) → let a = c.args in
     Operand-in a.kinds.now a.a.now a.a.now a.size (entry_of_lem a.principal) (entry (table_of a.kinds.now a.a.now a.b.now a.size) (entry_of_lem a.principal)).a
 told c = body c.requires.0 c.entry_of.ensures c.requires.1 c.if-kinds-entry_of.false
 

@@ -7,9 +7,10 @@ use Rattle.formula.specs.Codes.{entry_of_lem}
 use Rattle.calculus.specs.Judge.{keys, sides, or_kept as Kept}
 use Rattle.sequents.specs.KeptLaws.{Operands, this_kind, other_kind, or_operands, operand_member}
 use Rattle.operand_rules.proofs.or_kept.Goals as goal
+use Rattle.operand_rules.proofs.or_kept.Goals.{Else-kinds-entry_of-ne-OR}
 
 -- where the first test is passed, the principal has two operands
-told : (c : goal.Else-kinds-entry_of-ne-OR) → let a = c.args in Operands a.kinds.now a.a.now a.b.now a.size (entry_of_lem a.principal)
+told : (c : Else-kinds-entry_of-ne-OR) → let a = c.args in Operands a.kinds.now a.a.now a.b.now a.size (entry_of_lem a.principal)
 told c = or_operands c.requires c.entry_of.ensures c.if-kinds-entry_of-ne-OR.false
 
 pub returns-then-kinds-entry_of-ne-OR : goal.returns-then-kinds-entry_of-ne-OR

@@ -20,17 +20,12 @@ use Rattle.sequents.specs.Part.{part, Span}
 use Rattle.sequents.specs.Placed.{family, HoldsKeys, Side, ChildOf, Formulas, Coded}
 use Rattle.sequents.specs.KeptLaws.{was_false, was_true}
 use Rattle.principal_rules.specs.Judged.{placed, first_placed, second_placed, keys_here, first_keys_lem, second_keys, coded, belongs_test, keeps_or_here, keeps_and_here, keeps_box_here, keeps_side_here, keeps_alien, past}
+use Rattle.std.specs.Prelude.{not}
 use Rattle.principal_rules.proofs.formula_kept.Goals as goal
-
--- the function's start, from where the node's own set is lent and from where the principal belongs; the latter from the first child's set
-abbrev filling : tie.After-side → tie.Start
-filling c = c.before.before.before.before.before.before.before.before.before.before.before
+use Rattle.principal_rules.proofs.formula_kept.Goals.{After-has, After-put_part, After-put_sequent, After-take, Start}
 
 abbrev belonged : tie.Else1 → tie.Start
 belonged c = filling c.before.before.before.before
-
-abbrev passed : tie.After-put-sequent → tie.Else1
-passed c = c.before.before.before.before.before.before
 
 -- the table that the function is lent, its principal, and the codes of a node
 abbrev table : tie.Start → Table
@@ -42,42 +37,42 @@ principal s = get_or s.args.links.now (4 * s.args.v) 0
 abbrev listed : tie.Start → ℕ → List ℕ
 listed s v = codes_at_lem s.args.starts.now s.args.codes.now v
 
-is_coded : (s : goal.Start) → Coded s.args.kinds.now s.args.a.now s.args.b.now s.args.canon.now s.args.size (principal s)
+is_coded : (s : Start) → Coded s.args.kinds.now s.args.a.now s.args.b.now s.args.canon.now s.args.size (principal s)
 is_coded s = coded s.requires.0 s.args.v s.requires.1 s.requires.4.formula
 
 -- the node's own set
-own : (c : goal.After-put_part) → let s = filling c.before-LEFT-After-side-1 in HoldsKeys (table s) c.put_part.new.0 (listed s s.args.v)
+own : (c : After-put_part) → let s = filling c.before-LEFT-After-side-1 in HoldsKeys (table s) c.put_part.new.0 (listed s s.args.v)
 own c =
     let s = filling c.before-LEFT-After-side-1 in
     let held = rw (c.wide-from.ensures, c.wide-to.ensures) at c.put_part.ensures in
     subst (λ (l : List ℕ). Holds c.put_part.new.0 l) (keys_here s.pre.0 s.args.v s.pre.1) held
 
 -- the principal's key
-key_is : (s : goal.Start) → s.args.member ≡ key (table s) (principal s)
+key_is : (s : Start) → s.args.member ≡ key (table s) (principal s)
 key_is s =
     let C = is_coded s in
     s.requires.4.key ∙ key_at_lem C.numbers (entry_of_lem (principal s)) (focus_of (principal s)) (omega (arith, C.inside, table_of_length s.args.kinds.now s.args.a.now s.args.b.now s.args.size))
 
 -- whether it is that of a member
-belonging : (c : goal.After-has) → let s = filling c.before.before.before-LEFT-After-side-1 in c.has.result ≡ member (each (key (table s)) (listed s s.args.v)) (key (table s) (principal s))
+belonging : (c : After-has) → let s = filling c.before.before.before-LEFT-After-side-1 in c.has.result ≡ member (each (key (table s)) (listed s s.args.v)) (key (table s) (principal s))
 belonging c =
     let s = filling c.before.before.before-LEFT-After-side-1 in
     c.has.ensures _ (own c.before.before-LEFT-After-put_part) ∙ ap (member (each (key (table s)) (listed s s.args.v))) (key_is s)
 
 -- where it is, the side is what is left
-sided : (c : goal.After-take) → let s = belonged c.before.before-LEFT-Else-not-has in Side (table s) c.take.new.0 (principal s) (listed s s.args.v)
+sided : (c : After-take) → let s = belonged c.before.before-LEFT-Else-not-has in Side (table s) c.take.new.0 (principal s) (listed s s.args.v)
 sided c =
     let s = belonged c.before.before-LEFT-Else-not-has in
     record {
       belongs = belongs_test s.args.kinds.now s.args.a.now s.args.b.now s.args.size (principal s) (listed s s.args.v) [] []
-          ∙ ap₂ {C = Bool} (λ x y. x && y) s.pre.4.formula (was_true (belonging c.before.before.before-LEFT-After-has) c.if-not-has.false);
+          ∙ ap₂ {C = Bool} (λ x y. x && y) s.pre.4.formula (was_true (belonging c.before.before.before-LEFT-After-has) (ap not c.if-not-has.false));
       holds = rw (← key_is s) (c.take.ensures _ (own c.before.before.before.before.before-LEFT-After-put_part));
     }
 
 -- the first child's set
-first : (c : goal.After-put_sequent) → let s = belonged (passed c) in HoldsKeys (table s) c.put_sequent.new.0 (listed s (get_or s.args.links.now (4 * s.args.v + 1) 0))
+first : (c : After-put_sequent) → let s = belonged c in HoldsKeys (table s) c.put_sequent.new.0 (listed s (get_or s.args.links.now (4 * s.args.v + 1) 0))
 first c =
-    let s = belonged (passed c) in
+    let s = belonged c in
     let p = s.pre in
     let held = rw c.wide.ensures at c.put_sequent.ensures in
     subst (λ (l : List ℕ). Holds c.put_sequent.new.0 l) (first_keys_lem p.0 s.args.v p.1 p.2 (omega (arith, p.3))) held
@@ -87,7 +82,7 @@ ends : (P : ℕ → ℕ → Type 0) {i j x y : ℕ} → i ≡ x → j ≡ y → 
 ends P p q h = rw (p, q) h
 
 -- whether the principal belongs
-tested : (s : goal.Start) → let k = get_or s.args.links.now (4 * s.args.v + 1) 0 in
+tested : (s : Start) → let k = get_or s.args.links.now (4 * s.args.v + 1) 0 in
     belongs (table s) (family (principal s) (listed s s.args.v) (listed s k) []) 0
     ≡ (formula_at s.args.kinds.now s.args.size (principal s) && member (each (key (table s)) (listed s s.args.v)) (key (table s) (principal s)))
 tested s = belongs_test s.args.kinds.now s.args.a.now s.args.b.now s.args.size (principal s) (listed s s.args.v) _ []
@@ -98,13 +93,13 @@ beyond low a b c = past Rule.BOX (past Rule.AND (past Rule.OR low a) b) c
 
 pub put_part-requires : goal.put_part-requires
 put_part-requires c =
-    let p = (filling c).requires in
+    let p = c.requires in
     rw (c.wide-from.ensures, c.wide-to.ensures) (p.0.numbers.narrow, (placed p.0 _ p.1).span, holds_none)
 
 pub returns-then-not-has : goal.returns-then-not-has
 returns-then-not-has c =
     let s = filling (goal.at.returns-then-not-has c).After-side-1 in
-    keeps_alien s.pre.0 _ s.pre.1 _ s.pre.2 s.pre.3 (tested s ∙ ap₂ {C = Bool} (λ x y. x && y) s.pre.4.formula (was_false (belonging (goal.at.returns-then-not-has c).After-has) c.if-not-has.true))
+    keeps_alien s.pre.0 _ s.pre.1 _ s.pre.2 s.pre.3 (tested s ∙ ap₂ {C = Bool} (λ x y. x && y) s.pre.4.formula (was_false (belonging (goal.at.returns-then-not-has c).After-has) (ap not c.if-not-has.true)))
 
 pub take-requires : goal.take-requires
 take-requires c = let s = belonged (goal.at.take-requires c).Else-not-has in let C = is_coded s in omega (arith, s.pre.4.key, C.numbers.narrow (entry_of_lem (principal s)))
@@ -140,7 +135,7 @@ and_kept-requires c = is_coded (belonged (passed (goal.at.and_kept-requires c).A
 pub box_kept-requires : goal.box_kept-requires
 box_kept-requires c =
     let own = (passed (goal.at.box_kept-requires c).After-put_sequent).before.before.before.before in
-    let s = filling own in (
+    let s = own in (
       is_coded s,
       ends (Span s.args.codes.now) own.before.before.before.wide.ensures own.before.wide2.ensures (placed s.pre.0 s.args.v s.pre.1).span,
       ends (λ i j. Formulas (table s) (part s.args.codes.now i j)) own.before.before.before.wide.ensures own.before.wide2.ensures
@@ -155,12 +150,12 @@ side_kept-requires c =
 
 pub returns-in-2 : goal.returns-in-2
 returns-in-2 c =
-    let p = (belonged (passed (goal.at.returns-in-2 c).After-put_sequent)).requires in
+    let p = (belonged (goal.at.returns-in-2 c).After-put_sequent).requires in
     c.or_kept.ensures _ _ (sided (goal.at.returns-in-2 c).After-take) (first (goal.at.returns-in-2 c).After-put_sequent) ∙ keeps_or_here p.0 _ p.1 _ c.in-2.keys1
 
 pub returns-in-3 : goal.returns-in-3
 returns-in-3 c =
-    let s = belonged (passed (goal.at.returns-in-3 c).After-put_sequent) in
+    let s = belonged (goal.at.returns-in-3 c).After-put_sequent in
     let p = s.pre in
     let two = c.in-3.keys2 in
     let held = rw c.wide-in-3.ensures at c.put_sequent-in-3.ensures in
@@ -169,14 +164,12 @@ returns-in-3 c =
 
 pub returns-in-4 : goal.returns-in-4
 returns-in-4 c =
-    let own = (passed (goal.at.returns-in-4 c).After-put_sequent).before.before.before.before in
-    let s = filling own in
-    let told = ends (λ i j. ChildOf (table s) (principal s) (part s.args.codes.now i j) c.put_sequent.new.0 (λ t q. c.box_kept.result ≡ box_kept_lem t q 0))
-    (sym own.before.before.before.wide.ensures) (sym own.before.wide2.ensures) c.box_kept.ensures in
-    told _ (sided (goal.at.returns-in-4 c).After-take).belongs (first (goal.at.returns-in-4 c).After-put_sequent) ∙ keeps_box_here s.pre.0 _ s.pre.1 _ c.in-4.keys3
+    let told = ends (λ i j. ChildOf (table (goal.at.returns-in-4 c).After-take) (principal (goal.at.returns-in-4 c).After-take) (part c.args.codes.now i j) c.put_sequent.new.0 (λ t q. c.box_kept.result ≡ box_kept_lem t q 0))
+    (sym c.wide-from.ensures) (sym c.wide-to.ensures) c.box_kept.ensures in
+    told _ (sided (goal.at.returns-in-4 c).After-take).belongs (first (goal.at.returns-in-4 c).After-put_sequent) ∙ keeps_box_here c.pre.0 _ c.pre.1 _ c.in-4.keys3
 
 pub returns-in_default : goal.returns-in_default
 returns-in_default c =
-    let p = (belonged (passed (goal.at.returns-in_default c).After-put_sequent)).requires in
+    let p = (belonged (goal.at.returns-in_default c).After-put_sequent).requires in
     let n = c.in_default.rest in
     c.side_kept.ensures _ _ (sided (goal.at.returns-in_default c).After-take) (first (goal.at.returns-in_default c).After-put_sequent) ∙ keeps_side_here p.0 _ p.1 _ (beyond p.2 n.0.0.1 n.0.1 n.1) p.3

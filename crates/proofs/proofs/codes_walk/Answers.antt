@@ -61,7 +61,7 @@ pub returns-then-not-is_code : goal.returns-then-not-is_code
 unfolding turn
 returns-then-not-is_code c =
     stops (turn (goal.at.returns-then-not-is_code c).After-is_code)
-    (number_unfit (is_code_lem (table (turn (goal.at.returns-then-not-is_code c).After-is_code))) (file (turn (goal.at.returns-then-not-is_code c).After-is_code)) _ (floor (turn (goal.at.returns-then-not-is_code c).After-is_code)) (omega arith) (rises (goal.at.returns-then-not-is_code c).After-is_code ∙ not-true _ c.if-not-is_code.true))
+    (number_unfit (is_code_lem (table (turn (goal.at.returns-then-not-is_code c).After-is_code))) (file (turn (goal.at.returns-then-not-is_code c).After-is_code)) _ (floor (turn (goal.at.returns-then-not-is_code c).After-is_code)) (omega arith) (rises (goal.at.returns-then-not-is_code c).After-is_code ∙ c.if-not-is_code.true))
 
 pub loop-i-preserved : goal.loop-i-preserved
 unfolding turn
@@ -70,7 +70,7 @@ loop-i-preserved c =
     let e : suc (word_at (file was) (here was)) ≡ c.word_at-code.result + 1 = omega (arith, c.word_at-code.ensures) in
     let stepped =
     walk_steps (number_from (is_code_lem (table was))) after_number was.before.loop.inv.3.1 was.loop-test.taken
-    (number_fits (is_code_lem (table was)) (file was) _ (floor was) (omega arith) (rises (goal.at.loop-i-preserved c).After-is_code ∙ not-false _ c.if-not-is_code.false)) in
+    (number_fits (is_code_lem (table was)) (file was) _ (floor was) (omega arith) (rises (goal.at.loop-i-preserved c).After-is_code ∙ c.if-not-is_code.false)) in
     (omega arith, omega arith, omega arith, (_, rw e at stepped))
 
 pub returns : goal.returns

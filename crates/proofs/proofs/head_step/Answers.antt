@@ -34,7 +34,7 @@ pub returns-then-bytes-at : goal.returns-then-bytes-at
 returns-then-bytes-at c = head_cut _ _ (omega arith) c.if-bytes-at.true
 
 pub returns-then-not-map_fits : goal.returns-then-not-map_fits
-returns-then-not-map_fits c = head_unfit _ _ (omega arith) (sym c.map_fits.ensures ∙ not-true _ c.if-not-map_fits.true)
+returns-then-not-map_fits c = head_unfit _ _ (omega arith) (sym c.map_fits.ensures ∙ c.if-not-map_fits.true)
 
 pub returns-then-bytes-next : goal.returns-then-bytes-next
 returns-then-bytes-next c = head_short (file (goal.at.returns-then-bytes-next c).After-link_width) (here (goal.at.returns-then-bytes-next c).After-link_width) (inside (goal.at.returns-then-bytes-next c).After-link_width) (fits (goal.at.returns-then-bytes-next c).After-link_width) (omega (arith, width (goal.at.returns-then-bytes-next c).After-link_width))

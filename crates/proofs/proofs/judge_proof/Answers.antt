@@ -24,6 +24,7 @@ use Rattle.proofs.specs.declared.Step.{Step}
 use Rattle.proofs.specs.declared.Step.TheVariants.{Next, Stop}
 use borrow.Author.Rules.{rules}
 use Rattle.proofs.proofs.judge_proof.Goals as goal
+use Rattle.proofs.proofs.judge_proof.Goals.{After-fewest, Else-not-opens_proof}
 
 module _ (c : tie.Start) where
   abbrev file : List ℕ
@@ -44,11 +45,11 @@ module _ (c : tie.Start) where
   read e = verdict (ap verdict_of e)
 
 -- the opening stands
-begun : (c : goal.Else-not-opens_proof) → opens (proof_opening (named_form c.args.form)) (file c.before.before.before-LEFT-Start) ≡ true
-begun c = sym c.opens_proof.ensures ∙ not-false _ c.if-not-opens_proof.false
+begun : (c : Else-not-opens_proof) → opens (proof_opening (named_form c.args.form)) (file c.before.before.before-LEFT-Start) ≡ true
+begun c = sym c.opens_proof.ensures ∙ c.if-not-opens_proof.false
 
 -- a node count out of range
-miscounted : (c : goal.After-fewest) → (Counts c.fewest.result 1024 c.word_at-n.result → ⊥)
+miscounted : (c : After-fewest) → (Counts c.fewest.result 1024 c.word_at-n.result → ⊥)
     → (f : Form) → c.args.form ≡ form_number f → refused 32 4 ≡ verdict_of (read_proof (claim c.before.before.before.before.before.before-LEFT-Start f) (file c.before.before.before.before.before.before-LEFT-Start))
 miscounted c n =
     read c.before.before.before.before.before.before-LEFT-Start (count_unfit (named c.before.before.before.before.before.before-LEFT-Start) (file c.before.before.before.before.before.before-LEFT-Start) (begun c.before.before.before-LEFT-Else-not-opens_proof) (omega arith) (λ k. n (rw (c.fewest.ensures, c.word_at-n.ensures) k)))
@@ -79,7 +80,7 @@ module _ (c : tie.After-roots-step) where
       (subst (λ (r : Step). In entry.args.goals c.before.before.before.before.word_at_lem.result r) e c.roots-step.ensures))
 
 pub returns-then-not-opens_proof : goal.returns-then-not-opens_proof
-returns-then-not-opens_proof c = read (goal.at.returns-then-not-opens_proof c).Start (not_opened _ _ (sym c.opens_proof.ensures ∙ not-true _ c.if-not-opens_proof.true))
+returns-then-not-opens_proof c = read (goal.at.returns-then-not-opens_proof c).Start (not_opened _ _ (sym c.opens_proof.ensures ∙ c.if-not-opens_proof.true))
 
 pub returns-then-bytes-lt-AFTER_COUNT : goal.returns-then-bytes-lt-AFTER_COUNT
 returns-then-bytes-lt-AFTER_COUNT c = read (goal.at.returns-then-bytes-lt-AFTER_COUNT c).Start (no_count _ _ (begun (goal.at.returns-then-bytes-lt-AFTER_COUNT c).Else-not-opens_proof) c.if-bytes-lt-AFTER_COUNT.true)

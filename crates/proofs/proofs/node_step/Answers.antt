@@ -11,6 +11,7 @@ use Rattle.proofs.specs.ProofSteps.{Head, FindsHead, finds_empty, finds_codes}
 use Rattle.proofs.specs.declared.Step.{Step}
 use borrow.Author.Rules.{rules}
 use Rattle.proofs.proofs.node_step.Goals as goal
+use Rattle.proofs.proofs.node_step.Goals.{In-Next-2}
 
 module _ (c : tie.Start) where
   abbrev file : List ℕ
@@ -23,7 +24,7 @@ module _ (c : tie.Start) where
   here = c.args.at
 
 -- the head was read
-head : (c : goal.In-Next-2) → Head (file c.before.before.before.before-LEFT-Start) (here c.before.before.before.before-LEFT-Start) c.next-1.given.0.0
+head : (c : In-Next-2) → Head (file c.before.before.before.before-LEFT-Start) (here c.before.before.before.before-LEFT-Start) c.next-1.given.0.0
 head c = subst (λ (r : Step). FindsHead (file c.before.before.before.before-LEFT-Start) (here c.before.before.before.before-LEFT-Start) r) c.next-1.given.1 c.head_step.ensures
 
 pub bounds-bytes-at : goal.bounds-bytes-at

@@ -45,4 +45,4 @@ returns-in-Accepted c claim xs ys gs ms told =
     let named = sym got.form in
     let rooted = c.decode_roots.ensures got.claim.form named in
     both_read _ _ got (ap shown (sym c.enum_told-1.given.1) ∙ c.judge_proof.ensures got.claim.form named)
-    rooted.held (roots_room (few (goal.at.returns-in-Accepted c).In-Accepted) named rooted) (c.nodes_place.ensures.0 got.claim.form named) c.nodes_place.ensures.1 (c.node_count.ensures _)
+    rooted.held (roots_room (few (goal.at.returns-in-Accepted c).In-Accepted) named rooted) (c.nodes_place.ensures.value got.claim.form named) c.nodes_place.ensures.upper_bound (c.node_count.ensures _)

@@ -6,12 +6,10 @@ use Rattle.nodes.specs.ProofDecode.{nodes_at_length}
 use Rattle.renumbering.specs.Copying.{Copying, copying_begins, copying_steps, copying_ends, node_fits, node_moves, node_room}
 use borrow.Author.Rules.{rules}
 use Rattle.renumbering.proofs.copy_nodes.Goals as goal
-
-abbrev entry : tie.At-loop invariant-loop decreases-loop → tie.Start invariant-loop decreases-loop
-entry c = c.before.before.before.before
+use Rattle.renumbering.proofs.copy_nodes.Goals.{In-loop-i}
 
 -- in a turn there is a node left
-unfinished : (c : goal.In-loop-i) → c.loop-i.i < word_at (entry c.before-LEFT-At-loop-i).args.bytes.now 4
+unfinished : (c : In-loop-i) → c.loop-i.i < word_at (entry c.before-LEFT-At-loop-i).args.bytes.now 4
 unfinished c = omega (arith, c.loop-i.invariant.1, c.loop-i-test.true)
 
 pub node_count-n-requires : goal.node_count-n-requires

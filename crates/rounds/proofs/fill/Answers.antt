@@ -5,10 +5,6 @@ use lib.ListN.{length}
 use Rattle.rounds.specs.Rounds.{Between}
 use Rattle.rounds.proofs.fill.Goals as goal
 
--- the turn that a round has been made in
-abbrev made : tie.After-slice-known4 invariant-loop decreases-loop → tie.In-loop invariant-loop decreases-loop
-made c = c.before.before.before.before.before.before.before.before.before
-
 pub overflow_add-q : goal.overflow_add-q
 overflow_add-q c = record { fits = omega (arith, c.requires.stands.room.small) }
 
@@ -25,11 +21,11 @@ turn-requires c =
     rw same at head.invariant.2
 
 pub loop-q-smaller : goal.loop-q-smaller
-loop-q-smaller c = omega (arith, (made c).loop-test.true)
+loop-q-smaller c = omega (arith, c.loop-q-test.true)
 
 pub loop-q-preserved : goal.loop-q-preserved
 loop-q-preserved c =
-    let was = (made c).before.loop.invariant in
+    let was = c.loop-q.invariant in
     (c.numbers-1.given ∙ was.0, c.marks-1.given ∙ was.1, c.turn.ensures)
 
 pub shape_of-numbers : goal.shape_of-numbers

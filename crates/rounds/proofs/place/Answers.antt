@@ -11,7 +11,7 @@ returns c =
     record {
       k = c.as_index-k.result - 1;
       v = c.choose-v.result;
-      level = omega (arith, c.as_index-k.ensures.0, given.0.1);
+      level = omega (arith, c.as_index-k.ensures.0, given.e_lt_count.1);
       chosen = c.choose-v.ensures;
       numbered = refl;
       counted = refl;

@@ -5,31 +5,24 @@ use lib.ListN.{length}
 use Rattle.rounds.specs.Rounds.{Round, round_begins, round_ends}
 use Rattle.rounds.proofs.round.Goals as goal
 
--- the turn that an entry has been visited in
-abbrev turn : tie.After-slice-known4 invariant-loop decreases-loop → tie.In-loop invariant-loop decreases-loop
-turn c = c.before.before.before.before.before.before.before.before.before
-
-pub only-own-requires : goal.only-own-requires
-only-own-requires c = tt
-
 pub loop-e-init : goal.loop-e-init
 loop-e-init c = (refl, refl, round_begins _ c.requires)
 
 pub visit-requires : goal.visit-requires
 visit-requires c =
-    ((c.loop-e-test.true, c.only-own.ensures), c.loop-e.invariant.2)
+    record { e_lt_q = (c.loop-e-test.true, c.only-own.ensures); round = c.loop-e.invariant.2 }
 
 pub overflow_add-e : goal.overflow_add-e
 overflow_add-e c =
-    let R = (turn c).before.loop.invariant.2 in
-    record { fits = omega (arith, (turn c).loop-test.true, R.within, R.stands.room.small) }
+    let R = c.loop-e.invariant.2 in
+    record { fits = omega (arith, c.loop-e-test.true, R.within, R.stands.room.small) }
 
 pub loop-e-smaller : goal.loop-e-smaller
-loop-e-smaller c = omega (arith, (turn c).loop-test.true)
+loop-e-smaller c = omega (arith, c.loop-e-test.true)
 
 pub loop-e-preserved : goal.loop-e-preserved
 loop-e-preserved c =
-    let was = (turn c).before.loop.invariant in
+    let was = c.loop-e.invariant in
     (c.numbers-1.given ∙ was.0, c.marks-1.given ∙ was.1, c.visit.ensures)
 
 pub shape_of-numbers : goal.shape_of-numbers

@@ -8,4 +8,4 @@ use Rattle.rounds.proofs.turn.Goals as goal
 pub returns-then-not-is_fixpoint : goal.returns-then-not-is_fixpoint
 returns-then-not-is_fixpoint c =
     let given = c.requires in
-    round_of_none _ given c.if-q-count.true (sym c.is_fixpoint.ensures ∙ not-true _ c.if-not-is_fixpoint.true)
+    round_of_none _ given c.if-q-count.true (sym c.is_fixpoint.ensures ∙ c.if-not-is_fixpoint.true)

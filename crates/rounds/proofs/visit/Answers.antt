@@ -10,6 +10,7 @@ use Rattle.rounds.specs.Stand.{due}
 use Rattle.rounds.specs.Rounds.{due_tells, round_skips, here, level_small, round_places}
 use borrow.Author.Rules.{rules}
 use Rattle.rounds.proofs.visit.Goals as goal
+use Rattle.rounds.proofs.visit.Goals.{Else-not-due}
 
 -- what `due` told is whether the entry gets a number more
 module _ (c : tie.After-due) where
@@ -28,13 +29,13 @@ module _ (c : tie.After-due) where
   is_due : c.due.result ≡ Due
   is_due = due_tells start.pre.1 inside _ c.due.ensures
 
-now_due : (c : goal.Else-not-due) → Due c.before-LEFT-After-due ≡ true
-now_due c = sym (is_due c.before-LEFT-After-due) ∙ not-false _ c.if-not-due.false
+now_due : (c : Else-not-due) → Due c.before-LEFT-After-due ≡ true
+now_due c = sym (is_due c.before-LEFT-After-due) ∙ c.if-not-due.false
 
 pub returns-then-not-due : goal.returns-then-not-due
 returns-then-not-due c =
     let given = (start (goal.at.returns-then-not-due c).After-due).pre in
-    round_skips given.1 given.0.0 (sym (is_due (goal.at.returns-then-not-due c).After-due) ∙ not-true _ c.if-not-due.true)
+    round_skips given.1 given.0.0 (sym (is_due (goal.at.returns-then-not-due c).After-due) ∙ c.if-not-due.true)
 
 pub place-requires : goal.place-requires
 place-requires c =
@@ -42,7 +43,7 @@ place-requires c =
     let room = given.1.stands in
     let level = here given.1 given.0.0 (now_due (goal.at.place-requires c).Else-not-due) in
     let small = level_small given.1 given.0.0 (now_due (goal.at.place-requires c).Else-not-due) in
-    ((inside (goal.at.place-requires c).After-due, omega (arith, level), omega (arith, level, small), room.mark_room), room.room)
+    record { e_lt_count = (inside (goal.at.place-requires c).After-due, omega (arith, level), omega (arith, level, small), room.mark_room); room = room.room }
 
 pub returns : goal.returns
 returns c =

@@ -5,17 +5,18 @@ use lib.ListN.{length}
 use borrow.Author.Rules.{rules}
 use Rattle.scopes.specs.FreeRows.{FreeReached, free_on}
 use Rattle.scopes.proofs.fill_free_rows.Goals as goal
+use Rattle.scopes.proofs.fill_free_rows.Goals.{In-loop-e}
 
 -- a row up to the turn's entry has room
-room : (c : goal.In-loop-e) (place : ℕ) → place ≤ c.loop-e.e → 4 * place + 3 < length c.loop-e.rows
+room : (c : In-loop-e) (place : ℕ) → place ≤ c.loop-e.e → 4 * place + 3 < length c.loop-e.rows
 room c place h = omega (arith, c.loop-e-test.true, c.loop-e.invariant.room)
 
 pub loop-e-init : goal.loop-e-init
 loop-e-init c = record {
-  small = c.requires.0.0;
-  placed = c.requires.1;
+  small = c.requires.count_bound.0;
+  placed = c.requires.by_index;
   within = omega arith;
-  room = c.requires.0.1;
+  room = c.requires.count_bound.1;
   same_length = refl;
   rows = λ d h. absurd (omega arith);
 }

@@ -7,9 +7,10 @@ use Rattle.formula.specs.Plain.{table_of, table_of_length}
 use Rattle.operands.specs.OperandBounds.{number_at_lem, number-none}
 use Rattle.scopes.specs.JudgeSteps.{judge_fault, judge_names}
 use Rattle.scopes.proofs.judge.Goals as goal
+use Rattle.scopes.proofs.judge.Goals.{Else-found-ne0}
 
 -- none earns either
-free : (c : goal.Else-found-ne0) → let given = c.args in
+free : (c : Else-found-ne0) → let given = c.args in
     (w : ℕ) → w < given.count → number_at_lem (table_of given.kinds.now given.a.now given.b.now given.count) w ≡ 0
 free c w h = let f = c.first_fault-found.ensures in f.before w (omega (arith, f.none c.if-found-ne0.false))
 
@@ -23,7 +24,7 @@ returns-then-found-ne0 c =
     c.first_fault-found.ensures c.if-found-ne0.true
 
 pub judge_names-requires : goal.judge_names-requires
-judge_names-requires c = (c.requires, λ w h. (number-none _ w (free c w h)).0)
+judge_names-requires c = record { count_bound = c.requires; by_index = λ w h. (number-none _ w (free c w h)).0 }
 
 pub returns : goal.returns
 returns c =

@@ -9,34 +9,28 @@ use Rattle.name_sets.specs.RowWords.{length_row}
 use Rattle.scopes.specs.Faults.{fault_at}
 use Rattle.scopes.specs.JudgeSteps.{Reached, starts, seen, refuses, goes_on, ends}
 use Rattle.scopes.proofs.judge_rows.Goals as goal
-
--- where `fault` has returned: the turn, and what the function was given
-abbrev turn : tie.After-fault invariant-loop decreases-loop → tie.In-loop invariant-loop decreases-loop
-turn c = c.before.before.before.before.before.before.before.before.before.before.before
-
-abbrev start : tie.In-loop invariant-loop decreases-loop → tie.Start invariant-loop decreases-loop
-start c = c.before.before.before.before.before.before.before
+use Rattle.scopes.proofs.judge_rows.Goals.{After-fault-number}
 
 abbrev table : tie.In-loop invariant-loop decreases-loop → Table
-table c = let given = (start c).args in table_of given.kinds.now given.a.now given.b.now given.count
+table c = let given = c.args in table_of given.kinds.now given.a.now given.b.now given.count
 
-number_is : (c : goal.After-fault-number) → c.fault-number.result ≡ fault_at (table (turn c)) (turn c).before.loop.e
+number_is : (c : After-fault-number) → c.fault-number.result ≡ fault_at (table c) c.loop-e.e
 number_is c =
     c.fault-number.ensures _ _ _
-    (seen (turn c).before.loop.invariant.2 (turn c).loop-test.true c.places_of-at.ensures _ _
+    (seen c.loop-e.invariant.2 c.loop-e-test.true c.places_of-at.ensures _ _
     (_, _, c.row.ensures, c.row-in-loop-e.ensures, c.free_names-free.ensures) c.with-passed.ensures
-    _ _ (turn c).before.before.before.before.of_kind.ensures (turn c).before.before.before.of-kind2.ensures _ c.row-body.ensures)
+    _ _ c.of_kind-mus.ensures c.of_kind-nus.ensures _ c.row-body.ensures)
 
 -- a row up to the turn's entry has room
 module _ (c : tie.In-loop invariant-loop decreases-loop) (place : ℕ) (within : place ≤ c.before.loop.e) where
   free-room : 4 * place + 3 < length c.before.loop.free_rows
-  free-room = omega (arith, c.loop-test.true, c.before.loop.invariant.0, (start c).requires.0.1)
+  free-room = omega (arith, c.loop-test.true, c.before.loop.invariant.0, c.requires.0.1)
 
   open-room : 4 * place + 3 < length c.before.loop.open-rows
-  open-room = omega (arith, c.loop-test.true, c.before.loop.invariant.1, (start c).requires.0.2)
+  open-room = omega (arith, c.loop-test.true, c.before.loop.invariant.1, c.requires.0.2)
 
 pub loop-e-init : goal.loop-e-init
-loop-e-init c = (refl, refl, starts _ _ _ _ c.requires.0.0 c.requires.1 _ _ _ c.none-passed.ensures)
+loop-e-init c = (refl, refl, starts _ _ _ _ c.requires.count_bound.0 c.requires.by_index _ _ _ c.none-passed.ensures)
 
 pub bounds-kinds-e : goal.bounds-kinds-e
 bounds-kinds-e c = omega arith
@@ -82,16 +76,16 @@ loop-e-smaller c = omega (arith, (turn (goal.at.loop-e-smaller c).After-with-pas
 
 pub loop-e-preserved : goal.loop-e-preserved
 loop-e-preserved c =
-    let head = (turn (goal.at.loop-e-preserved c).After-with-passed).before.loop in
+    let head = c.loop-e in
     let p = c.put_row.ensures in
     let q = c.put_row-in-loop-e.ensures in (
       ap length p ∙ length_row head.free_rows head.e _ ∙ head.inv.0,
       ap length q ∙ length_row head.open-rows head.e _ ∙ head.inv.1,
       rw (p, q)
-          (goes_on head.inv.2 (turn (goal.at.loop-e-preserved c).After-with-passed).loop-test.true c.places_of-at.ensures _ _
+          (goes_on head.inv.2 c.loop-e-test.true c.places_of-at.ensures _ _
           (_, _, c.row.ensures, c.row-in-loop-e.ensures, c.free_names-free.ensures) c.with-passed.ensures
           _ (_, _, c.row-body.ensures, c.row-in-loop-e-2.ensures, c.open_names-open.ensures) (sym (number_is (goal.at.loop-e-preserved c).After-with-passed) ∙ c.if-number-ne0.false)
-          (omega (arith, head.inv.0, (start (turn (goal.at.loop-e-preserved c).After-with-passed)).pre.0.1)) (omega (arith, head.inv.1, (start (turn (goal.at.loop-e-preserved c).After-with-passed)).pre.0.2))),
+          (omega (arith, head.inv.0, ((goal.at.loop-e-preserved c).After-with-passed).pre.0.1)) (omega (arith, head.inv.1, ((goal.at.loop-e-preserved c).After-with-passed).pre.0.2))),
     )
 
 pub shape_of-free_rows : goal.shape_of-free_rows

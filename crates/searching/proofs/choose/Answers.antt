@@ -31,7 +31,7 @@ returns-then-kinds-e-eq-NAME c = chosen_name refl c.if-kinds-e-eq-NAME.true c.na
 pub returns-then-not-seen : goal.returns-then-not-seen
 returns-then-not-seen c =
     chosen_unseen c.marks-1.given (formula (goal.at.returns-then-not-seen c).After-way_told-4-1).if1.false (first (goal.at.returns-then-not-seen c).After-way_told-4-1).at.ensures.0 (second (goal.at.returns-then-not-seen c).After-way_told-4-1).at2.ensures.0
-    (told (goal.at.returns-then-not-seen c).After-way_told-4-1).mark_of.ensures.0 (set (goal.at.returns-then-not-seen c).After-way_told-4-1).mark.ensures (sym (seen (goal.at.returns-then-not-seen c).After-way_told-4-1).marked.ensures ∙ not-true _ c.if-not-seen.true) refl
+    (told (goal.at.returns-then-not-seen c).After-way_told-4-1).mark_of.ensures.0 (set (goal.at.returns-then-not-seen c).After-way_told-4-1).mark.ensures (sym (seen (goal.at.returns-then-not-seen c).After-way_told-4-1).marked.ensures ∙ c.if-not-seen.true) refl
 
 pub returns : goal.returns
 returns c =

@@ -5,16 +5,10 @@ use borrow.Author.Rules.{rules}
 use Rattle.formula.specs.NodeColumns.{Columns}
 use Rattle.laid.specs.Readable.{laid, laid_judged, stored_same, stored_starts}
 use Rattle.single.proofs.judge_in.Goals as goal
-
--- the function's start and what the decoder left, from where the columns are lent to the judge
-abbrev start : tie.After-judge-arg4 → tie.Start
-start c = c.before.before.before.before.before.before.before.before.before.before.before.before.before.before.before.before.before.before.before.before.before.before
-
-abbrev decoded : tie.After-judge-arg4 → tie.After-decode-proof
-decoded c = c.before.before.before.before.before.before.before.before.before.before.before.before
+use Rattle.single.proofs.judge_in.Goals.{?After-judge-arg4}
 
 -- the columns are as long as they were
-columns : (c : goal.?After-judge-arg4) → let d = (decoded c).decode-proof in Columns (start c).args.nodes d.last.1.1.0 d.last.1.1.1.0 d.last.1.1.1.1.0 d.last.1.1.1.1.1.0
+columns : (c : ?After-judge-arg4) → let d = c.decode_proof in Columns c.args.nodes d.last.1.1.0 d.last.1.1.1.0 d.last.1.1.1.1.0 d.last.1.1.1.1.1.0
 columns c = search rules
 
 pub decode_proof-requires : goal.decode_proof-requires
@@ -23,9 +17,8 @@ decode_proof-requires c =
 
 pub judge-requires : goal.judge-requires
 judge-requires c =
-    let s = start c in
-    let w = (decoded c).decode-proof.ensures.1 in
-    (laid s.pre.0 (columns c) (stored_same s.pre.0 w) (stored_starts s.pre.0 w), (s.pre.0.goals, s.pre.2))
+    let w = c.decode_proof.ensures.nodes_stored in
+    record { laid = laid c.pre.0 (columns c) (stored_same c.pre.0 w) (stored_starts c.pre.0 w); goals = (c.pre.0.goals, c.pre.2) }
 
 pub returns : goal.returns
 returns c f =

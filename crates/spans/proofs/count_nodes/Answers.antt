@@ -7,9 +7,10 @@ use borrow.Author.Rules.{rules}
 use Rattle.spans.specs.Spans.{Counted}
 use Rattle.spans.specs.CountLaws.{none_counted, root_fits, count_root, child_fits, count_child, count_done}
 use Rattle.spans.proofs.count_nodes.Goals as goal
+use Rattle.spans.proofs.count_nodes.Goals.{Else-owner-eq0}
 
 -- a node with an owner has a parent of a smaller number
-below : (c : goal.Else-owner-eq0)
+below : (c : Else-owner-eq0)
     → (0 < get_or c.args.owners.now (c.loop-v.v - 1) 0)
     × (get_or c.args.owners.now (c.loop-v.v - 1) 0 ≤ c.loop-v.v - 1)
 below c =

@@ -6,7 +6,7 @@ use Rattle.thinning.specs.Marked.{grown_without, grown_with}
 use Rattle.thinning.proofs.pass.Goals as goal
 
 pub returns-then-not-has : goal.returns-then-not-has
-returns-then-not-has c = grown_without refl (sym c.has.ensures ∙ not-true _ c.if-not-has.true) refl
+returns-then-not-has c = grown_without refl (sym c.has.ensures ∙ c.if-not-has.true) refl
 
 pub returns : goal.returns
-returns c = grown_with refl (sym c.has.ensures ∙ not-false _ c.if-not-has.false) c.with.ensures
+returns c = grown_with refl (sym c.has.ensures ∙ c.if-not-has.false) c.with.ensures

@@ -32,4 +32,4 @@ pub returns : goal.returns
 returns c =
     let start = given (goal.at.returns c).After-way_told-4-1 in
     prepared_more start.pre.0.0 start.pre.0.1 start.pre.1 (own (goal.at.returns c).After-way_told-4-1).row.ensures c.type_size.ensures
-    c.put_operands.ensures.0 c.put_operands.ensures.1
+    c.put_operands.ensures.row_made c.put_operands.ensures.row_made_2

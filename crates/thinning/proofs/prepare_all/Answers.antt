@@ -5,23 +5,16 @@ use lib.ListN.{length}
 use Rattle.thinning.specs.Columns.{Prepared}
 use Rattle.thinning.proofs.prepare_all.Goals as goal
 
-abbrev start : tie.In-loop invariant-loop decreases-loop → tie.Start invariant-loop decreases-loop
-start c = c.before.before.before.before.before
-
--- at the end of a turn: what `prepare` has left
-abbrev made : tie.After-slice-known4 invariant-loop decreases-loop → tie.After-prepare invariant-loop decreases-loop
-made c = c.before.before.before.before
-
 abbrev turn : tie.After-slice-known4 invariant-loop decreases-loop → tie.In-loop invariant-loop decreases-loop
-turn c = (made c).before.before.before.before.before
+turn c = c.before.before.before.before.before
 
 pub loop-e-init : goal.loop-e-init
-loop-e-init c = (omega arith, refl, refl, c.requires.1)
+loop-e-init c = (omega arith, refl, refl, c.requires.prepared)
 
 pub prepare-requires : goal.prepare-requires
 prepare-requires c =
-    let given = (start (goal.at.prepare-requires c).In-loop-e).requires.0 in
-    ((given.0, c.loop-e-test.true, given.1), c.loop-e.invariant.3)
+    let given = c.requires.count_bound in
+    record { count_bound = (given.0, c.loop-e-test.true, given.1); prepared = c.loop-e.invariant.3 }
 
 pub overflow_add-e : goal.overflow_add-e
 overflow_add-e c = record { fits = omega (arith, (turn c).loop-test.true, (start (turn c)).pre.0.0) }
@@ -34,7 +27,7 @@ loop-e-preserved c =
     let head = (turn c).before.loop in
     let firsts = c.firsts-1.given ∙ head.inv.1 in
     let seconds = c.seconds-1.given ∙ head.inv.2 in
-    (omega (arith, (turn c).loop-test.true), firsts, seconds, (made c).prepare.ensures)
+    (omega (arith, (turn c).loop-test.true), firsts, seconds, c.prepare.ensures)
 
 pub shape_of-firsts : goal.shape_of-firsts
 shape_of-firsts c = c.loop-e.invariant.1

@@ -5,11 +5,11 @@ use borrow.Author.Rules.{rules}
 use Rattle.thinning.proofs.put_operands.Goals as goal
 
 pub returns-then-kind-lt-OR : goal.returns-then-kind-lt-OR
-returns-then-kind-lt-OR c = (row_left _ _ _ (λ two. absurd (omega (arith, two.0, c.if-kind-lt-OR.true))), row_left _ _ _ (λ two. absurd (omega (arith, two.0, c.if-kind-lt-OR.true))))
+returns-then-kind-lt-OR c = record { row_made = row_left _ _ _ (λ two. absurd (omega (arith, two.0, c.if-kind-lt-OR.true))); row_made_2 = row_left _ _ _ (λ two. absurd (omega (arith, two.0, c.if-kind-lt-OR.true))) }
 
 pub returns-then-kind-gt-AND : goal.returns-then-kind-gt-AND
-returns-then-kind-gt-AND c = (row_left _ _ _ (λ two. absurd (omega (arith, two.1, c.if-kind-gt-AND.true))), row_left _ _ _ (λ two. absurd (omega (arith, two.1, c.if-kind-gt-AND.true))))
+returns-then-kind-gt-AND c = record { row_made = row_left _ _ _ (λ two. absurd (omega (arith, two.1, c.if-kind-gt-AND.true))); row_made_2 = row_left _ _ _ (λ two. absurd (omega (arith, two.1, c.if-kind-gt-AND.true))) }
 
 pub returns : goal.returns
 returns c =
-    (row_for c.put_thinned.ensures, row_for c.put_thinned-2.ensures)
+    record { row_made = row_for c.put_thinned.ensures; row_made_2 = row_for c.put_thinned-2.ensures }

@@ -8,7 +8,7 @@ use Rattle.thinning.specs.Marked.{Thinning, thinning_starts, thinning_nearer, th
 use Rattle.thinning.proofs.size_of.Given as goal
 
 abbrev pub invariant-loop-name : goal.invariant-loop-name
-invariant-loop-name l = Thinning l.initial.rest empty l.count (record { marks = empty; l.size = l.size }) l.rest l.name
+invariant-loop-name l = Thinning l.initial.rest empty l.count (record { marks = empty; size = l.size }) l.rest l.name
 
 abbrev pub decreases-loop-name : goal.decreases-loop-name
 decreases-loop-name l = 256 - l.name

@@ -26,7 +26,7 @@ shape_of-owners-then-not-adopt c = omega (arith, c.loop-v.invariant.1)
 pub returns-then-not-adopt : goal.returns-then-not-adopt
 returns-then-not-adopt c roots taken =
     let (taken_here, fit) = c.loop-v.invariant.2 roots taken in
-    children_refused roots _ _ _ fit (c.adopt.ensures roots taken_here) c.loop-v-test.true (not-true _ c.if-not-adopt.true)
+    children_refused roots _ _ _ fit (c.adopt.ensures roots taken_here) c.loop-v-test.true (c.if-not-adopt.true)
 
 pub loop-v-smaller : goal.loop-v-smaller
 loop-v-smaller c = omega arith
@@ -39,7 +39,7 @@ loop-v-preserved c =
       λ roots taken.
           let (taken_here, fit) = inv2.2 roots taken in
           let told = c.adopt.ensures roots taken_here in
-          (told.taken (not-false _ c.if-not-adopt.false), fit_more roots _ _ _ fit told (not-false _ c.if-not-adopt.false)),
+          (told.taken (c.if-not-adopt.false), fit_more roots _ _ _ fit told (c.if-not-adopt.false)),
     )
 
 pub shape_of-owners : goal.shape_of-owners

@@ -4,9 +4,10 @@ use native.Mathlib.Omega.{arith}
 use borrow.Author.Rules.{rules}
 use Rattle.tree.specs.Stamps.{Stamped, none_stamped, one_stamped}
 use Rattle.tree.proofs.stamp.Goals as goal
+use Rattle.tree.proofs.stamp.Goals.{After-wide}
 
 -- a root is a node
-inside : (c : goal.After-wide) → c.wide.result < c.args.nodes
+inside : (c : After-wide) → c.wide.result < c.args.nodes
 inside c = omega (arith, c.wide.ensures, c.requires.0.inside _ c.loop-i-test.true)
 
 pub loop-i-init : goal.loop-i-init

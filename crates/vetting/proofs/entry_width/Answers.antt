@@ -58,12 +58,12 @@ returns-then-has_b c = let s = c.args in (widest s.kind s.b (sym c.has_b.ensures
 pub returns-then-not-has_a : goal.returns-then-not-has_a
 returns-then-not-has_a c =
     let s = c.args in
-    (bare s.kind s.b (sym c.has_a.ensures ∙ not-true _ c.if-not-has_a.true) (no-b (goal.at.returns-then-not-has_a c).After-has_a), omega arith)
+    (bare s.kind s.b (sym c.has_a.ensures ∙ c.if-not-has_a.true) (no-b (goal.at.returns-then-not-has_a c).After-has_a), omega arith)
 
 pub returns-then-b-eq0 : goal.returns-then-b-eq0
 returns-then-b-eq0 c =
     let s = c.args in
-    (silent s.kind s.b c.if-b-eq0.true (sym c.has_a.ensures ∙ not-false _ c.if-not-has_a.false) (no-b (goal.at.returns-then-b-eq0 c).After-has_a), omega arith)
+    (silent s.kind s.b c.if-b-eq0.true (sym c.has_a.ensures ∙ c.if-not-has_a.false) (no-b (goal.at.returns-then-b-eq0 c).After-has_a), omega arith)
 
 pub returns-then-is_modal : goal.returns-then-is_modal
 returns-then-is_modal c =
@@ -73,4 +73,4 @@ returns-then-is_modal c =
 pub returns : goal.returns
 returns c =
     let s = c.args in
-    (other s.kind s.b (sym c.is_modal.ensures ∙ c.if-is_modal.false) (sym c.has_a.ensures ∙ not-false _ c.if-not-has_a.false) (no-b (goal.at.returns c).After-has_a), omega arith)
+    (other s.kind s.b (sym c.is_modal.ensures ∙ c.if-is_modal.false) (sym c.has_a.ensures ∙ c.if-not-has_a.false) (no-b (goal.at.returns c).After-has_a), omega arith)

@@ -16,6 +16,7 @@ use Rattle.vetting.specs.KindTests.{goals_by_kinds}
 use Rattle.vetting.specs.declared.Step.TheVariants.{Stop}
 use borrow.Author.Rules.{rules}
 use Rattle.vetting.proofs.judge_claim_bytes.Goals as goal
+use Rattle.vetting.proofs.judge_claim_bytes.Goals.{After-wide}
 
 module _ (s : tie.Start) where
   abbrev form : Form
@@ -31,7 +32,7 @@ module _ (s : tie.Start) where
   members = s.args.members.now
 
 -- the least entry count of the form
-least : (c : goal.After-wide) → c.wide.result ≡ fewest (form c.before.before.before.before-LEFT-Start)
+least : (c : After-wide) → c.wide.result ≡ fewest (form c.before.before.before.before-LEFT-Start)
 least c = c.wide.ensures ∙ c.fewest.ensures
 
 -- past the entries the goals are walked over, by the kinds alone

@@ -15,6 +15,7 @@ use Rattle.writing.specs.FieldEnds.{rising_end}
 use Rattle.vetting.specs.StepLaws.{finds_stop, finds_next}
 use Rattle.vetting.specs.WalkLaws.{RisingLeft, rising_begins, rising_stop, rising_on, rising-end, part_long, part_at}
 use Rattle.vetting.proofs.judge_codes.Goals as goal
+use Rattle.vetting.proofs.judge_codes.Goals.{After-is_code}
 
 -- the code at i of those that are walked over
 module _ (c : tie.Start invariant-loop decreases-loop) where
@@ -50,7 +51,7 @@ module _ (c : tie.After-wide invariant-loop decreases-loop) where
       rising_on c.before.before.before.loop.invariant.1 (omega (arith, long s)) c.wide.result (c.wide.ensures ∙ read s here c.before.before.loop-test.true) f
 
 -- a code that rises is tested by its entry
-fits : (c : goal.After-is_code) → fits_from (is_code_lem (table c.before.before-LEFT-After-wide-number)) (floor c.before.before-LEFT-After-wide-number) c.wide-number.result ≡ c.is_code.result
+fits : (c : After-is_code) → fits_from (is_code_lem (table c.before.before-LEFT-After-wide-number)) (floor c.before.before-LEFT-After-wide-number) c.wide-number.result ≡ c.is_code.result
 fits c =
     let c.before.before-LEFT-After-wide-number = c.before.before-LEFT-After-wide-number in
     rw (le-leb (floor c.before.before-LEFT-After-wide-number) c.wide-number.result c.if-number-least.false) (ap (is_code_lem (table c.before.before-LEFT-After-wide-number)) c.wide-number.ensures ∙ sym c.is_code.ensures)
@@ -64,14 +65,14 @@ returns-then-number-least c =
 
 pub returns-then-not-is_code : goal.returns-then-not-is_code
 returns-then-not-is_code c =
-    finds_stop c.stop-then-not-is_code.result (stops (goal.at.returns-then-not-is_code c).After-wide-number (fits (goal.at.returns-then-not-is_code c).After-is_code ∙ not-true _ c.if-not-is_code.true)) c.stop-then-not-is_code.ensures
+    finds_stop c.stop-then-not-is_code.result (stops (goal.at.returns-then-not-is_code c).After-wide-number (fits (goal.at.returns-then-not-is_code c).After-is_code ∙ c.if-not-is_code.true)) c.stop-then-not-is_code.ensures
 
 pub overflow_add-least : goal.overflow_add-least
 overflow_add-least c =
     omega (arith, c.shared_slice_known-in-loop-i-1.given ((s (goal.at.overflow_add-least c).After-wide-number).args.start + here (goal.at.overflow_add-least c).After-wide-number), c.wide-number.ensures)
 
 pub loop-i-preserved : goal.loop-i-preserved
-loop-i-preserved c = (omega arith, goes_on (goal.at.loop-i-preserved c).After-wide-number (fits (goal.at.loop-i-preserved c).After-is_code ∙ not-false _ c.if-not-is_code.false))
+loop-i-preserved c = (omega arith, goes_on (goal.at.loop-i-preserved c).After-wide-number (fits (goal.at.loop-i-preserved c).After-is_code ∙ c.if-not-is_code.false))
 
 pub returns : goal.returns
 returns c =

@@ -14,7 +14,7 @@ pub returns-then-not-entry_fits : goal.returns-then-not-entry_fits
 returns-then-not-entry_fits c =
     finds_stop c.stop.result
     (entries_stop c.loop-i.invariant.2 c.loop-i-test.true
-    (sym c.entry_fits.ensures ∙ not-true _ c.if-not-entry_fits.true))
+    (sym c.entry_fits.ensures ∙ c.if-not-entry_fits.true))
     c.stop.ensures
 
 pub loop-i-preserved : goal.loop-i-preserved
@@ -22,7 +22,7 @@ loop-i-preserved c =
     let width = c.entry_width-at.ensures in
     let on =
     entries_on c.loop-i.invariant.2 c.loop-i-test.true
-    (sym c.entry_fits.ensures ∙ not-false _ c.if-not-entry_fits.false) in
+    (sym c.entry_fits.ensures ∙ c.if-not-entry_fits.false) in
     (omega arith, omega arith, rw width.0 on)
 
 pub returns : goal.returns

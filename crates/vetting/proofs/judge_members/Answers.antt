@@ -51,7 +51,7 @@ loop-i-init c = (omega arith, rising_begins _ _ _ _)
 
 pub returns-then-not-may_follow : goal.returns-then-not-may_follow
 returns-then-not-may_follow c =
-    finds_stop c.stop.result (rising_stop c.loop-i.invariant.1 (inside (goal.at.returns-then-not-may_follow c).After-may_follow) c.wide-member.result (read (goal.at.returns-then-not-may_follow c).After-may_follow) (fits (goal.at.returns-then-not-may_follow c).After-may_follow ∙ not-true _ c.if-not-may_follow.true))
+    finds_stop c.stop.result (rising_stop c.loop-i.invariant.1 (inside (goal.at.returns-then-not-may_follow c).After-may_follow) c.wide-member.result (read (goal.at.returns-then-not-may_follow c).After-may_follow) (fits (goal.at.returns-then-not-may_follow c).After-may_follow ∙ c.if-not-may_follow.true))
     c.stop.ensures
 
 pub overflow_add-floor : goal.overflow_add-floor
@@ -60,7 +60,7 @@ overflow_add-floor c =
 
 pub loop-i-preserved : goal.loop-i-preserved
 loop-i-preserved c =
-    (omega arith, rising_on c.loop-i.invariant.1 (inside (goal.at.loop-i-preserved c).After-may_follow) c.wide-member.result (read (goal.at.loop-i-preserved c).After-may_follow) (fits (goal.at.loop-i-preserved c).After-may_follow ∙ not-false _ c.if-not-may_follow.false))
+    (omega arith, rising_on c.loop-i.invariant.1 (inside (goal.at.loop-i-preserved c).After-may_follow) c.wide-member.result (read (goal.at.loop-i-preserved c).After-may_follow) (fits (goal.at.loop-i-preserved c).After-may_follow ∙ c.if-not-may_follow.false))
 
 pub returns : goal.returns
 returns c =

@@ -31,7 +31,7 @@ returns-then-rule-gt-BACK c =
 pub returns-then-not-links_fit : goal.returns-then-not-links_fit
 returns-then-not-links_fit c =
     finds_stop c.stop-then-not-links_fit.result
-    (links_unfit c.loop-v.invariant.1 c.loop-v-test.true c.if-rule-gt-BACK.false (sym c.links_fit.ensures ∙ not-true _ c.if-not-links_fit.true))
+    (links_unfit c.loop-v.invariant.1 c.loop-v-test.true c.if-rule-gt-BACK.false (sym c.links_fit.ensures ∙ c.if-not-links_fit.true))
     c.stop-then-not-links_fit.ensures
 
 pub overflow_cast-count : goal.overflow_cast-count

@@ -68,8 +68,8 @@ module _ (c : tie.After-judge-tree) where
 pub judge_tree-requires : goal.judge_tree-requires
 judge_tree-requires c =
     let f = found (goal.at.judge_tree-requires c).In-Next-2 (named_form c.args.form) c.judge_proof_bytes.ensures in
-    let columns = c.requires.1 f.nodes.1 in
-    (f.nodes.1, columns.rules, columns.links, c.requires.0.1, f.roots)
+    let columns = c.requires.nodes_given f.nodes.1 in
+    (f.nodes.1, columns.rules, columns.links, c.requires.entries_bound.1, f.roots)
 
 pub returns-in-Stop : goal.returns-in-Stop
 returns-in-Stop c f named = finds_stop (Stop _ _) (stops_there _ (found_stop (walked (goal.at.returns-in-Stop c).After-judge_proof_bytes f named) c.number-1.given.1)) refl

@@ -16,6 +16,7 @@ use Rattle.vetting.specs.CountLaws.{proof_out, proof_in}
 use Rattle.vetting.specs.declared.Step.TheVariants.{Stop}
 use borrow.Author.Rules.{rules}
 use Rattle.vetting.proofs.judge_proof_bytes.Goals as goal
+use Rattle.vetting.proofs.judge_proof_bytes.Goals.{After-wide}
 
 module _ (s : tie.Start) where
   abbrev form : Form
@@ -36,7 +37,7 @@ module _ (s : tie.Start) where
   walked = proof_in form s.args.goals table s.args.nodes s.args.roots.now records s.args.codes.now
 
 -- the least node count of the form
-least : (c : goal.After-wide) → c.wide.result ≡ fewest (form c.before.before.before.before.before.before.before-LEFT-Start)
+least : (c : After-wide) → c.wide.result ≡ fewest (form c.before.before.before.before.before.before.before-LEFT-Start)
 least c = c.wide.ensures ∙ c.fewest.ensures
 
 pub returns-then-nodes-wide : goal.returns-then-nodes-wide

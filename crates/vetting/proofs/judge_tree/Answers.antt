@@ -9,8 +9,9 @@ use Rattle.tree.specs.Owners.{tree_judged}
 use Rattle.vetting.specs.RootLaws.{placed, roots_placed, roots_taken}
 use borrow.Author.Rules.{rules}
 use Rattle.vetting.proofs.judge_tree.Goals as goal
+use Rattle.vetting.proofs.judge_tree.Goals.{After-copy_roots}
 
-copied : (c : goal.After-copy_roots) → c.copy_roots.new.1.0 ≡ placed c.args.roots.now
+copied : (c : After-copy_roots) → c.copy_roots.new.1.0 ≡ placed c.args.roots.now
 copied c = c.copy_roots.ensures
 
 pub fill_owners-requires : goal.fill_owners-requires

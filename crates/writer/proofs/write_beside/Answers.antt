@@ -55,7 +55,7 @@ module _ (s : tie.Start) where
 
 pub judge_proof-requires : goal.judge_proof-requires
 judge_proof-requires c =
-    ((c.requires.0.table, c.requires.0.few, for_named (λ (f : Form). GoalCount f c.args.goals) c.requires.0.many), nodes_given c.requires.1 c.requires.2)
+    record { entries_bound = (c.requires.0.table, c.requires.0.few, for_named (λ (f : Form). GoalCount f c.args.goals) c.requires.0.many); nodes_given = nodes_given c.requires.1 c.requires.2 }
 
 pub returns-then-out-length : goal.returns-then-out-length
 returns-then-out-length c =

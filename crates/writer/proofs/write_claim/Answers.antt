@@ -18,7 +18,10 @@ use Rattle.writing.specs.Answers.{answered}
 use Rattle.vetting.specs.StepLaws.{found_stop, found_next}
 use Rattle.writer.specs.Written.{asked_form, asked_none, Wrote, wrote_refusal, wrote_no_room, wrote_file, claim_too_short, claim_of_no_form, claim_written, goals_room}
 use borrow.Author.Rules.{rules}
+use Rattle.std.proofs.Common.{ap}
+use Rattle.std.specs.Prelude.{not}
 use Rattle.writer.proofs.write_claim.Goals as goal
+use Rattle.writer.proofs.write_claim.Goals.{Else-not-is_form}
 
 -- the claim that stands in the columns, its file, and what its judge finds
 module _ (s : tie.Start) where
@@ -53,15 +56,11 @@ module _ (s : tie.Start) where
   passes : {o : ℕ} → found ≡ next o → ClaimPasses form s.args.count table sizes members o
   passes = claim_passes form s.args.count table sizes members (table_of_length s.args.kinds.now s.args.a.now s.args.b.now s.args.count)
 
--- records of a form, in a slice that is long enough
-abbrev start : tie.Else2 → tie.Start
-start c = c.before.before.before.before.before.before
-
-long : (c : goal.Else-not-is_form) → 256 ≤ (start c).args.lent
+long : (c : Else-not-is_form) → 256 ≤ c.args.lent
 long c = omega (arith, c.if-lent-lt256.false)
 
-named : (c : goal.Else-not-is_form) → (start c).args.form ≡ form_number (form (start c))
-named c = asked_form (start c).args.form c.is_form.ensures c.if-not-is_form.false
+named : (c : Else-not-is_form) → c.args.form ≡ form_number (form c)
+named c = asked_form c.args.form c.is_form.ensures (ap not c.if-not-is_form.false)
 
 pub returns-then-lent-lt256 : goal.returns-then-lent-lt256
 returns-then-lent-lt256 c =
@@ -71,29 +70,25 @@ returns-then-lent-lt256 c =
 pub returns-then-not-is_form : goal.returns-then-not-is_form
 returns-then-not-is_form c =
     claim_of_no_form c.args.form c.args.lent c.args.count c.args.kinds.now c.args.a.now c.args.b.now (sizes (goal.at.returns-then-not-is_form c).Start) (members (goal.at.returns-then-not-is_form c).Start) (out (goal.at.returns-then-not-is_form c).Start)
-    (omega (arith, c.if-lent-lt256.false)) (asked_none c.args.form c.is_form.ensures c.if-not-is_form.true) (record { answer = c.refuse-then-not-is_form.ensures; laid = refl })
+    (omega (arith, c.if-lent-lt256.false)) (asked_none c.args.form c.is_form.ensures (ap not c.if-not-is_form.true)) (record { answer = c.refuse-then-not-is_form.ensures; laid = refl })
 
 pub returns-then-out-end : goal.returns-then-out-end
 returns-then-out-end c =
-    let s = start (goal.at.returns-then-out-end c).Else-not-is_form in
-    promised s _ _ (long (goal.at.returns-then-out-end c).Else-not-is_form) (named (goal.at.returns-then-out-end c).Else-not-is_form)
-    (wrote_no_room (file s) (out s) (found_next (c.judge_claim.ensures (form s) (named (goal.at.returns-then-out-end c).Else-not-is_form)) c.end-1.given.1) c.if-out-end.true c.refuse-then-out-end.ensures)
+    promised (goal.at.returns-then-out-end c).Else-not-is_form _ _ (long (goal.at.returns-then-out-end c).Else-not-is_form) (named (goal.at.returns-then-out-end c).Else-not-is_form)
+    (wrote_no_room (file (goal.at.returns-then-out-end c).Else-not-is_form) (out (goal.at.returns-then-out-end c).Else-not-is_form) (found_next (c.judge_claim.ensures (form (goal.at.returns-then-out-end c).Else-not-is_form) (named (goal.at.returns-then-out-end c).Else-not-is_form)) c.end-1.given.1) c.if-out-end.true c.refuse-then-out-end.ensures)
 
 pub put_claim-requires : goal.put_claim-requires
 put_claim-requires c =
-    let s = start (goal.at.put_claim-requires c).Else-not-is_form in
-    let p = passes s (found_next (c.judge_claim.ensures (form s) (named (goal.at.put_claim-requires c).Else-not-is_form)) c.end-1.given.1) in
+    let p = passes (goal.at.put_claim-requires c).Else-not-is_form (found_next (c.judge_claim.ensures (form (goal.at.put_claim-requires c).Else-not-is_form) (named (goal.at.put_claim-requires c).Else-not-is_form)) c.end-1.given.1) in
     (omega (arith, p.end, c.if-out-end.false), p.entries, goals_room p)
 
 pub returns-in-Stop : goal.returns-in-Stop
 returns-in-Stop c =
-    let s = start (goal.at.returns-in-Stop c).Else-not-is_form in
-    promised s _ _ (long (goal.at.returns-in-Stop c).Else-not-is_form) (named (goal.at.returns-in-Stop c).Else-not-is_form)
-    (wrote_refusal (length (out s)) (file s) (out s) (found_stop (c.judge_claim.ensures (form s) (named (goal.at.returns-in-Stop c).Else-not-is_form)) c.number-1.given.1) c.refuse-in-Stop.ensures)
+    promised (goal.at.returns-in-Stop c).Else-not-is_form _ _ (long (goal.at.returns-in-Stop c).Else-not-is_form) (named (goal.at.returns-in-Stop c).Else-not-is_form)
+    (wrote_refusal (length (out (goal.at.returns-in-Stop c).Else-not-is_form)) (file (goal.at.returns-in-Stop c).Else-not-is_form) (out (goal.at.returns-in-Stop c).Else-not-is_form) (found_stop (c.judge_claim.ensures (form (goal.at.returns-in-Stop c).Else-not-is_form) (named (goal.at.returns-in-Stop c).Else-not-is_form)) c.number-1.given.1) c.refuse-in-Stop.ensures)
 
 pub returns-else-out-end : goal.returns-else-out-end
 returns-else-out-end c =
-    let s = start (goal.at.returns-else-out-end c).Else-not-is_form in
-    let walked = found_next (c.judge_claim.ensures (form s) (named (goal.at.returns-else-out-end c).Else-not-is_form)) c.end-1.given.1 in
-    promised s _ _ (long (goal.at.returns-else-out-end c).Else-not-is_form) (named (goal.at.returns-else-out-end c).Else-not-is_form)
-    (wrote_file (file s) (out s) _ walked (omega (arith, c.if-out-end.false)) (passes s walked).end (c.put_claim.ensures (form s) (named (goal.at.returns-else-out-end c).Else-not-is_form)))
+    let walked = found_next (c.judge_claim.ensures (form (goal.at.returns-else-out-end c).Else-not-is_form) (named (goal.at.returns-else-out-end c).Else-not-is_form)) c.end-1.given.1 in
+    promised (goal.at.returns-else-out-end c).Else-not-is_form _ _ (long (goal.at.returns-else-out-end c).Else-not-is_form) (named (goal.at.returns-else-out-end c).Else-not-is_form)
+    (wrote_file (file (goal.at.returns-else-out-end c).Else-not-is_form) (out (goal.at.returns-else-out-end c).Else-not-is_form) _ walked (omega (arith, c.if-out-end.false)) (passes (goal.at.returns-else-out-end c).Else-not-is_form walked).end (c.put_claim.ensures (form (goal.at.returns-else-out-end c).Else-not-is_form) (named (goal.at.returns-else-out-end c).Else-not-is_form)))

@@ -20,7 +20,10 @@ use Rattle.writing.specs.Held.{records_of, ProofWritten}
 use Rattle.vetting.specs.StepLaws.{found_stop, found_next}
 use Rattle.writer.specs.Written.{formed, asked_form, asked_none, Wrote, proved_by, proof_too_short, proof_of_no_form, claim_refused_first, proof_written, stands_beside}
 use borrow.Author.Rules.{rules}
+use Rattle.std.proofs.Common.{ap}
+use Rattle.std.specs.Prelude.{not}
 use Rattle.writer.proofs.write_proof.Goals as goal
+use Rattle.writer.proofs.write_proof.Goals.{Else-codes-lt24576, Else-not-is_form}
 
 -- what the claim's judge finds, and what is promised
 module _ (s : tie.Start) where
@@ -89,18 +92,14 @@ module _ (s : tie.Start) where
       s.args.nodes-lent s.args.nodes s.args.rules.now s.args.links.now s.args.counts.now roots codes out
       l.entries l.nodes l.codes form named
 
--- slices that are long enough, and then records of a form
-abbrev lent : tie.Else3 → tie.Start
-lent c = c.before.before.before.before.before.before.before.before.before.before.before
-
-long : (c : goal.Else-codes-lt24576) → Long (lent c)
+long : (c : Else-codes-lt24576) → Long c
 long c = record { entries = omega (arith, c.if-lent-lt256.false); nodes = omega (arith, c.if-nodes_lent-lt1024.false); codes = omega (arith, c.if-codes-lt24576.false) }
 
 abbrev start : tie.Else4 → tie.Start
 start c = lent c.before.before
 
-named : (c : goal.Else-not-is_form) → Named (start c)
-named c = asked_form (start c).args.form c.is_form.ensures c.if-not-is_form.false
+named : (c : Else-not-is_form) → Named (start c)
+named c = asked_form (start c).args.form c.is_form.ensures (ap not c.if-not-is_form.false)
 
 pub returns-then-lent-lt256 : goal.returns-then-lent-lt256
 returns-then-lent-lt256 c =
@@ -123,8 +122,7 @@ returns-then-codes-lt24576 c =
 
 pub returns-then-not-is_form : goal.returns-then-not-is_form
 returns-then-not-is_form c =
-    let s = lent (goal.at.returns-then-not-is_form c).Else-codes-lt24576 in
-    no_form s _ (long (goal.at.returns-then-not-is_form c).Else-codes-lt24576) (asked_none s.args.form c.is_form.ensures c.if-not-is_form.true) (record { answer = c.refuse-then-not-is_form.ensures; laid = refl })
+    no_form (goal.at.returns-then-not-is_form c).Else-codes-lt24576 _ (long (goal.at.returns-then-not-is_form c).Else-codes-lt24576) (asked_none c.args.form c.is_form.ensures (ap not c.if-not-is_form.true)) (record { answer = c.refuse-then-not-is_form.ensures; laid = refl })
 
 pub write_beside-requires : goal.write_beside-requires
 write_beside-requires c =

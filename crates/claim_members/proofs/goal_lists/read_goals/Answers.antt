@@ -8,7 +8,7 @@ pub store_goals-requires : goal.store_goals-requires
 store_goals-requires c =
     let given = c.requires in
     let count = number_read _ _ c.goal_count.ensures c.value-1.given.1 in
-    (given.0, goals_place _ _ _ given.1 count)
+    record { starts_len = given.starts_len; in_file = goals_place _ _ _ given.in_file count }
 
 pub returns-in-Refused : goal.returns-in-Refused
 returns-in-Refused c = goals_cut _ _ _ _ _ (number_refused _ _ c.goal_count.ensures c.number-1.given.1)
@@ -17,4 +17,4 @@ pub returns-in-Read : goal.returns-in-Read
 returns-in-Read c =
     goals_tell _ _ _ _ _
     (number_read _ _ c.goal_count.ensures c.value-1.given.1)
-    c.requires.1 _ c.store_goals.result c.store_goals.ensures
+    c.requires.in_file _ c.store_goals.result c.store_goals.ensures

@@ -4,4 +4,4 @@ use borrow.Author.Rules.{rules}
 use Rattle.formula.proofs.Rule.field_sum.Goals as goal
 
 pub returns : goal.returns
-returns c = (cc, omega arith)
+returns c = record { value = cc; upper_bound = omega arith }

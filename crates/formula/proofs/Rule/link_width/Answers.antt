@@ -4,4 +4,4 @@ use borrow.Author.Rules.{rules}
 use Rattle.formula.proofs.Rule.link_width.Goals as goal
 
 pub returns : goal.returns
-returns c = (c.field_sum.ensures.0, omega (arith, c.field_sum.ensures.0, link_width_le c.args.rule))
+returns c = (c.field_sum.ensures.value, omega (arith, c.field_sum.ensures.value, link_width_le c.args.rule))

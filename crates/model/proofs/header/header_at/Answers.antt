@@ -11,7 +11,10 @@ use Rattle.model.specs.HeaderSteps.{MaskedTells, header_stops, header_plain, hea
 use Rattle.model.specs.declared.header.Masked.{Masked}
 use Rattle.model.specs.declared.header.Masked.TheVariants.{Read, Refused}
 use borrow.Author.Rules.{rules}
+use Rattle.std.proofs.Common.{ap}
+use Rattle.std.specs.Prelude.{not}
 use Rattle.model.proofs.header.header_at.Goals as goal
+use Rattle.model.proofs.header.header_at.Goals.{In-Read-2}
 
 -- what was told of the map and the mask, in an arm that knows the answer
 module _ (c : tie.After-masked-at) where
@@ -27,7 +30,7 @@ module _ (c : tie.After-masked-at) where
   told : (r : Masked) → c.masked-at.result ≡ r → MaskedTells file here r
   told r e = subst (MaskedTells file here) e c.masked-at.ensures
 
-read : (c : goal.In-Read-2) → Reached (file c.before.before-LEFT-After-masked_at) (here c.before.before-LEFT-After-masked_at + 5) (masked (drop (here c.before.before-LEFT-After-masked_at) (file c.before.before-LEFT-After-masked_at)) (here c.before.before-LEFT-After-masked_at)) (c.map-1.given.0.0, c.map-1.given.0.1.0) c.map-1.given.0.1.1.0
+read : (c : In-Read-2) → Reached (file c.before.before-LEFT-After-masked_at) (here c.before.before-LEFT-After-masked_at + 5) (masked (drop (here c.before.before-LEFT-After-masked_at) (file c.before.before-LEFT-After-masked_at)) (here c.before.before-LEFT-After-masked_at)) (c.map-1.given.0.0, c.map-1.given.0.1.0) c.map-1.given.0.1.1.0
 read c = told c.before.before-LEFT-After-masked_at (Read c.map-1.given.0.0 c.map-1.given.0.1.0 c.map-1.given.0.1.1.0) c.map-1.given.1
 
 pub returns-then-map-lt2 : goal.returns-then-map-lt2
@@ -35,7 +38,7 @@ returns-then-map-lt2 c = header_plain (file (goal.at.returns-then-map-lt2 c).Aft
 
 pub returns-then-not-acts : goal.returns-then-not-acts
 returns-then-not-acts c =
-    rw (not-true (all (goal.at.returns-then-not-acts c).After-masked_at) c.if-not-acts.true) (header_first (file (goal.at.returns-then-not-acts c).After-masked_at) (here (goal.at.returns-then-not-acts c).After-masked_at) (read (goal.at.returns-then-not-acts c).In-Read-2) c.if-map-lt2.false)
+    rw (not-true (all (goal.at.returns-then-not-acts c).After-masked_at) (ap not c.if-not-acts.true)) (header_first (file (goal.at.returns-then-not-acts c).After-masked_at) (here (goal.at.returns-then-not-acts c).After-masked_at) (read (goal.at.returns-then-not-acts c).In-Read-2) c.if-map-lt2.false)
 
 pub actions_after-requires : goal.actions_after-requires
 actions_after-requires c = (c.requires, (_, read (goal.at.actions_after-requires c).In-Read-2, c.if-map-lt2.false))
@@ -45,4 +48,4 @@ returns-in-Refused c =
     header_stops (file (goal.at.returns-in-Refused c).After-masked_at) (here (goal.at.returns-in-Refused c).After-masked_at) (form_by (all (goal.at.returns-in-Refused c).After-masked_at)) (told (goal.at.returns-in-Refused c).After-masked_at (Refused c.number-1.given.0.0 c.number-1.given.0.1.0) c.number-1.given.1)
 
 pub returns-else-not-acts : goal.returns-else-not-acts
-returns-else-not-acts c = rw (not-false (all (goal.at.returns-else-not-acts c).After-masked_at) c.if-not-acts.false) c.actions_after.ensures
+returns-else-not-acts c = rw (not-false (all (goal.at.returns-else-not-acts c).After-masked_at) (ap not c.if-not-acts.false)) c.actions_after.ensures

@@ -8,16 +8,17 @@ use Rattle.model_files.specs.ReadModel.{map_fits_lem}
 use Rattle.model.specs.HeaderSteps.{masked_cut, masked_unfit, masked_plain}
 use borrow.Author.Rules.{rules}
 use Rattle.model.proofs.header.masked_at.Goals as goal
+use Rattle.model.proofs.header.masked_at.Goals.{Else-not-map_fits}
 
 -- past the test of the map
-fits : (c : goal.Else-not-map_fits) → map_fits_lem (get_or c.args.bytes.now c.args.at 0) ≡ true
-fits c = sym c.map_fits.ensures ∙ not-false _ c.if-not-map_fits.false
+fits : (c : Else-not-map_fits) → map_fits_lem (get_or c.args.bytes.now c.args.at 0) ≡ true
+fits c = sym c.map_fits.ensures ∙ c.if-not-map_fits.false
 
 pub returns-then-bytes-at : goal.returns-then-bytes-at
 returns-then-bytes-at c = masked_cut _ _ (omega arith) c.if-bytes-at.true
 
 pub returns-then-not-map_fits : goal.returns-then-not-map_fits
-returns-then-not-map_fits c = masked_unfit _ _ (omega arith) (sym c.map_fits.ensures ∙ not-true _ c.if-not-map_fits.true)
+returns-then-not-map_fits c = masked_unfit _ _ (omega arith) (sym c.map_fits.ensures ∙ c.if-not-map_fits.true)
 
 pub returns-then-map-eq0 : goal.returns-then-map-eq0
 returns-then-map-eq0 c = masked_plain _ _ (omega arith) (fits (goal.at.returns-then-map-eq0 c).Else-not-map_fits) c.if-map-eq0.true

@@ -19,6 +19,7 @@ use Rattle.model.specs.FileSteps.{states_from, count_cut, count_unfit, model_sto
 use Rattle.model.specs.declared.judge.Step.{Step}
 use Rattle.model.specs.declared.judge.Step.TheVariants.{Next, Stop}
 use Rattle.model.proofs.judge.judge_body.Goals as goal
+use Rattle.model.proofs.judge.judge_body.Goals.{Else-not-count_fits, In-Next-2}
 
 module _ (c : tie.Start) where
   abbrev file : List ℕ
@@ -33,8 +34,8 @@ module _ (c : tie.Start) where
   answers : {x : Reading (List State)} → read_form form file ≡ x → verdict_of x ≡ verdict_of (read_form form file)
   answers e = ap verdict_of (sym e)
 
-counts : (c : goal.Else-not-count_fits) → Counts 1 64 (get_or (file c.before.before.before.before.before-LEFT-Start) 4 0)
-counts c = (range_tells 1 64 _).says (sym c.count_fits.ensures ∙ not-false _ c.if-not-count_fits.false)
+counts : (c : Else-not-count_fits) → Counts 1 64 (get_or (file c.before.before.before.before.before-LEFT-Start) 4 0)
+counts c = (range_tells 1 64 _).says (sym c.count_fits.ensures ∙ c.if-not-count_fits.false)
 
 -- the state count is good, and the states are walked
 module _ (c : tie.After-states-step) where
@@ -50,7 +51,7 @@ module _ (c : tie.After-states-step) where
   told : (r : Step) → c.states-step.result ≡ r → Finds (file entry) 67013 (states_from (form entry) (get_or (file entry) 4 0) (file entry)) r
   told r e = subst (Finds (file entry) 67013 (states_from (form entry) (get_or (file entry) 4 0) (file entry))) e c.states-step.ensures
 
-read : (c : goal.In-Next-2) → let e = entry c.before.before-LEFT-After-states_step in Finds (file e) 67013 (states_from (form e) (get_or (file e) 4 0) (file e)) (Next c.at-1.given.0.0)
+read : (c : In-Next-2) → let e = entry c.before.before-LEFT-After-states_step in Finds (file e) 67013 (states_from (form e) (get_or (file e) 4 0) (file e)) (Next c.at-1.given.0.0)
 read c = told c.before.before-LEFT-After-states_step (Next c.at-1.given.0.0) c.at-1.given.1
 
 pub returns-then-bytes-lt5 : goal.returns-then-bytes-lt5
@@ -61,7 +62,7 @@ overflow_cast-states c = omega (arith, c.shared_slice_known-2-1.given 4)
 
 pub returns-then-not-count_fits : goal.returns-then-not-count_fits
 returns-then-not-count_fits c =
-    answers (goal.at.returns-then-not-count_fits c).Start (count_unfit (form (goal.at.returns-then-not-count_fits c).Start) (file (goal.at.returns-then-not-count_fits c).Start) (begun (goal.at.returns-then-not-count_fits c).Start) (omega arith) (sym c.count_fits.ensures ∙ not-true _ c.if-not-count_fits.true))
+    answers (goal.at.returns-then-not-count_fits c).Start (count_unfit (form (goal.at.returns-then-not-count_fits c).Start) (file (goal.at.returns-then-not-count_fits c).Start) (begun (goal.at.returns-then-not-count_fits c).Start) (omega arith) (sym c.count_fits.ensures ∙ c.if-not-count_fits.true))
 
 pub states_step-requires : goal.states_step-requires
 states_step-requires c = omega (arith, counts c)

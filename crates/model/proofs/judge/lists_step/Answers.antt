@@ -12,6 +12,7 @@ use Rattle.model.specs.ActionSteps.{Acting, acting_begins, more_actions, acting_
 use Rattle.model.specs.declared.judge.Step.{Step}
 use Rattle.model.specs.declared.judge.Step.TheVariants.{Next, Stop}
 use Rattle.model.proofs.judge.lists_step.Goals as goal
+use Rattle.model.proofs.judge.lists_step.Goals.{After-list_step}
 
 -- in a turn: the lists read so far, and one action more
 module _ (c : tie.In-loop invariant-loop decreases-loop) where
@@ -31,7 +32,7 @@ module _ (c : tie.In-loop invariant-loop decreases-loop) where
   more = more_actions file entry.args.begin entry.args.states entry.args.actions entry.args.from acting (omega (arith, entry.fits)) c.loop-test.true
 
 -- what was told of the next list, in an arm that knows the answer
-told : (c : goal.After-list_step) (r : Step) → c.list_step.result ≡ r
+told : (c : After-list_step) (r : Step) → c.list_step.result ≡ r
     → Finds (file c.before.before-LEFT-In-loop-rest) (here c.before.before-LEFT-In-loop-rest + 65) (list (entry c.before.before-LEFT-In-loop-rest).args.begin (entry c.before.before-LEFT-In-loop-rest).args.states (drop (here c.before.before-LEFT-In-loop-rest) (file c.before.before-LEFT-In-loop-rest)) (here c.before.before-LEFT-In-loop-rest)) r
 told c r e = let c.before.before-LEFT-In-loop-rest = c.before.before-LEFT-In-loop-rest in subst (Finds (file c.before.before-LEFT-In-loop-rest) (here c.before.before-LEFT-In-loop-rest + 65) (list (entry c.before.before-LEFT-In-loop-rest).args.begin (entry c.before.before-LEFT-In-loop-rest).args.states (drop (here c.before.before-LEFT-In-loop-rest) (file c.before.before-LEFT-In-loop-rest)) (here c.before.before-LEFT-In-loop-rest))) e c.list_step.ensures
 

@@ -11,6 +11,7 @@ use Rattle.model.specs.declared.header.Header.{Header}
 use Rattle.model.specs.declared.header.Header.TheVariants.{Read, Refused}
 use borrow.Author.Rules.{rules}
 use Rattle.model.proofs.judge.state_step.Goals as goal
+use Rattle.model.proofs.judge.state_step.Goals.{In-Read-2}
 
 -- what was told of the header, in an arm that knows the answer
 module _ (c : tie.After-header-at) where
@@ -29,7 +30,7 @@ module _ (c : tie.After-header-at) where
   told : (r : Header) → c.header_at.result ≡ r → HeaderTells (form_by all) file here r
   told r e = subst (HeaderTells (form_by all) file here) e c.header_at.ensures
 
-read : (c : goal.In-Read-2) → HeaderTells (form_by (all c.before.before-LEFT-After-header_at)) (file c.before.before-LEFT-After-header_at) (here c.before.before-LEFT-After-header_at) (Read c.actions-1.given.0.0 c.actions-1.given.0.1.0 c.actions-1.given.0.1.1.0)
+read : (c : In-Read-2) → HeaderTells (form_by (all c.before.before-LEFT-After-header_at)) (file c.before.before-LEFT-After-header_at) (here c.before.before-LEFT-After-header_at) (Read c.actions-1.given.0.0 c.actions-1.given.0.1.0 c.actions-1.given.0.1.1.0)
 read c = told c.before.before-LEFT-After-header_at (Read c.actions-1.given.0.0 c.actions-1.given.0.1.0 c.actions-1.given.0.1.1.0) c.actions-1.given.1
 
 pub lists_step-requires : goal.lists_step-requires

@@ -6,9 +6,10 @@ use Prim.Native.Nat.{◌+◌, ◌-◌, ◌<◌, ◌≤◌}
 use lib.ListN.{get_or}
 use Rattle.model.specs.SuccessorsRise.{Risen, risen_none, risen_more, risen_all}
 use Rattle.model.proofs.judge.successors_fit.Goals as goal
+use Rattle.model.proofs.judge.successors_fit.Goals.{After-shared_slice_known-1}
 
 -- a byte is below 256
-byte : (c : goal.After-shared_slice_known-1) → get_or c.args.bytes.now (c.args.from + c.loop-i.i) 0 < 256
+byte : (c : After-shared_slice_known-1) → get_or c.args.bytes.now (c.args.from + c.loop-i.i) 0 < 256
 byte c = omega (arith, c.shared_slice_known-1.given (c.args.from + c.loop-i.i))
 
 pub returns-then-bytes-from : goal.returns-then-bytes-from

@@ -8,9 +8,10 @@ use lib.ListN.{get_or, set}
 use Rattle.model.specs.Rows.{row_of, row_skips, row_more, RowMore}
 use Rattle.model.specs.Decoding.{successors_at, successors_more}
 use Rattle.model.proofs.tables.put_marks.Goals as goal
+use Rattle.model.proofs.tables.put_marks.Goals.{After-shared_slice_known-1}
 
 -- a listed successor has a mark
-below : (c : goal.After-shared_slice_known-1) → get_or c.args.bytes.now (c.args.list + c.loop-i.i) 0 < 64
+below : (c : After-shared_slice_known-1) → get_or c.args.bytes.now (c.args.list + c.loop-i.i) 0 < 64
 below c = c.requires.0.below c.loop-i.i c.loop-i-test.true
 
 pub loop-i-init : goal.loop-i-init

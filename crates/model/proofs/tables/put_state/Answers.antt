@@ -11,6 +11,7 @@ use Rattle.model.specs.ActionSteps.{Acting, acting_begins, more_actions, acting_
 use Rattle.model.specs.Rows.{row_of, row_skips}
 use Rattle.model.specs.Decoding.{StateThere, ListAt, header_there, next_list, state_put}
 use Rattle.model.proofs.tables.put_state.Goals as goal
+use Rattle.model.proofs.tables.put_state.Goals.{In-loop-rest, Then-rest-eq1}
 
 -- at the loop: the header is read, and so are the lists of some actions
 module _ (c : tie.At-loop invariant-loop decreases-loop) where
@@ -42,10 +43,10 @@ module _ (c : tie.At-loop invariant-loop decreases-loop) where
   small = omega (arith, c.before.known-header.type-inv)
 
 -- in a turn: one action more, and its list is there if its bit stands
-more : (c : goal.In-loop-rest) → c.loop-rest.action < ACTIONS
+more : (c : In-loop-rest) → c.loop-rest.action < ACTIONS
 more c = more_actions (file c.before-LEFT-At-loop-rest) (here c.before-LEFT-At-loop-rest) (get_or (file c.before-LEFT-At-loop-rest) 4 0) (actions c.before-LEFT-At-loop-rest) (first c.before-LEFT-At-loop-rest) (acting c.before-LEFT-At-loop-rest) (small c.before-LEFT-At-loop-rest) c.loop-rest-test.true
 
-listed : (c : goal.Then-rest-eq1) → ListAt (file c.before.before-LEFT-At-loop-rest) (here c.before.before-LEFT-At-loop-rest) (get_or (file c.before.before-LEFT-At-loop-rest) 4 0) c.loop-rest.next
+listed : (c : Then-rest-eq1) → ListAt (file c.before.before-LEFT-At-loop-rest) (here c.before.before-LEFT-At-loop-rest) (get_or (file c.before.before-LEFT-At-loop-rest) 4 0) c.loop-rest.next
 listed c = let c.before.before-LEFT-At-loop-rest = c.before.before-LEFT-At-loop-rest in next_list (form c.before.before-LEFT-At-loop-rest) (file c.before.before-LEFT-At-loop-rest) (here c.before.before-LEFT-At-loop-rest) (is-there c.before.before-LEFT-At-loop-rest) c.known_header-header.ensures (acting c.before.before-LEFT-At-loop-rest) (more c.before-LEFT-In-loop-rest) c.if-rest-eq1.true
 
 pub known_header-header-requires : goal.known_header-header-requires

@@ -17,14 +17,11 @@ fill_owners-requires c =
 pub judge_tree-requires : goal.judge_tree-requires
 judge_tree-requires c =
     let (L, M, F, N) = c.requires in
-    let filled = rw c.enum_told-1.given.1 at c.fill_owners.ensures in (
-      (filled_judged filled L N, M),
-      (
+    let filled = rw c.enum_told-1.given.1 at c.fill_owners.ensures in record { judged = (filled_judged filled L N, M); upward = (
         record { few = L.columns.few; room = search rules; parented = filled_parented _ _ _ _ _ filled },
         filled.owned refl,
         F.once,
-      ),
-    )
+      ) }
 
 pub returns-in-Accepted : goal.returns-in-Accepted
 returns-in-Accepted c f =

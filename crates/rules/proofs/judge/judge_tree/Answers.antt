@@ -38,14 +38,11 @@ module _ (c : tie.After-judge-goals) where
 
 pub judge_goals-requires : goal.judge_goals-requires
 judge_goals-requires c =
-    let (J, G) = c.requires.0 in (
-      (J.numbers.narrow, record { held = G.placed.held; inside = λ i h e m. omega (arith, G.placed.inside i h e m, J.entries) }, G.roots),
-      λ v h. placed J v h,
-    )
+    let (J, G) = c.requires.judged in record { narrow = (J.numbers.narrow, record { held = G.placed.held; inside = λ i h e m. omega (arith, G.placed.inside i h e m, J.entries) }, G.roots); by_index = λ v h. placed J v h }
 
 pub judge_rules-requires : goal.judge_rules-requires
 judge_rules-requires c =
-    ((c.requires.0.0, c.requires.1.0), (c.requires.1.1, c.requires.1.2))
+    record { judged = (c.requires.judged.0, c.requires.upward.0); owned_by = (c.requires.upward.1, c.requires.upward.2) }
 
 pub returns-in-Accepted : goal.returns-in-Accepted
 returns-in-Accepted c f =

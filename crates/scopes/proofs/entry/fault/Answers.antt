@@ -8,11 +8,12 @@ use Rattle.formula.specs.Fields.{is_fixpoint_lem}
 use Rattle.name_sets.specs.NameSets.{Shared}
 use Rattle.scopes.specs.Faults.{opposite_of, earns_21, earns_none, earns_22, earns_23, earns_nothing}
 use Rattle.scopes.proofs.entry.fault.Goals as goal
+use Rattle.scopes.proofs.entry.fault.Goals.{After-meet-2, Else-not-is_fixpoint}
 
-at_fixpoint : (c : goal.Else-not-is_fixpoint) → is_fixpoint_lem c.args.kind ≡ true
-at_fixpoint c = sym c.is_fixpoint.ensures ∙ not-false _ c.if-not-is_fixpoint.false
+at_fixpoint : (c : Else-not-is_fixpoint) → is_fixpoint_lem c.args.kind ≡ true
+at_fixpoint c = sym c.is_fixpoint.ensures ∙ c.if-not-is_fixpoint.false
 
-opposites : (c : goal.After-meet-2) →
+opposites : (c : After-meet-2) →
     let given = c.args in
     Tells c.meet-2.result (Shared given.free (opposite_of given.kind given.mus given.nus))
 opposites c = rw c.opposite.ensures at c.meet-2.ensures
@@ -22,7 +23,7 @@ returns-then-meet c = λ t a b s. earns_21 s c.meet.ensures c.if-meet.true
 
 pub returns-then-not-is_fixpoint : goal.returns-then-not-is_fixpoint
 returns-then-not-is_fixpoint c =
-    λ t a b s. earns_none s c.meet.ensures c.if-meet.false (sym c.is_fixpoint.ensures ∙ not-true _ c.if-not-is_fixpoint.true)
+    λ t a b s. earns_none s c.meet.ensures c.if-meet.false (sym c.is_fixpoint.ensures ∙ c.if-not-is_fixpoint.true)
 
 pub returns-then-meet-2 : goal.returns-then-meet-2
 returns-then-meet-2 c =
