@@ -16,25 +16,25 @@ returns-then-not-kind_fits c =
 
 pub field_at-requires-in-Read : goal.field_at-requires-in-Read
 field_at-requires-in-Read c =
-    let h = number_read _ _ c.field_at.ensures c.a-1.given.1 in
+    let h = c.in-Read.ensures in
     record { within = h.inside; low = omega (arith, h.near, c.requires) }
 
 pub returns-in-Refused : goal.returns-in-Refused
 returns-in-Refused c =
     entry_a_cut _ _ c.requires c.if-bytes-start-lt2.false c.kind_fits.ensures (ap not c.if-not-kind_fits.false) c.a_stands.ensures
-    (number_refused _ _ c.field_at.ensures c.number-1.given.1)
+    c.in-Refused.ensures
 
 pub returns-in-Refused-field_at : goal.returns-in-Refused-field_at
 returns-in-Refused-field_at c =
     entry_b_cut _ _ c.requires c.if-bytes-start-lt2.false c.kind_fits.ensures (ap not c.if-not-kind_fits.false) c.a_stands.ensures
-    (number_read _ _ c.field_at.ensures c.a-1.given.1)
+    c.in-Read.ensures
     c.b_stands-second.ensures
-    (number_refused _ _ c.field_at-in-Read.ensures c.number-in-Refused-field_at-2-1.given.1)
+    c.in-Refused-field_at.ensures
 
 pub returns-in-Read-field_at : goal.returns-in-Read-field_at
 returns-in-Read-field_at c =
     entry_whole _ _ c.requires c.if-bytes-start-lt2.false c.kind_fits.ensures (ap not c.if-not-kind_fits.false) c.a_stands.ensures
-    (number_read _ _ c.field_at.ensures c.a-1.given.1)
+    c.in-Read.ensures
     c.b_stands-second.ensures
-    (number_read _ _ c.field_at-in-Read.ensures c.value-1.given.1)
+    c.in-Read-field_at.ensures
     c.held_b-b.ensures

@@ -6,14 +6,14 @@ use Rattle.claim_entries.proofs.read_entries.Goals as goal
 
 pub store_entries-requires : goal.store_entries-requires
 store_entries-requires c =
-    let h = number_read _ _ c.count_at.ensures c.value-1.given.1 in
+    let h = c.in-Read.ensures in
     record { entry_arrays = c.requires.entry_arrays; in_file = entries_place _ _ h }
 
 pub returns-in-Refused : goal.returns-in-Refused
-returns-in-Refused c = entries_cut _ _ _ (number_refused _ _ c.count_at.ensures c.number-1.given.1)
+returns-in-Refused c = entries_cut _ _ _ c.in-Refused.ensures
 
 pub returns-in-Read : goal.returns-in-Read
 returns-in-Read c =
     entries_tell _ _
-    (number_read _ _ c.count_at.ensures c.value-1.given.1) _
+    c.in-Read.ensures _
     c.store_entries.result c.store_entries.ensures

@@ -14,14 +14,14 @@ entry_at-requires c = record { within = c.loop-i.invariant.1.within; low = omega
 pub returns-in-Refused : goal.returns-in-Refused
 returns-in-Refused c =
     entering_stops _ _ _ _ _ _ c.loop-i.invariant.1 c.loop-i-test.true
-    (entry_refused _ _ c.entry_at.ensures c.number-1.given.1)
+    c.in-Refused.ensures
 
 pub loop-i-preserved : goal.loop-i-preserved
 loop-i-preserved c = (
   omega arith,
   one_entered _ _ _ _ _ _ c.loop-i.invariant.1 c.loop-i-test.true
       c.requires.in_file.1 c.requires.entry_arrays
-      (entry_read _ _ c.entry_at.ensures c.kind-1.given.1),
+      c.in-Read.ensures,
 )
 
 pub returns : goal.returns

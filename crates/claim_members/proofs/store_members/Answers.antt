@@ -14,13 +14,13 @@ member_at-requires c = (record { within = c.loop-i.invariant.1.within; low = ome
 pub returns-in-Refused : goal.returns-in-Refused
 returns-in-Refused c =
     listing_stops _ _ _ _ _ _ _ c.loop-i.invariant.1 c.loop-i-test.true
-    (number_refused _ _ c.member_at.ensures c.number-1.given.1)
+    c.in-Refused.ensures
 
 pub loop-i-preserved : goal.loop-i-preserved
 loop-i-preserved c = (
   omega arith,
   one_listed _ _ _ _ _ _ _ c.loop-i.invariant.1 c.loop-i-test.true
-      (number_read _ _ c.member_at.ensures c.value-1.given.1),
+      c.in-Read.ensures,
 )
 
 pub returns : goal.returns

@@ -16,23 +16,23 @@ count_at-count-requires c = record { within = claim_long _ (claim_opened _ c.ope
 pub returns-then-value-eq0 : goal.returns-then-value-eq0
 returns-then-value-eq0 c =
     begun_empty _ c.opening_form-form.ensures c.if-form-eq0.false c.fewest.ensures
-    (number_read _ _ c.count_at-count.ensures c.count-in-Read-1.given.1) c.if-value-eq0.true
+    c.in-Read.ensures c.if-value-eq0.true
 
 pub entry_at-requires : goal.entry_at-requires
-entry_at-requires c = first_place _ _ (number_read _ _ c.count_at-count.ensures c.count-in-Read-1.given.1)
+entry_at-requires c = first_place _ _ c.in-Read.ensures
 
 pub returns-in-Refused : goal.returns-in-Refused
 returns-in-Refused c =
-    begun_uncounted _ c.opening_form-form.ensures c.if-form-eq0.false c.fewest.ensures (number_refused _ _ c.count_at-count.ensures c.count-1.given.1)
+    begun_uncounted _ c.opening_form-form.ensures c.if-form-eq0.false c.fewest.ensures c.in-Refused.ensures
 
 pub returns-in-Refused-entry_at : goal.returns-in-Refused-entry_at
 returns-in-Refused-entry_at c =
     begun_cut _ c.opening_form-form.ensures c.if-form-eq0.false c.fewest.ensures
-    (number_read _ _ c.count_at-count.ensures c.count-in-Read-1.given.1) c.if-value-eq0.false
-    (entry_refused _ _ c.entry_at.ensures c.number-1.given.1)
+    c.in-Read.ensures c.if-value-eq0.false
+    c.in-Refused-entry_at.ensures
 
 pub returns-in-Read-entry_at : goal.returns-in-Read-entry_at
 returns-in-Read-entry_at c =
     begun_passed _ c.opening_form-form.ensures c.if-form-eq0.false c.fewest.ensures
-    (number_read _ _ c.count_at-count.ensures c.count-in-Read-1.given.1) c.if-value-eq0.false
-    (entry_read _ _ c.entry_at.ensures c.enum_told-1.given.1).reached.found
+    c.in-Read.ensures c.if-value-eq0.false
+    c.in-Read-entry_at.ensures.reached.found

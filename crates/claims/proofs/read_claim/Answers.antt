@@ -18,38 +18,38 @@ read_entries-requires c = record { entry_arrays = c.requires.entries; in_bounds 
 
 pub read_goals-requires : goal.read_goals-requires
 read_goals-requires c =
-    let x = part_read _ _ _ _ c.read_entries.ensures c.entries-1.given.1 in
+    let x = c.in-Read.ensures in
     let p = c.requires in
     record { starts_len = (p.starts, p.members, x.few); in_file = record { within = x.reached.inside; low = x.reached.near } }
 
 pub overflow_cast-end : goal.overflow_cast-end
 overflow_cast-end c =
-    let y = part_read _ _ _ _ c.read_goals.ensures c.goals-1.given.1 in
+    let y = c.in-Read-read_goals.ensures in
     omega (arith, y.reached.near)
 
 pub returns-then-end-bytes : goal.returns-then-end-bytes
 returns-then-end-bytes c =
     claim_refused _ _ _ _ _ c.refuse-then-end-bytes.ensures
     (claim_follows _ (opened (goal.at.returns-then-end-bytes c).Else-form-eq0) c.fewest.ensures
-    (part_read _ _ _ _ c.read_entries.ensures c.entries-1.given.1)
-    (part_read _ _ _ _ c.read_goals.ensures c.goals-1.given.1)
+    c.in-Read.ensures
+    c.in-Read-read_goals.ensures
     c.if-end-bytes.true)
 
 pub returns-in-Refused : goal.returns-in-Refused
 returns-in-Refused c =
     claim_refused _ _ _ _ _ c.refuse-in-Refused.ensures
-    (claim_no_entries _ (opened (goal.at.returns-in-Refused c).After-fewest) c.fewest.ensures (part_refused _ _ _ _ c.read_entries.ensures c.number-1.given.1))
+    (claim_no_entries _ (opened (goal.at.returns-in-Refused c).After-fewest) c.fewest.ensures c.in-Refused.ensures)
 
 pub returns-in-Refused-read_goals : goal.returns-in-Refused-read_goals
 returns-in-Refused-read_goals c =
     claim_refused _ _ _ _ _ c.refuse-in-Refused-read_goals.ensures
     (claim_no_goals _ (opened (goal.at.returns-in-Refused-read_goals c).Else-form-eq0) c.fewest.ensures
-    (part_read _ _ _ _ c.read_entries.ensures c.entries-1.given.1)
-    (part_refused _ _ _ _ c.read_goals.ensures c.number-in-Refused-read_goals-1.given.1))
+    c.in-Read.ensures
+    c.in-Refused-read_goals.ensures)
 
 pub returns-else-end-bytes : goal.returns-else-end-bytes
 returns-else-end-bytes c =
     claim_got _ (opened (goal.at.returns-else-end-bytes c).Else-form-eq0) c.fewest.ensures
-    (part_read _ _ _ _ c.read_entries.ensures c.entries-1.given.1)
-    (part_read _ _ _ _ c.read_goals.ensures c.goals-1.given.1)
+    c.in-Read.ensures
+    c.in-Read-read_goals.ensures
     c.if-end-bytes.false

@@ -8,13 +8,13 @@ use Rattle.claim_members.proofs.goal_lists.store_goals.Goals as goal
 use Rattle.claim_members.proofs.goal_lists.store_goals.Goals.{In-Read}
 
 -- sixteen goals have no more than 384 members
-few : (c : In-Read) → c.loop-i.start + c.listed-1.given.0.0 ≤ 384
+few : (c : In-Read) → c.loop-i.start + c.in-Read.listed ≤ 384
 few c =
     omega (
       arith,
       c.loop-i.invariant.1.few,
       c.requires.in_file.1,
-      (part_read _ _ _ _ c.read_members.ensures c.listed-1.given.1).few,
+      c.in-Read.ensures.few,
     )
 
 pub loop-i-init : goal.loop-i-init
@@ -29,7 +29,7 @@ read_members-requires c =
 pub returns-in-Refused : goal.returns-in-Refused
 returns-in-Refused c =
     gathering_stops _ _ _ _ _ c.loop-i.invariant.1 c.loop-i-test.true
-    (part_refused _ _ _ _ c.read_members.ensures c.number-1.given.1)
+    c.in-Refused.ensures
 
 pub overflow_add-start : goal.overflow_add-start
 overflow_add-start c = omega (arith, few c)
@@ -43,7 +43,7 @@ loop-i-preserved c = (
   one_gathered _ _ _ _ _ c.loop-i.invariant.1 c.loop-i-test.true
       c.requires.in_file.1 (simp length-set c.requires.starts_len.0)
       c.requires.starts_len.1
-      (part_read _ _ _ _ c.read_members.ensures c.listed-1.given.1),
+      c.in-Read.ensures,
 )
 
 pub returns : goal.returns
