@@ -1,7 +1,6 @@
 -- each return is the law of HeaderSteps for the tests that led to it
 use mathlib.Core.Path.{sym, ◌∙◌}
 use Rattle.model.specs.HeaderSteps.{header_short, header_zero, header_whole}
-use borrow.Author.Rules.{rules}
 use Rattle.model.proofs.header.actions_after.Goals as goal
 
 pub returns-then-bytes-next : goal.returns-then-bytes-next

@@ -1,7 +1,6 @@
 -- each return is the law of HeaderSteps for the tests that led to it
 use mathlib.Core.Path.{sym, ◌∙◌}
 use Rattle.model.specs.HeaderSteps.{masked_short, masked_zero, masked_whole}
-use borrow.Author.Rules.{rules}
 use Rattle.model.proofs.header.mask_after.Goals as goal
 
 pub returns-then-bytes-at : goal.returns-then-bytes-at

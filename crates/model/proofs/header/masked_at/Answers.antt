@@ -3,10 +3,8 @@ use mathlib.Core.Path.{◌≡◌, sym, ◌∙◌}
 use mathlib.Core.Bool.{true}
 use native.Mathlib.Omega.{arith}
 use lib.ListN.{get_or}
-use borrow.Author.Tests.{not-true, not-false}
 use Rattle.model_files.specs.ReadModel.{map_fits_lem}
 use Rattle.model.specs.HeaderSteps.{masked_cut, masked_unfit, masked_plain}
-use borrow.Author.Rules.{rules}
 use Rattle.model.proofs.header.masked_at.Goals as goal
 use Rattle.model.proofs.header.masked_at.Goals.{Else-not-map_fits}
 

@@ -1,9 +1,6 @@
 -- the form is known by its opening; where neither stands in front, that is the refusal
-use borrow.Author.Rules.{rules}
 use mathlib.Core.Path.{sym, ap, ◌∙◌}
-use borrow.Author.Tests.{not-true, not-false}
 use Rattle.encoding.specs.Outcome.{verdict_of}
-use Rattle.encoding.specs.Opening.{opens}
 use Rattle.model.specs.FileSteps.{read_by, model_closed}
 use Rattle.model.proofs.judge.judge_model.Goals as goal
 

@@ -2,7 +2,6 @@
 use native.Mathlib.Omega.{arith}
 use Rattle.model.specs.ListSteps.{list_cut, list_zero, finds_list}
 use Rattle.model.specs.declared.judge.Step.TheVariants.{Next}
-use borrow.Author.Rules.{rules}
 use Rattle.model.proofs.judge.list_step.Goals as goal
 
 pub returns-then-bytes-from : goal.returns-then-bytes-from

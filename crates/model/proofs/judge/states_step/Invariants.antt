@@ -1,18 +1,11 @@
 -- the loop walks the states one by one, each at most 1,047 bytes long
-use borrow.Author.Rules.{rules}
-use native.Mathlib.Omega.{arith}
-use mathlib.Core.Path.{◌≡◌, subst}
-use mathlib.Core.Bool.{Bool}
-use mathlib.Core.List.{List, []}
-use Prim.Native.Nat.{ℕ, ◌+◌, ◌*◌, ◌-◌, ◌≤◌}
+use mathlib.Core.List.{List}
+use Prim.Native.Nat.{◌+◌, ◌*◌, ◌-◌, ◌≤◌}
 use lib.ListN.{length, drop}
-use Rattle.encoding.specs.Walk.{Walking, walk_begins, walk_steps, walk_stops, walk_ends}
+use Rattle.encoding.specs.Walk.{Walking}
 use Rattle.model_files.specs.ModelFile.{State}
 use Rattle.model_files.specs.ReadModel.{state, form_by}
-use Rattle.model.specs.ListSteps.{Finds}
 use Rattle.model.specs.FileSteps.{states_from}
-use Rattle.model.specs.declared.judge.Step.{Step}
-use Rattle.model.specs.declared.judge.Step.TheVariants.{Next, Stop}
 use Rattle.model.proofs.judge.states_step.Given as goal
 
 abbrev pub invariant-loop-i : goal.invariant-loop-i
@@ -20,7 +13,7 @@ invariant-loop-i l =
     (l.i ≤ l.states)
     × (l.at ≤ length l.bytes)
     × (l.at ≤ 5 + 1047 * l.i)
-    × ((l : List State) × Walking (λ _. state (form_by l.acts) l.states) (λ _ _. 0) (states_from (form_by l.acts) l.states l.bytes) l.states l.i l 0 (drop l.at l.bytes) l.at)
+    × ((xs : List State) × Walking (λ _. state (form_by l.acts) l.states) (λ _ _. 0) (states_from (form_by l.acts) l.states l.bytes) l.states l.i xs 0 (drop l.at l.bytes) l.at)
 
 abbrev pub decreases-loop-i : goal.decreases-loop-i
 decreases-loop-i l = l.states - l.i

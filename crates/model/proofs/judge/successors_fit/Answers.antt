@@ -1,10 +1,9 @@
-use borrow.Author.Rules.{rules}
 use borrow.Author.Tests.{leb-true}
 use native.Mathlib.Omega.{arith}
 use mathlib.Core.Bool.{false≢true}
-use Prim.Native.Nat.{◌+◌, ◌-◌, ◌<◌, ◌≤◌}
+use Prim.Native.Nat.{◌+◌, ◌<◌}
 use lib.ListN.{get_or}
-use Rattle.model.specs.SuccessorsRise.{Risen, risen_none, risen_more, risen_all}
+use Rattle.model.specs.SuccessorsRise.{risen_none, risen_more, risen_all}
 use Rattle.model.proofs.judge.successors_fit.Goals as goal
 use Rattle.model.proofs.judge.successors_fit.Goals.{After-shared_slice_known-1}
 

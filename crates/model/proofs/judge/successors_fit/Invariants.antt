@@ -1,11 +1,6 @@
 -- so far the successors rise; the last of them is the largest
-use borrow.Author.Rules.{rules}
-use borrow.Author.Tests.{leb-true}
-use native.Mathlib.Omega.{arith}
-use mathlib.Core.Bool.{false≢true}
-use Prim.Native.Nat.{◌+◌, ◌-◌, ◌<◌, ◌≤◌}
-use lib.ListN.{get_or}
-use Rattle.model.specs.SuccessorsRise.{Risen, risen_none, risen_more, risen_all}
+use Prim.Native.Nat.{◌-◌, ◌≤◌}
+use Rattle.model.specs.SuccessorsRise.{Risen}
 use Rattle.model.proofs.judge.successors_fit.Given as goal
 
 abbrev pub invariant-loop-i : goal.invariant-loop-i

@@ -1,14 +1,11 @@
 -- the loop walks the successors one by one: what is read, and the least successor that may follow; that least one grows with each turn, so few are read
-use borrow.Author.Rules.{rules}
-use native.Mathlib.Omega.{arith}
 use mathlib.Core.Path.{◌≡◌}
-use mathlib.Core.List.{List, []}
-use Prim.Native.Nat.{ℕ, suc, ◌+◌, ◌-◌, ◌≤◌}
-use lib.ListN.{length, get_or, drop}
-use Rattle.encoding.specs.Parse.{fault, times}
-use Rattle.encoding.specs.Walk.{Walking, walk_begins, walk_steps, walk_stops, walk_ends}
+use mathlib.Core.List.{List}
+use Prim.Native.Nat.{ℕ, ◌+◌, ◌-◌, ◌≤◌}
+use lib.ListN.{length, drop}
+use Rattle.encoding.specs.Walk.{Walking}
 use Rattle.model_files.specs.ReadModel.{successors}
-use Rattle.model.specs.ListSteps.{one_successor, after_successor, successor_cut, successor_low, successor_far, successor_fits}
+use Rattle.model.specs.ListSteps.{one_successor, after_successor}
 use Rattle.model.proofs.judge.successors_step.Given as goal
 
 abbrev pub invariant-loop-i : goal.invariant-loop-i
@@ -18,7 +15,7 @@ invariant-loop-i l =
     × (l.at ≡ l.from + l.i)
     × (l.i ≤ l.least)
     × (l.least ≤ 64)
-    × ((l : List ℕ) × Walking (one_successor l.states) after_successor (successors l.states l.count (drop l.from l.bytes) l.from) l.count l.i l l.least (drop l.at l.bytes) l.at)
+    × ((xs : List ℕ) × Walking (one_successor l.states) after_successor (successors l.states l.count (drop l.from l.bytes) l.from) l.count l.i xs l.least (drop l.at l.bytes) l.at)
 
 abbrev pub decreases-loop-i : goal.decreases-loop-i
 decreases-loop-i l = l.count - l.i

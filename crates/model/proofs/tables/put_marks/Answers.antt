@@ -1,42 +1,20 @@
-use borrow.Author.Rules.{rules}
 use mathlib.Core.Path.{◌≡◌, sym, ap, ◌∙◌}
 use mathlib.Core.List.{List, ◌∷◌, [], ◌++◌}
-use Prim.Native.Nat.{ℕ, ◌+◌, ◌*◌, ◌-◌, ◌%◌, ◌^◌, ◌<◌, ◌≤◌}
+use Prim.Native.Nat.{ℕ, ◌+◌, ◌*◌, ◌%◌, ◌^◌, ◌<◌}
 use native.Mathlib.Omega.{arith}
 use lib.Bits.{bit_or}
 use lib.ListN.{get_or, set}
-use Rattle.model.specs.Rows.{row_of, row_skips, row_more, RowMore}
+use Rattle.model.specs.Rows.{row_of, row_skips, row_more}
 use Rattle.model.specs.Decoding.{successors_at, successors_more}
 use Rattle.model.proofs.tables.put_marks.Goals as goal
-use Rattle.model.proofs.tables.put_marks.Goals.{After-shared_slice_known-1}
+use Rattle.model.proofs.tables.put_marks.Goals.{In-loop-i}
 
 -- a listed successor has a mark
-below : (c : After-shared_slice_known-1) → get_or c.args.bytes.now (c.args.list + c.loop-i.i) 0 < 64
+below : (c : In-loop-i) → get_or c.args.bytes.now (c.args.list + c.loop-i.i) 0 < 64
 below c = c.requires.0.below c.loop-i.i c.loop-i-test.true
 
 pub loop-i-init : goal.loop-i-init
 loop-i-init c = (omega arith, λ ls h e. e ∙ sym (row_skips ls))
-
-pub overflow_add-successor : goal.overflow_add-successor
-overflow_add-successor c = omega (arith, c.requires.0.room)
-
-pub bounds-bytes-list : goal.bounds-bytes-list
-bounds-bytes-list c = omega (arith, c.requires.0.room)
-
-pub overflow_cast-successor : goal.overflow_cast-successor
-overflow_cast-successor c = omega (arith, below c)
-
-pub offset_bounds-marks-successor : goal.offset_bounds-marks-successor
-offset_bounds-marks-successor c = omega (arith, below c)
-
-pub bounds-marks-successor : goal.bounds-marks-successor
-bounds-marks-successor c = omega (arith, below c)
-
-pub offset_bounds-marks-successor-in-loop-i : goal.offset_bounds-marks-successor-in-loop-i
-offset_bounds-marks-successor-in-loop-i c = omega (arith, below (goal.at.offset_bounds-marks-successor-in-loop-i c).After-way_told-1)
-
-pub bounds-marks-successor-in-loop-i : goal.bounds-marks-successor-in-loop-i
-bounds-marks-successor-in-loop-i c = omega (arith, below (goal.at.bounds-marks-successor-in-loop-i c).After-way_told-1)
 
 pub loop-i-preserved : goal.loop-i-preserved
 loop-i-preserved c =
@@ -46,7 +24,7 @@ loop-i-preserved c =
       omega arith,
       λ ls h e.
           ap (λ (l : List ℕ). set l u (bit_or (get_or l u 0) (1 * 2 ^ a.action % 2 ^ 16))) (c.loop-i.invariant.1 ls h e)
-          ∙ row_more ls a.action h c.requires.1 (successors_at s a.list c.loop-i.i) u (below (goal.at.loop-i-preserved c).After-way_told-1)
+          ∙ row_more ls a.action h c.requires.1 (successors_at s a.list c.loop-i.i) u (below (goal.at.loop-i-preserved c).In-loop-i)
           ∙ ap (λ (l : List ℕ). row_of (ls ++ (l ∷ []))) (successors_more s a.list c.loop-i.i (omega (arith, c.requires.0.room))),
     )
 

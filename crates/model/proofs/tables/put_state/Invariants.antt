@@ -1,16 +1,10 @@
 -- the loop walks the lists of a state that is there, where every step finds a list, and marks what it finds
-use mathlib.Core.Path.{◌≡◌, sym, ◌∙◌}
-use mathlib.Core.Logic.{⊎_elim}
-use mathlib.Core.List.{List, []}
-use Prim.Native.Nat.{ℕ, ◌^◌, ◌<◌}
-use native.Mathlib.Omega.{arith}
+use mathlib.Core.Path.{◌≡◌}
+use mathlib.Core.List.{List}
+use Prim.Native.Nat.{ℕ}
 use lib.ListN.{get_or}
-use Rattle.model_files.specs.Actions.{ACTIONS}
-use Rattle.model_files.specs.ModelFile.{Form}
-use Rattle.model_files.specs.ReadModel.{form_by}
-use Rattle.model.specs.ActionSteps.{Acting, acting_begins, more_actions, acting_more, acting_skips}
-use Rattle.model.specs.Rows.{row_of, row_skips}
-use Rattle.model.specs.Decoding.{StateThere, ListAt, header_there, next_list, state_put}
+use Rattle.model.specs.ActionSteps.{Acting}
+use Rattle.model.specs.Rows.{row_of}
 use Rattle.model.proofs.tables.put_state.Given as goal
 
 abbrev pub invariant-loop-rest : goal.invariant-loop-rest
