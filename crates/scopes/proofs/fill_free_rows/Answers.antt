@@ -31,10 +31,10 @@ pub row-requires : goal.row-requires
 row-requires c = room (goal.at.row-requires c).In-loop-e _ c.places_of-at.ensures.left_within
 
 pub row-requires-in-loop-e : goal.row-requires-in-loop-e
-row-requires-in-loop-e c = room (goal.at.row-requires-in-loop-e c).At-loop-e _ c.places_of-at.ensures.right_within
+row-requires-in-loop-e c = room (goal.at.row-requires-in-loop-e c).In-loop-e _ c.places_of-at.ensures.right_within
 
 pub put_row-requires : goal.put_row-requires
-put_row-requires c = room (goal.at.put_row-requires c).At-loop-e _ (omega arith)
+put_row-requires c = room (goal.at.put_row-requires c).In-loop-e _ (omega arith)
 
 pub overflow_add-e : goal.overflow_add-e
 overflow_add-e c = omega (arith, c.loop-e-test.true, c.loop-e.invariant.small)

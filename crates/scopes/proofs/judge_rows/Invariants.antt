@@ -12,7 +12,7 @@ use Rattle.scopes.specs.JudgeSteps.{Reached, starts, seen, refuses, goes_on, end
 use Rattle.scopes.proofs.judge_rows.Given as goal
 
 abbrev pub invariant-loop-e : goal.invariant-loop-e
-invariant-loop-e l = (length l.free_rows ≡ length free-rows₀) × (length open-rows ≡ length open-rows₀) × Reached l.kinds l.a l.b l.count l.free_rows open-rows l.passed l.e
+invariant-loop-e l = (length l.free_rows ≡ length l.initial.free_rows) × (length l.open_rows ≡ length l.initial.open_rows) × Reached l.kinds l.a l.b l.count l.free_rows l.open_rows l.passed l.e
 
 abbrev pub decreases-loop-e : goal.decreases-loop-e
 decreases-loop-e l = l.count - l.e

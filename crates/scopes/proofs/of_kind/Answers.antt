@@ -9,6 +9,7 @@ use borrow.Author.Rules.{rules}
 use borrow.Author.Tests.{eq-eqb, ne_eqb}
 use Rattle.name_sets.specs.MarksBelow.{MarksBelow, below_none, below_skip, below_with}
 use Rattle.scopes.proofs.of_kind.Goals as goal
+use Rattle.scopes.proofs.of_kind.Goals.{then-kinds-e, else-kinds-e}
 
 pub loop-e-init : goal.loop-e-init
 loop-e-init c = (omega arith, below_none _ _ c.none-found.ensures)
@@ -18,10 +19,10 @@ loop-e-preserved c =
     let given = c.args in
     let P : ℕ → Bool = λ n. eqb (get_or given.kinds.now n 0) given.kind in (
       omega arith,
-      ⊎_elim
-          (λ w. rw w.2 (below_with c.loop-e.found P c.loop-e.e c.loop-e.invariant.1 (eq-eqb _ _ w.0.taken) _ w.1.ensures))
-          (λ w. rw w.1 (below_skip c.loop-e.found P c.loop-e.e c.loop-e.invariant.1 (ne_eqb _ _ w.0.left)))
-          c.if-kinds-e.branch,
+      elim c.if-kinds-e.branch [
+        then-kinds-e w ↦ rw w.found-is (below_with c.loop-e.found P c.loop-e.e c.loop-e.invariant.1 (eq-eqb _ _ w.if-kinds-e.true) _ w.with-found.ensures)
+      | else-kinds-e w ↦ rw w.found-is (below_skip c.loop-e.found P c.loop-e.e c.loop-e.invariant.1 (ne_eqb _ _ w.if-kinds-e.false))
+      ],
     )
 
 pub returns : goal.returns

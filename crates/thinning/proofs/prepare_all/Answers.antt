@@ -5,9 +5,6 @@ use lib.ListN.{length}
 use Rattle.thinning.specs.Columns.{Prepared}
 use Rattle.thinning.proofs.prepare_all.Goals as goal
 
-abbrev turn : tie.After-slice-known4 invariant-loop decreases-loop → tie.In-loop invariant-loop decreases-loop
-turn c = c.before.before.before.before.before
-
 pub loop-e-init : goal.loop-e-init
 loop-e-init c = (omega arith, refl, refl, c.requires.prepared)
 
@@ -16,18 +13,12 @@ prepare-requires c =
     let given = c.requires.count_bound in
     record { count_bound = (given.0, c.loop-e-test.true, given.1); prepared = c.loop-e.invariant.3 }
 
-pub overflow_add-e : goal.overflow_add-e
-overflow_add-e c = record { fits = omega (arith, (turn c).loop-test.true, (start (turn c)).pre.0.0) }
-
-pub loop-e-smaller : goal.loop-e-smaller
-loop-e-smaller c = omega (arith, (turn c).loop-test.true)
-
 pub loop-e-preserved : goal.loop-e-preserved
 loop-e-preserved c =
-    let head = (turn c).before.loop in
-    let firsts = c.firsts-1.given ∙ head.inv.1 in
-    let seconds = c.seconds-1.given ∙ head.inv.2 in
-    (omega (arith, (turn c).loop-test.true), firsts, seconds, c.prepare.ensures)
+    let head = c.loop-e in
+    let firsts : length c.prepare.new.firsts ≡ length c.args.firsts.now = ? in
+    let seconds = ? in
+    (omega (arith, c.loop-e-test.true), firsts, seconds, c.prepare.ensures)
 
 pub shape_of-firsts : goal.shape_of-firsts
 shape_of-firsts c = c.loop-e.invariant.1

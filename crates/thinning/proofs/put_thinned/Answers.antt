@@ -14,7 +14,7 @@ returns-then-size-eq0 c =
 pub returns-then-has_all : goal.returns-then-has_all
 returns-then-has_all c =
     let given = c.requires in
-    let all = c.Has-All.ensures.says c.if-has_all.true in
+    let all = c.has_all.ensures.says c.if-has_all.true in
     row_put _ _ _ _ _ given.4 c.put_row-then-has_all.ensures
     (λ h. rw (c.row-inner.ensures, c.near.ensures.1 h) at (all_among _ _ _ _ _ all given.3 c.below.ensures))
 

@@ -6,9 +6,6 @@ use Rattle.name_sets.specs.declared.Names.{Names}
 use Rattle.thinning.specs.Marked.{Thinning, thinning_starts, thinning_nearer, thinning_on, thinning_ends, size-within, grown_without}
 use Rattle.thinning.proofs.size_of.Goals as goal
 
-abbrev empty : Names
-empty = record { 0 = 0; 1 = 0; 2 = 0; 3 = 0 }
-
 pub loop-name-init : goal.loop-name-init
 loop-name-init c = thinning_starts c.requires refl none_marks c.lowest-name.ensures
 
@@ -23,12 +20,12 @@ loop-name-smaller c =
     let most = next.small in
     let only = c.only.ensures in
     let less = c.less-rest.ensures in
-    omega (arith, most, thinning_nearer c.pre c.loop-name.inv c.loop-name-test.taken _ only less next)
+    omega (arith, most, thinning_nearer c.requires c.loop-name.invariant c.loop-name-test.true _ only less next)
 
 pub loop-name-preserved : goal.loop-name-preserved
 loop-name-preserved c =
-    let inside : c.loop-name.name < 256 = omega (arith, c.pre, c.loop-name-test.taken) in
-    thinning_on c.pre c.loop-name.inv c.loop-name-test.taken _ c.only.ensures c.less-rest.ensures
+    let inside : c.loop-name.name < 256 = omega (arith, c.requires, c.loop-name-test.true) in
+    thinning_on c.requires c.loop-name.invariant c.loop-name-test.true _ c.only.ensures c.less-rest.ensures
     c.lowest-name-in-loop-name.ensures (grown_without refl (none_marks c.loop-name.name inside) refl)
 
 pub returns : goal.returns

@@ -7,6 +7,9 @@ use Rattle.name_sets.specs.declared.Names.{Names}
 use Rattle.thinning.specs.Marked.{Thinning, thinning_starts, thinning_nearer, thinning_on, thinning_ends, size-within, grown_without}
 use Rattle.thinning.proofs.size_of.Given as goal
 
+abbrev empty : Names
+empty = record { 0 = 0; 1 = 0; 2 = 0; 3 = 0 }
+
 abbrev pub invariant-loop-name : goal.invariant-loop-name
 invariant-loop-name l = Thinning l.initial.rest empty l.count (record { marks = empty; size = l.size }) l.rest l.name
 

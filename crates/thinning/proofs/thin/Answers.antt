@@ -18,11 +18,11 @@ loop-name-smaller c =
     let most = next.small in
     let only = c.only.ensures in
     let less = c.less-rest.ensures in
-    omega (arith, most, thinning_nearer c.pre c.loop-name.inv c.loop-name-test.taken _ only less next)
+    omega (arith, most, thinning_nearer c.requires c.loop-name.invariant c.loop-name-test.true _ only less next)
 
 pub loop-name-preserved : goal.loop-name-preserved
 loop-name-preserved c =
-    thinning_on c.pre c.loop-name.inv c.loop-name-test.taken _ c.only.ensures c.less-rest.ensures
+    thinning_on c.requires c.loop-name.invariant c.loop-name-test.true _ c.only.ensures c.less-rest.ensures
     c.lowest-name-in-loop-name.ensures c.pass-s.ensures
 
 pub returns : goal.returns

@@ -5,9 +5,10 @@ use borrow.Author.Rules.{rules}
 use Rattle.conditions.specs.Judge.{free_row}
 use Rattle.scopes.specs.RowMarks.{free_joins, made_leaf, made_two, made_name, free_step, free_fix}
 use Rattle.scopes.proofs.entry.free_names.Goals as goal
+use Rattle.scopes.proofs.entry.free_names.Goals.{in_default-via-then-kind-lt4, in_default-via-else-kind-lt4+else-kind-lt6+else-kind-lt8+else-kind-lt10}
 
 pub returns-in-10 : goal.returns-in-10
-returns-in-10 c = let given = c.args in made_name free_row free_joins given.kind given.first given.e given.x given.y _ c.in-10.keys1 c.only.ensures
+returns-in-10 c = let given = c.args in made_name free_row free_joins given.kind given.first given.e given.x given.y _ c.in-10.is c.only.ensures
 
 pub returns-in-4 : goal.returns-in-4
 returns-in-4 c =
@@ -26,5 +27,8 @@ pub returns-in_default : goal.returns-in_default
 returns-in_default c =
     let given = c.args in
     made_leaf free_row free_joins given.kind given.first given.e given.x given.y _
-    (⊎_elim (λ w. inl w.taken) (λ w. inr (omega (arith, w.3.left, c.in_default-1.rest.1))) c.in_default.branch)
+    (elim c.in_default.branch [
+      in_default-via-then-kind-lt4 w ↦ inl (omega arith)
+    | in_default-via-else-kind-lt4+else-kind-lt6+else-kind-lt8+else-kind-lt10 w ↦ inr (omega arith)
+    ])
     c.none.ensures
