@@ -4,17 +4,12 @@ use borrow.Author.Rules.{rules}
 use Rattle.file_parts.specs.Parts.{part_read, part_refused}
 use Rattle.claims.specs.ClaimWalk.{Opened, claim_refused, claim_closed, claim_opened, claim_long, claim_no_entries, claim_no_goals, claim_follows, claim_got}
 use Rattle.claims.proofs.read_claim.Goals as goal
-use Rattle.claims.proofs.read_claim.Goals.{After-fewest}
-
--- past the opening
-opened : (c : After-fewest) → Opened c.args.bytes.now c.opening_form-form.result
-opened c = claim_opened _ c.opening_form-form.ensures c.if-form-eq0.false
 
 pub returns-then-form-eq0 : goal.returns-then-form-eq0
 returns-then-form-eq0 c = claim_refused _ _ _ _ _ c.refuse.ensures (claim_closed _ c.opening_form-form.ensures c.if-form-eq0.true)
 
 pub read_entries-requires : goal.read_entries-requires
-read_entries-requires c = record { entry_arrays = c.requires.entries; in_bounds = claim_long _ (opened (goal.at.read_entries-requires c).After-fewest) }
+read_entries-requires c = record { entry_arrays = c.requires.entries; in_bounds = claim_long _ (claim_opened _ c.opening_form-form.ensures c.if-form-eq0.false) }
 
 pub read_goals-requires : goal.read_goals-requires
 read_goals-requires c =
@@ -30,7 +25,7 @@ overflow_cast-end c =
 pub returns-then-end-bytes : goal.returns-then-end-bytes
 returns-then-end-bytes c =
     claim_refused _ _ _ _ _ c.refuse-then-end-bytes.ensures
-    (claim_follows _ (opened (goal.at.returns-then-end-bytes c).Else-form-eq0) c.fewest.ensures
+    (claim_follows _ (claim_opened _ c.opening_form-form.ensures c.if-form-eq0.false) c.fewest.ensures
     c.in-Read.ensures
     c.in-Read-read_goals.ensures
     c.if-end-bytes.true)
@@ -38,18 +33,18 @@ returns-then-end-bytes c =
 pub returns-in-Refused : goal.returns-in-Refused
 returns-in-Refused c =
     claim_refused _ _ _ _ _ c.refuse-in-Refused.ensures
-    (claim_no_entries _ (opened (goal.at.returns-in-Refused c).After-fewest) c.fewest.ensures c.in-Refused.ensures)
+    (claim_no_entries _ (claim_opened _ c.opening_form-form.ensures c.if-form-eq0.false) c.fewest.ensures c.in-Refused.ensures)
 
 pub returns-in-Refused-read_goals : goal.returns-in-Refused-read_goals
 returns-in-Refused-read_goals c =
     claim_refused _ _ _ _ _ c.refuse-in-Refused-read_goals.ensures
-    (claim_no_goals _ (opened (goal.at.returns-in-Refused-read_goals c).Else-form-eq0) c.fewest.ensures
+    (claim_no_goals _ (claim_opened _ c.opening_form-form.ensures c.if-form-eq0.false) c.fewest.ensures
     c.in-Read.ensures
     c.in-Refused-read_goals.ensures)
 
 pub returns-else-end-bytes : goal.returns-else-end-bytes
 returns-else-end-bytes c =
-    claim_got _ (opened (goal.at.returns-else-end-bytes c).Else-form-eq0) c.fewest.ensures
+    claim_got _ (claim_opened _ c.opening_form-form.ensures c.if-form-eq0.false) c.fewest.ensures
     c.in-Read.ensures
     c.in-Read-read_goals.ensures
     c.if-end-bytes.false

@@ -20,7 +20,7 @@ invariant-loop-i l =
     (l.i ≤ l.n)
     × (l.at ≤ length l.bytes)
     × (l.at ≡ l.start + 2 * l.i)
-    × ((l : List ℕ) × Walking (number_from (is_code_lem (kind_table l.kinds l.count))) after_number (codes_of (kind_table l.kinds l.count) l.n l.bytes l.start) l.n l.i l l.least (drop l.at l.bytes) l.at)
+    × ((ns : List ℕ) × Walking (number_from (is_code_lem (kind_table l.kinds l.count))) after_number (codes_of (kind_table l.kinds l.count) l.n l.bytes l.start) l.n l.i ns l.least (drop l.at l.bytes) l.at)
 
 abbrev pub decreases-loop-i : goal.decreases-loop-i
 decreases-loop-i l = l.n - l.i

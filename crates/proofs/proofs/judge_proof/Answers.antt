@@ -24,86 +24,61 @@ use Rattle.proofs.specs.declared.Step.{Step}
 use Rattle.proofs.specs.declared.Step.TheVariants.{Next, Stop}
 use borrow.Author.Rules.{rules}
 use Rattle.proofs.proofs.judge_proof.Goals as goal
-use Rattle.proofs.proofs.judge_proof.Goals.{After-fewest, Else-not-opens_proof}
 
-module _ (c : tie.Start) where
-  abbrev file : List ℕ
-  file = c.args.bytes.now
-
-  abbrev claim : Form → Claim
-  claim f = kind_claim f c.args.kinds.now c.args.count c.args.goals
-
+module _ (form count goals : ℕ) (kinds file : List ℕ) where
   -- the claim of the form that the number names
   abbrev named : Claim
-  named = claim (named_form c.args.form)
+  named = kind_claim (named_form form) kinds count goals
 
   -- the verdict on the file is what was returned
-  verdict : {v : Verdict} → verdict_of (read_proof named file) ≡ v → (f : Form) → c.args.form ≡ form_number f → v ≡ verdict_of (read_proof (claim f) file)
-  verdict {v} e = for_named (λ f. v ≡ verdict_of (read_proof (claim f) file)) (sym e)
+  verdict : {v : Verdict} → verdict_of (read_proof named file) ≡ v → (f : Form) → form ≡ form_number f
+      → v ≡ verdict_of (read_proof (kind_claim f kinds count goals) file)
+  verdict {v} e = for_named (λ f. v ≡ verdict_of (read_proof (kind_claim f kinds count goals) file)) (sym e)
 
-  read : {r : Reading Derivation} → read_proof named file ≡ r → (f : Form) → c.args.form ≡ form_number f → verdict_of r ≡ verdict_of (read_proof (claim f) file)
+  read : {r : Reading Derivation} → read_proof named file ≡ r → (f : Form) → form ≡ form_number f
+      → verdict_of r ≡ verdict_of (read_proof (kind_claim f kinds count goals) file)
   read e = verdict (ap verdict_of e)
 
--- the opening stands
-begun : (c : Else-not-opens_proof) → opens (proof_opening (named_form c.args.form)) (file c.before.before.before-LEFT-Start) ≡ true
-begun c = sym c.opens_proof.ensures ∙ c.if-not-opens_proof.false
+  -- a node count out of range
+  miscounted : opens (proof_opening (named_form form)) file ≡ true → 6 ≤ length file → {least n : ℕ} → least ≡ fewest (named_form form) → n ≡ word_at file 4
+      → (Counts least 1024 n → ⊥) → (f : Form) → form ≡ form_number f → refused 32 4 ≡ verdict_of (read_proof (kind_claim f kinds count goals) file)
+  miscounted b l d e n = read (count_unfit named file b l (λ k. n (rw (d, e) k)))
 
--- a node count out of range
-miscounted : (c : After-fewest) → (Counts c.fewest.result 1024 c.word_at-n.result → ⊥)
-    → (f : Form) → c.args.form ≡ form_number f → refused 32 4 ≡ verdict_of (read_proof (claim c.before.before.before.before.before.before-LEFT-Start f) (file c.before.before.before.before.before.before-LEFT-Start))
-miscounted c n =
-    read c.before.before.before.before.before.before-LEFT-Start (count_unfit (named c.before.before.before.before.before.before-LEFT-Start) (file c.before.before.before.before.before.before-LEFT-Start) (begun c.before.before.before-LEFT-Else-not-opens_proof) (omega arith) (λ k. n (rw (c.fewest.ensures, c.word_at-n.ensures) k)))
+  -- a node count in range
+  counts : {least n : ℕ} → least ≡ fewest (named_form form) → n ≡ word_at file 4 → Counts least 1024 n → Counts (fewest (named_form form)) 1024 (word_at file 4)
+  counts d e k = rw (d, e) at k
 
--- a node count in range, and what was found after it
-module _ (c : tie.After-roots-step) where
-  abbrev entry : tie.Start
-  entry = c.before.before.before.before.before.before.before.before.before
-
-  opened : opens (proof_opening (named_form entry.args.form)) (file entry) ≡ true
-  opened = begun c.before.before.before.before.before.before
-
-  long : 6 ≤ length (file entry)
-  long = omega arith
-
-  counts : Counts (fewest (named_form entry.args.form)) 1024 (word_at (file entry) 4)
-  counts = let k : Counts c.before.before.before.fewest.result 1024 c.before.before.before.before.word_at_lem.result = omega arith in rw (c.before.before.before.fewest.ensures, c.before.before.before.before.word_at_lem.ensures) at k
-
-  -- in roots for g goals among n nodes
-  abbrev In : ℕ → ℕ → Step → Type 0
-  In g n r = Finds (file entry) 38 (roots_of (named_form entry.args.form) g n (file entry)) r
-
-  -- as many goals as the claim has
-  found : (r : Step) → c.roots-step.result ≡ r → In (length (named entry).goals) (word_at (file entry) 4) r
-  found r e =
-      subst (λ (g : ℕ). In g (word_at (file entry) 4) r) (sym (length-replicate {A = List ℕ} entry.args.goals []))
-      (subst (λ (n : ℕ). In entry.args.goals n r) c.before.before.before.before.word_at_lem.ensures
-      (subst (λ (r : Step). In entry.args.goals c.before.before.before.before.word_at_lem.result r) e c.roots-step.ensures))
+  -- what was found after it: as many goals as the claim has
+  found : (r : Step) {n : ℕ} → n ≡ word_at file 4 → Finds file 38 (roots_of (named_form form) goals n file) r
+      → Finds file 38 (roots_of (named_form form) (length named.goals) (word_at file 4) file) r
+  found r e t =
+      subst (λ (g : ℕ). Finds file 38 (roots_of (named_form form) g (word_at file 4) file) r) (sym (length-replicate {A = List ℕ} goals []))
+      (subst (λ (n : ℕ). Finds file 38 (roots_of (named_form form) goals n file) r) e t)
 
 pub returns-then-not-opens_proof : goal.returns-then-not-opens_proof
-returns-then-not-opens_proof c = read (goal.at.returns-then-not-opens_proof c).Start (not_opened _ _ (sym c.opens_proof.ensures ∙ c.if-not-opens_proof.true))
+returns-then-not-opens_proof c = read c.args.form c.args.count c.args.goals c.args.kinds.now c.args.bytes.now (not_opened _ _ (sym c.opens_proof.ensures ∙ c.if-not-opens_proof.true))
 
 pub returns-then-bytes-lt-AFTER_COUNT : goal.returns-then-bytes-lt-AFTER_COUNT
-returns-then-bytes-lt-AFTER_COUNT c = read (goal.at.returns-then-bytes-lt-AFTER_COUNT c).Start (no_count _ _ (begun (goal.at.returns-then-bytes-lt-AFTER_COUNT c).Else-not-opens_proof) c.if-bytes-lt-AFTER_COUNT.true)
+returns-then-bytes-lt-AFTER_COUNT c = read c.args.form c.args.count c.args.goals c.args.kinds.now c.args.bytes.now (no_count _ _ (sym c.opens_proof.ensures ∙ c.if-not-opens_proof.false) c.if-bytes-lt-AFTER_COUNT.true)
 
 pub returns-then-n-fewest : goal.returns-then-n-fewest
-returns-then-n-fewest c = miscounted (goal.at.returns-then-n-fewest c).After-fewest (λ k. omega (arith, k))
+returns-then-n-fewest c = miscounted c.args.form c.args.count c.args.goals c.args.kinds.now c.args.bytes.now (sym c.opens_proof.ensures ∙ c.if-not-opens_proof.false) (omega arith) c.fewest.ensures c.word_at-n.ensures (λ k. omega (arith, k))
 
 pub returns-then-n-gt1024 : goal.returns-then-n-gt1024
-returns-then-n-gt1024 c = miscounted (goal.at.returns-then-n-gt1024 c).After-fewest (λ k. omega (arith, k))
+returns-then-n-gt1024 c = miscounted c.args.form c.args.count c.args.goals c.args.kinds.now c.args.bytes.now (sym c.opens_proof.ensures ∙ c.if-not-opens_proof.false) (omega arith) c.fewest.ensures c.word_at-n.ensures (λ k. omega (arith, k))
 
 pub judge_nodes-requires : goal.judge_nodes-requires
-judge_nodes-requires c =
-    let (rs, f) = found (goal.at.judge_nodes-requires c).After-roots_step (Next c.at-1.given.0.0) c.at-1.given.1 in
-    (f.inside, f.near, omega arith, omega arith)
+judge_nodes-requires c = let (rs, f) = c.in-Next.ensures in (f.inside, f.near, omega arith, omega arith)
 
 pub returns-in-Stop : goal.returns-in-Stop
 returns-in-Stop c =
-    read (entry (goal.at.returns-in-Stop c).After-roots_step) (roots_stop _ _ (opened (goal.at.returns-in-Stop c).After-roots_step) (long (goal.at.returns-in-Stop c).After-roots_step) (counts (goal.at.returns-in-Stop c).After-roots_step) (found (goal.at.returns-in-Stop c).After-roots_step (Stop c.number-1.given.0.0 c.number-1.given.0.1.0) c.number-1.given.1))
+    read c.args.form c.args.count c.args.goals c.args.kinds.now c.args.bytes.now
+    (roots_stop _ _ (sym c.opens_proof.ensures ∙ c.if-not-opens_proof.false) (omega arith) (counts c.args.form c.args.count c.args.goals c.args.kinds.now c.args.bytes.now c.fewest.ensures c.word_at-n.ensures (omega arith)) (found c.args.form c.args.count c.args.goals c.args.kinds.now c.args.bytes.now (Stop c.in-Stop.number c.in-Stop.place) c.word_at-n.ensures c.in-Stop.ensures))
 
 pub returns-in-Next : goal.returns-in-Next
 returns-in-Next c =
-    let (rs, f) = found (goal.at.returns-in-Next c).After-roots_step (Next c.at-1.given.0.0) c.at-1.given.1 in
+    let (rs, f) = found c.args.form c.args.count c.args.goals c.args.kinds.now c.args.bytes.now (Next c.in-Next.at) c.word_at-n.ensures c.in-Next.ensures in
     let judged =
-    subst (λ (n : ℕ). shown c.judge_nodes.result ≡ verdict_of (ending early (nodes_of (named (entry (goal.at.returns-in-Next c).After-roots_step)).entries n (file (entry (goal.at.returns-in-Next c).After-roots_step)) c.at-1.given.0.0)))
+    subst (λ (n : ℕ). shown c.judge_nodes.result ≡ verdict_of (ending early (nodes_of (named c.args.form c.args.count c.args.goals c.args.kinds.now c.args.bytes.now).entries n c.args.bytes.now c.in-Next.at)))
     c.word_at-n.ensures c.judge_nodes.ensures in
-    verdict (entry (goal.at.returns-in-Next c).After-roots_step) (sym (judged ∙ nodes_decide _ _ (opened (goal.at.returns-in-Next c).After-roots_step) (long (goal.at.returns-in-Next c).After-roots_step) (counts (goal.at.returns-in-Next c).After-roots_step) _ f.found))
+    verdict c.args.form c.args.count c.args.goals c.args.kinds.now c.args.bytes.now (sym (judged ∙ nodes_decide _ _ (sym c.opens_proof.ensures ∙ c.if-not-opens_proof.false) (omega arith) (counts c.args.form c.args.count c.args.goals c.args.kinds.now c.args.bytes.now c.fewest.ensures c.word_at-n.ensures (omega arith)) _ f.found))

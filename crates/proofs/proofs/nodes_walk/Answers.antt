@@ -14,36 +14,21 @@ use Rattle.proofs.specs.declared.Step.{Step}
 use Rattle.proofs.specs.declared.Step.TheVariants.{Next, Stop}
 use Rattle.proofs.proofs.nodes_walk.Goals as goal
 
--- in a turn: what the next node is read as
-module _ (c : tie.After-node-step invariant-loop decreases-loop) where
-  abbrev file : List ℕ
-  file = c.before.before.before.before.args.bytes.now
-
-  abbrev table : Table
-  table = kind_table c.before.before.before.before.args.kinds.now c.before.before.before.before.args.count
-
-  abbrev here : ℕ
-  here = c.before.before.loop.at
-
-  found : (r : Step) → c.node_step.result ≡ r → Finds file (here + 57) (node table (drop here file) here) r
-  found r e = subst (λ (r : Step). Finds file (here + 57) (node table (drop here file) here) r) e c.node_step.ensures
-
 pub loop-i-init : goal.loop-i-init
 unfolding nodes_of
 loop-i-init c = (omega arith, omega arith, omega arith, ([], walk_begins _ _ _ _ _ _))
 
 pub returns-in-Stop : goal.returns-in-Stop
 returns-in-Stop c =
-    walk_stops (λ _. node (table (goal.at.returns-in-Stop c).After-node_step)) (λ _ _. 0) c.loop-i.invariant.3.1 c.loop-i-test.true
-    (found (goal.at.returns-in-Stop c).After-node_step (Stop c.number-1.given.0.0 c.number-1.given.0.1.0) c.number-1.given.1)
+    walk_stops (λ _. node (kind_table c.args.kinds.now c.args.count)) (λ _ _. 0) c.loop-i.invariant.3.1 c.loop-i-test.true c.in-Stop.ensures
 
 pub loop-i-preserved : goal.loop-i-preserved
 loop-i-preserved c =
-    let (x, f) = found (goal.at.loop-i-preserved c).After-node_step (Next c.next-1.given.0.0) c.next-1.given.1 in (
+    let (x, f) = c.in-Next.ensures in (
       omega arith,
       f.inside,
       omega (arith, f.near),
-      (_, walk_steps (λ _. node (table (goal.at.loop-i-preserved c).After-node_step)) (λ _ _. 0) c.loop-i.invariant.3.1 c.loop-i-test.true f.found),
+      (_, walk_steps (λ _. node (kind_table c.args.kinds.now c.args.count)) (λ _ _. 0) c.loop-i.invariant.3.1 c.loop-i-test.true f.found),
     )
 
 pub returns : goal.returns

@@ -20,7 +20,7 @@ invariant-loop-i l =
     (l.i ≤ l.n)
     × (l.at ≤ length l.bytes)
     × (l.at ≤ l.start + 57 * l.i)
-    × ((l : Proof) × Walking (λ _. node (kind_table l.kinds l.count)) (λ _ _. 0) (nodes_of (kind_table l.kinds l.count) l.n l.bytes l.start) l.n l.i l 0 (drop l.at l.bytes) l.at)
+    × ((ns : Proof) × Walking (λ _. node (kind_table l.kinds l.count)) (λ _ _. 0) (nodes_of (kind_table l.kinds l.count) l.n l.bytes l.start) l.n l.i ns 0 (drop l.at l.bytes) l.at)
 
 abbrev pub decreases-loop-i : goal.decreases-loop-i
 decreases-loop-i l = l.n - l.i

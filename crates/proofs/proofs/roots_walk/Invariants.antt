@@ -20,7 +20,7 @@ invariant-loop-i l =
     (l.i ≤ l.goals)
     × (l.at ≤ length l.bytes)
     × (l.at ≡ 6 + 2 * l.i)
-    × ((l : List ℕ) × Walking (number_from (is_node l.nodes)) after_number (numbers_of (is_node l.nodes) l.goals l.bytes 6) l.goals l.i l l.least (drop l.at l.bytes) l.at)
+    × ((ns : List ℕ) × Walking (number_from (is_node l.nodes)) after_number (numbers_of (is_node l.nodes) l.goals l.bytes 6) l.goals l.i ns l.least (drop l.at l.bytes) l.at)
 
 abbrev pub decreases-loop-i : goal.decreases-loop-i
 decreases-loop-i l = l.goals - l.i

@@ -18,36 +18,27 @@ use Rattle.proofs.specs.declared.Step.TheVariants.{Next}
 use borrow.Author.Rules.{rules}
 use Rattle.proofs.proofs.sequent_step.Goals as goal
 
-module _ (c : tie.Start) where
-  abbrev file : List ℕ
-  file = c.args.bytes.now
+-- a count out of range
+unfit : (table : Table) (file : List ℕ) (here : ℕ) → here < length file → (Counts 1 24 (get_or file here 0) → ⊥) → sequent table (drop here file) here ≡ fault 32 here
+unfit table file here h n = sequent_unfit table file here h (fails_holds (range_tells 1 24 (get_or file here 0)) n)
 
-  abbrev table : Table
-  table = kind_table c.args.kinds.now c.args.count
-
-  abbrev here : ℕ
-  here = c.args.at
-
-  -- a count out of range
-  unfit : here < length file → (Counts 1 24 (get_or file here 0) → ⊥) → sequent table (drop here file) here ≡ fault 32 here
-  unfit h n = sequent_unfit table file here h (fails_holds (range_tells 1 24 (get_or file here 0)) n)
-
-  -- a count in range: the codes decide
-  fit : here < length file → Counts 1 24 (get_or file here 0) → (r : Step) → Finds file (here + 1 + 48) (codes_of table (get_or file here 0) file (here + 1)) r
-      → Finds file (here + 49) (sequent table (drop here file) here) r
-  fit h n r = finds_as file r (sequent_codes table file here h ((range_tells 1 24 (get_or file here 0)).holds n)) (omega arith)
+-- a count in range: the codes decide
+fit : (table : Table) (file : List ℕ) (here : ℕ) → here < length file → Counts 1 24 (get_or file here 0) → (r : Step)
+    → Finds file (here + 1 + 48) (codes_of table (get_or file here 0) file (here + 1)) r → Finds file (here + 49) (sequent table (drop here file) here) r
+fit table file here h n r = finds_as file r (sequent_codes table file here h ((range_tells 1 24 (get_or file here 0)).holds n)) (omega arith)
 
 pub returns-then-bytes-at : goal.returns-then-bytes-at
-returns-then-bytes-at c = sequent_cut _ (file (goal.at.returns-then-bytes-at c).Start) (here (goal.at.returns-then-bytes-at c).Start) (omega arith)
+returns-then-bytes-at c = sequent_cut _ c.args.bytes.now c.args.at (omega arith)
 
 pub returns-then-n-eq0 : goal.returns-then-n-eq0
-returns-then-n-eq0 c = unfit (goal.at.returns-then-n-eq0 c).Start (omega arith) (λ k. omega (arith, k))
+returns-then-n-eq0 c = unfit (kind_table c.args.kinds.now c.args.count) c.args.bytes.now c.args.at (omega arith) (λ k. omega (arith, k))
 
 pub returns-then-n-gt24 : goal.returns-then-n-gt24
-returns-then-n-gt24 c = unfit (goal.at.returns-then-n-gt24 c).Start (omega arith) (λ k. omega (arith, k))
+returns-then-n-gt24 c = unfit (kind_table c.args.kinds.now c.args.count) c.args.bytes.now c.args.at (omega arith) (λ k. omega (arith, k))
 
 pub returns-then-codes_fit : goal.returns-then-codes_fit
-returns-then-codes_fit c = fit (goal.at.returns-then-codes_fit c).Start (omega arith) (omega arith) (Next _) (c.codes_fit.ensures c.if-codes_fit.true)
+returns-then-codes_fit c =
+    fit (kind_table c.args.kinds.now c.args.count) c.args.bytes.now c.args.at (omega arith) (omega arith) (Next _) (c.codes_fit.ensures c.if-codes_fit.true)
 
 pub returns : goal.returns
-returns c = fit (goal.at.returns c).Start (omega arith) (omega arith) c.codes_walk.result c.codes_walk.ensures
+returns c = fit (kind_table c.args.kinds.now c.args.count) c.args.bytes.now c.args.at (omega arith) (omega arith) c.codes_walk.result c.codes_walk.ensures
