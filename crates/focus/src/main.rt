@@ -5,109 +5,56 @@
 // standard error, and there is no verdict.
 #![tactic(auto)]
 
-ghost use Rattle.io.specs.Counts.{IsPrefixLen};
+ghost use Rattle.std.specs.Prelude.{◌≤◌, IfOk, length};
 
-use libc::STDOUT_FILENO;
+use std::fs;
+use std::io;
+use std::io::Read;
+use std::rt::Files;
 use verdict::Verdict;
 
-// How many bytes of a file came, and whether they are all of it, or as many as the buffer holds: not so after a read that failed.
-#[derive(Clone, Copy)]
-struct FileRead {
-    count: usize,
-    whole: bool,
-}
-
-// Reads fd's file to its end, to the buffer's, or to the first read that fails, as one does that a signal interrupts. A read that brings
-// less than was asked is no end: a pipe's bytes come in pieces.
-fn read_file(fd: i32, buf: &mut [u8]) -> FileRead
-    ensures { IsPrefixLen result.count buf.new }
+// Reads the file to its end, to the buffer's, or to the first read that fails, as one does that a signal interrupts: how many bytes came,
+// and no count where a read failed. A read that brings less than was asked is no end: a pipe's bytes come in pieces.
+fn read_file(file: &mut impl Read, buf: &mut [u8]) -> io::Result<usize>
+    ensures { IfOk result (λ count. count ≤ length buf.new) }
 {
     let mut done = 0;
     while done < buf.len() {
-        let got = libc::read(fd, &mut buf[done..]);
-        if got < 0 {
-            return FileRead {
-                count: done,
-                whole: false,
-            };
-        }
-        let more = io::count(got, &buf[done..]);
+        let more = file.read(&mut buf[done..])?;
         if more == 0 {
             break;
         }
         done += more;
     }
-    FileRead {
-        count: done,
-        whole: true,
-    }
+    Ok(done)
 }
 
-fn write_number(number: u16) -> bool {
-    let mut digits = [0u8; 20];
-    let n = io::decimal(number as u64, &mut digits);
-    io::write_all(STDOUT_FILENO, &digits[..n])
+fn read_named(files: &impl Files, name: &str, buf: &mut [u8]) -> io::Result<usize>
+    ensures { IfOk result (λ count. count ≤ length buf.new) }
+{
+    let mut file = fs::open(files, name)?;
+    read_file(&mut file, buf)
 }
 
-fn write_refusal(number: u16, place: u16) -> bool {
-    if !io::write_all(STDOUT_FILENO, b"refuse ") {
-        return false;
-    }
-    if !write_number(number) {
-        return false;
-    }
-    if !io::write_all(STDOUT_FILENO, b" at ") {
-        return false;
-    }
-    if !write_number(place) {
-        return false;
-    }
-    io::write_all(STDOUT_FILENO, b"\n")
-}
-
-fn write_verdict(verdict: Verdict) -> bool {
+fn write_verdict(rt: &impl Print, verdict: Verdict) -> io::Result<()> {
     match verdict {
-        Verdict::Accepted => io::write_all(STDOUT_FILENO, b"accept\n"),
-        Verdict::Refused { number, place } => write_refusal(number, place),
+        Verdict::Accepted => println!(rt; "accept"),
+        Verdict::Refused { number, place } => println!(rt; "refuse {number} at {place}"),
     }
 }
 
-fn judge(claim: &[u8], proof: &[u8]) {
-    if !write_verdict(single::judge_files(claim, proof)) {
-        os::fail(b"standard output");
+fn judge_with(rt: &(impl Files + Print + Eprint), claim: &[u8]) -> io::Result<()> {
+    let mut proof = [0u8; 65536];
+    match read_named(rt, "proof.bin", &mut proof) {
+        Ok(n) => write_verdict(rt, single::judge_files(claim, &proof[..n])),
+        Err(error) => eprintln!(rt; "proof.bin: {error}"),
     }
 }
 
-fn judge_with(claim: &[u8]) {
-    let fd = os::open_read(b"proof.bin");
-    if fd < 0 {
-        os::fail(b"proof.bin");
-        return;
+fn main(rt: HostRuntime) -> io::Result<()> {
+    let mut claim = [0u8; 65536];
+    match read_named(&rt, "claim.bin", &mut claim) {
+        Ok(n) => judge_with(&rt, &claim[..n]),
+        Err(error) => eprintln!(rt; "claim.bin: {error}"),
     }
-    let mut proof = io::large_buffer();
-    let read = read_file(fd, &mut proof);
-    let n = read.count;
-    if read.whole {
-        judge(claim, &proof[..n]);
-    } else {
-        os::fail(b"proof.bin");
-    }
-    libc::close(fd);
-}
-
-fn main() {
-    let fd = os::open_read(b"claim.bin");
-    if fd < 0 {
-        os::fail(b"claim.bin");
-        return;
-    }
-    let mut claim = io::large_buffer();
-    let read = read_file(fd, &mut claim);
-    let n = read.count;
-    if read.whole {
-        judge_with(&claim[..n]);
-    } else {
-        os::fail(b"claim.bin");
-    }
-    libc::close(fd);
 }
