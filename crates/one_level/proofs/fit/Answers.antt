@@ -7,17 +7,6 @@ use Rattle.one_level.specs.Fit.{fit_bare, fit_letter, fit_two, fit_step, fit_fix
 use borrow.Author.Rules.{rules}
 use Rattle.one_level.proofs.fit.Goals as goal
 
--- past the numbers of the first operands: the kinds are the same, of a formula with an operand
-module _ (c : tie.Else5) where
-  abbrev operand : tie.Else4
-  operand = c.before.before.before.before.before
-
-  abbrev compound : tie.Else3
-  compound = operand.before
-
-  abbrev same : tie.Else1
-  same = compound.before.before
-
 pub returns-then-kinds-f : goal.returns-then-kinds-f
 returns-then-kinds-f c = false_tells (λ t. c.if-kinds-f.true t.kinds)
 
@@ -42,8 +31,8 @@ returns-then-number c =
 pub returns-then-kind-le-AND : goal.returns-then-kind-le-AND
 returns-then-kind-le-AND c =
     let first = sym c.number.ensures ∙ c.if-number.false ∙ c.number-2.ensures in
-    let least = (compound (goal.at.returns-then-kind-le-AND c).Else-number).if3.false in
-    tells_as (fit_two (same (goal.at.returns-then-kind-le-AND c).Else-number).if1.false (omega (arith, least)) first c.if-kind-le-AND.true)
+    let least = c.if-kind-lt-OR.false in
+    tells_as (fit_two c.if-kinds-f.false (omega (arith, least)) first c.if-kind-le-AND.true)
     (λ t. t.two (omega (arith, least)) c.if-kind-le-AND.true)
     c.fit_two.ensures
 
@@ -51,7 +40,7 @@ pub returns-then-kind-le-BOX : goal.returns-then-kind-le-BOX
 returns-then-kind-le-BOX c =
     let first = sym c.number.ensures ∙ c.if-number.false ∙ c.number-2.ensures in
     let modal = c.if-kind-le-AND.false in
-    tells_as (fit_step (same (goal.at.returns-then-kind-le-BOX c).Else-kind-le-AND).if1.false (omega (arith, modal)) first (omega (arith, modal)) c.if-kind-le-BOX.true)
+    tells_as (fit_step c.if-kinds-f.false (omega (arith, modal)) first (omega (arith, modal)) c.if-kind-le-BOX.true)
     (λ t. t.actions (omega (arith, modal)) c.if-kind-le-BOX.true)
     (eqb_tells _ _)
 
@@ -59,6 +48,6 @@ pub returns : goal.returns
 returns c =
     let first = sym c.number.ensures ∙ c.if-number.false ∙ c.number-2.ensures in
     let fixpoint = c.if-kind-le-BOX.false in
-    tells_as (fit_fix (same (goal.at.returns c).Else-number).if1.false (omega (arith, (compound (goal.at.returns c).Else-number).if3.false)) first (omega (arith, fixpoint)))
-    (λ t. t.own (omega (arith, fixpoint)) (omega (arith, (operand (goal.at.returns c).Else-number).if4.false)))
+    tells_as (fit_fix c.if-kinds-f.false (omega (arith, c.if-kind-lt-OR.false)) first (omega (arith, fixpoint)))
+    (λ t. t.own (omega (arith, fixpoint)) (omega (arith, c.if-kind-gt-NU.false)))
     c.fit_fix.ensures

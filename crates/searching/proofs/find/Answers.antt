@@ -19,7 +19,7 @@ returns-then-candidate c =
     record { within = passed.0; is_one = λ _. c.candidate.ensures.says c.if-candidate.true; none_before = passed.1 }
 
 pub overflow_add-f : goal.overflow_add-f
-overflow_add-f c = record { fits = omega (arith, c.loop-f-test.true, (c).pre.1.small) }
+overflow_add-f c = record { fits = omega (arith, c.loop-f-test.true, c.requires.room.small) }
 
 pub loop-f-smaller : goal.loop-f-smaller
 loop-f-smaller c = omega (arith, c.loop-f-test.true)
@@ -28,7 +28,7 @@ pub loop-f-preserved : goal.loop-f-preserved
 loop-f-preserved c =
     let head = c.loop-f in
     let none = fails c.candidate.ensures c.if-candidate.false in
-    (omega (arith, c.loop-f-test.true), below_more (λ d. Candidate _ _ _ _ _ _ _ _ _ _ _ _ d → ⊥) head.f head.inv.1 none)
+    (omega (arith, c.loop-f-test.true), below_more (λ d. Candidate _ _ _ _ _ _ _ _ _ _ _ _ d → ⊥) head.f head.invariant.1 none)
 
 pub returns : goal.returns
 returns c =

@@ -16,8 +16,8 @@ prepare-requires c =
 pub loop-e-preserved : goal.loop-e-preserved
 loop-e-preserved c =
     let head = c.loop-e in
-    let firsts : length c.prepare.new.firsts ≡ length c.args.firsts.now = ? in
-    let seconds = ? in
+    let firsts = c.prepare.auto.firsts ∙ head.invariant.1 in
+    let seconds = c.prepare.auto.seconds ∙ head.invariant.2 in
     (omega (arith, c.loop-e-test.true), firsts, seconds, c.prepare.ensures)
 
 pub shape_of-firsts : goal.shape_of-firsts
