@@ -11,7 +11,7 @@ use Rattle.nodes.proofs.decode_proof.Goals as goal
 use Rattle.nodes.proofs.decode_proof.Goals.{At-loop-i, In-loop-i}
 
 -- in a turn there is a node left
-more : (c : In-loop-i) → c.loop-i.i < word_at (entry c.before-LEFT-At-loop-i).args.bytes.now 4
+more : (c : In-loop-i) → c.loop-i.i < word_at c.args.bytes.now 4
 more c = omega (arith, c.loop-i.invariant.1, c.loop-i-test.true)
 
 -- the slices are as long as they were
@@ -36,7 +36,7 @@ bounds-starts-i c = omega (arith, more (goal.at.bounds-starts-i c).In-loop-i, (l
 
 pub decode_node-spot-requires : goal.decode_node-spot-requires
 decode_node-spot-requires c =
-    let given = (entry (goal.at.decode_node-spot-requires c).At-loop-i).pre in
+    let given = c.requires in
     let stored = c.loop-i.invariant.2 in
     let few = given.0.few in
     (node_fits given.0 given.2 stored (more (goal.at.decode_node-spot-requires c).In-loop-i), omega (arith, stored.near), node_room given.0 given.2 stored (more (goal.at.decode_node-spot-requires c).In-loop-i))
@@ -44,7 +44,7 @@ decode_node-spot-requires c =
 pub loop-i-preserved : goal.loop-i-preserved
 loop-i-preserved c =
     let stored = c.loop-i.invariant in
-    let given = (entry (goal.at.loop-i-preserved c).At-loop-i).pre in
+    let given = c.requires in
     let left = c.decode_node-spot.ensures in (
       omega arith,
       stored.1,
@@ -52,7 +52,7 @@ loop-i-preserved c =
     )
 
 pub overflow_cast-starts-2 : goal.overflow_cast-starts-2
-overflow_cast-starts-2 c = omega (arith, (entry (goal.at.overflow_cast-starts-2 c).At-loop-i).pre.0.few, c.loop-i.invariant.2.few)
+overflow_cast-starts-2 c = omega (arith, c.requires.0.few, c.loop-i.invariant.2.few)
 
 pub bounds-starts-n : goal.bounds-starts-n
 bounds-starts-n c = omega (arith, c.loop-i.invariant.1, (lengths (goal.at.bounds-starts-n c).At-loop-i).starts, (columns (goal.at.bounds-starts-n c).At-loop-i).starts)
@@ -71,12 +71,11 @@ shape_of-codes c = (lengths (goal.at.shape_of-codes c).At-loop-i).codes
 
 pub returns : goal.returns
 returns c =
-    let given = entry (goal.at.returns c).At-loop-i in
-    let a = given.args in
+    let a = c.args in
     let done = c.loop-i in
     let all : done.i ≡ c.node_count-n.result = omega arith in
     let last : done.i ≡ word_at a.bytes.now 4 = all ∙ done.invariant.1 in record { value = c.node_count-n.ensures a.at; nodes_stored = subst
           (λ (k : ℕ).
           NodesStored (proof_in a.bytes.now a.at) a.rules.now a.links.now a.starts.now a.codes.now
           done.rules done.links (set done.starts k done.spot.start) done.codes)
-          all (stored_nodes given.pre.0 given.pre.2 done.invariant.2 last) }
+          all (stored_nodes c.requires.0 c.requires.2 done.invariant.2 last) }

@@ -6,7 +6,7 @@ use Rattle.reader.specs.Begins.{before_refuses, beginning_refuses}
 use Rattle.reader.proofs.begins.Goals as goal
 
 pub returns-in-Refused : goal.returns-in-Refused
-returns-in-Refused c = before_refuses _ (ap shown c.before-1.given.1)
+returns-in-Refused c = before_refuses _ (ap shown c.in-Refused.is)
 
 pub returns-in-Accepted : goal.returns-in-Accepted
-returns-in-Accepted c = beginning_refuses _ (ap shown c.enum_told-1.given.1) c.judge_beginning.ensures
+returns-in-Accepted c = beginning_refuses _ (ap shown c.in-Accepted.is) c.judge_beginning.ensures

@@ -8,17 +8,17 @@ use Rattle.reader.specs.FilesLaws.{unread_claim, unformed_claim, formed_claim}
 use Rattle.reader.proofs.read_formed.Goals as goal
 
 pub judge-requires : goal.judge-requires
-judge-requires c = (claim_as_read _ _ _ _ _ c.read_claim.ensures c.form-1.given.1).held.entries
+judge-requires c = c.in-Read.ensures.held.entries
 
 pub returns-in-Refused : goal.returns-in-Refused
-returns-in-Refused c = unread_claim _ (claim_as_refused _ _ _ _ _ c.read_claim.ensures c.number-1.given.1)
+returns-in-Refused c = unread_claim _ c.in-Refused.ensures
 
 pub returns-in-Refused-judge : goal.returns-in-Refused-judge
 returns-in-Refused-judge c =
-    unformed_claim _ (claim_as_read _ _ _ _ _ c.read_claim.ensures c.form-1.given.1)
-    (ap shown (sym c.number-in-Refused-judge-1.given.1) ∙ c.judge.ensures) (omega arith, omega arith)
+    unformed_claim _ c.in-Read.ensures
+    c.in-Refused-judge.ensures (omega arith, omega arith)
 
 pub returns-in-Accepted : goal.returns-in-Accepted
 returns-in-Accepted c =
-    formed_claim _ (claim_as_read _ _ _ _ _ c.read_claim.ensures c.form-1.given.1)
-    (ap shown (sym c.enum_told-1.given.1) ∙ c.judge.ensures)
+    formed_claim _ c.in-Read.ensures
+    c.in-Accepted.ensures
