@@ -1,6 +1,6 @@
 #!/usr/bin/env bash
 # Instructions of one call on the cases that take less than a microsecond, where a clock tells little: callgrind's count of 3,000 calls
-# less that of 1,000, by 2,000. After `rt staticlib gate`.
+# less that of 1,000, by 2,000. After `rt lib` in crates/gate.
 set -euo pipefail
 cd "$(dirname "$0")"
 cargo build --release --offline --quiet

@@ -1,5 +1,5 @@
 /* The Focus proof gate for a loader written in C or C++, from C99 and C++98 on: link
- * target/staticlib/libgate.a.
+ * crates/gate/out/libgate.a.
  *
  * An answer is 0 for done or accepted, else refusal x 65,536 + place; focus_take,
  * focus_evaluate, focus_join and the two calls that write a file from records answer

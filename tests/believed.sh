@@ -2,7 +2,7 @@
 # How many lines a sceptic must read: the definitions that the promises rest on, without proofs and without code.
 #   tests/believed.sh            lines by crate, for two sets of roots:
 #                                  meaning: what is promised, `Correct`, `Irrefutable` and `Earned`
-#                                  contracts: what stands in the clauses of the functions that C can call (#[no_mangle])
+#                                  contracts: what stands in the clauses of the functions that C can call (#[unsafe(no_mangle)])
 #   tests/believed.sh --names    with each definition that is reached, and its lines
 #   tests/believed.sh --check    and fails unless the documents give these two figures
 #
@@ -34,12 +34,12 @@ roots='crates/demands/specs/Correct.antt:Correct crates/demands/specs/Correct.an
 
 find crates -path '*/specs/*.antt' -o -path '*/src/*.rt' | sort | xargs awk -f tests/definitions.awk |
     awk -F '\t' -v list="$list" -v roots="$roots" '
-# Rattle·CRATE.specs.A.B, or in its own crate Rattle·CRATE·specs.specs.A.B, is crates/CRATE/specs/A/B.antt.
+# Rattle.CRATE.specs.A.B is crates/CRATE/specs/A/B.antt.
 function file_of(path,    crate) {
-    if (path !~ /^Rattle\302\267[a-z_0-9]+(\302\267specs)?\.specs\./) return ""
-    sub(/^Rattle\302\267/, "", path)
+    if (path !~ /^Rattle\.[a-z_0-9]+\.specs\./) return ""
+    sub(/^Rattle\./, "", path)
     crate = path
-    sub(/[.\302].*/, "", crate)
+    sub(/\..*/, "", crate)
     sub(/^[^.]*\.specs\./, "", path)
     gsub(/\./, "/", path)
     return "crates/" crate "/specs/" path ".antt"
@@ -63,8 +63,8 @@ function imports(file, text,    path, names, n, i, w, from) {
 # `what` is in sight in file under name, and an operator under its signs too.
 function bring(file, name, what,    parts, n, i) {
     sight[file, name] = sight[file, name] what "\n"
-    if (name !~ /_./ && name !~ /._/) return
-    n = split(name, parts, "_")
+    if (name !~ /◌/) return
+    n = split(name, parts, "◌")
     for (i = 1; i <= n; i++) if (parts[i] != "") sight[file, parts[i]] = sight[file, parts[i]] what "\n"
 }
 

@@ -40,7 +40,7 @@ rust {
         if (exported && $0 ~ / fn /) { say("name", "contract of " item); contract = 1 }
         exported = 0
     }
-    if ($0 ~ /^#\[no_mangle\]/) exported = 1
+    if ($0 ~ /^#\[unsafe\(no_mangle\)\]/) exported = 1
     if ($0 ~ /^\{/) contract = 0
     if (contract && $0 ~ /^ +(requires|ensures) /) say("line", $0)
     next

@@ -7,7 +7,7 @@
 set -euo pipefail
 cd "$(dirname "$0")/.."
 
-archive=target/staticlib/libgate.a
+archive=crates/gate/out/libgate.a
 samples=examples
 if [ ! -f "$archive" ]; then
     echo "loader: $archive is not there: build it first" >&2

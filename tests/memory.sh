@@ -5,7 +5,7 @@
 set -euo pipefail
 cd "$(dirname "$0")/.."
 
-archive=target/staticlib/libgate.a
+archive=crates/gate/out/libgate.a
 vectors=tests/vectors
 corpora=(narrow "$vectors/base/eval.bin")
 for request in t04 t05 t06; do corpora+=(evals "$vectors/$request/eval.bin"); done

@@ -4,10 +4,10 @@
 set -euo pipefail
 cd "$(dirname "$0")/.."
 
-program="$PWD/target/bin/focus"
+program="$PWD/crates/focus/out/focus"
 samples="$PWD/examples"
 if [ ! -x "$program" ]; then
-    echo "program: target/bin/focus is not there: build it first" >&2
+    echo "program: crates/focus/out/focus is not there: build it first" >&2
     exit 1
 fi
 

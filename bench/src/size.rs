@@ -4,7 +4,7 @@ use std::path::Path;
 use std::process::Command;
 
 pub fn print() {
-    let archive = Path::new(env!("CARGO_MANIFEST_DIR")).join("../target/staticlib/libgate.a");
+    let archive = Path::new(env!("CARGO_MANIFEST_DIR")).join("../crates/gate/out/libgate.a");
     match Command::new("size").arg("-A").arg(&archive).output() {
         Ok(output) => {
             let text = String::from_utf8_lossy(&output.stdout);

@@ -1,7 +1,7 @@
 //! The single check called from Rust, with no crate but the standard library.
-//! Build it from the root of the repository, after `rt staticlib gate`:
+//! Build it from the root of the repository, after `rt lib` in crates/gate:
 //!
-//!     rustc --edition 2021 -O examples/caller/caller.rs -C link-arg=target/staticlib/libgate.a -o caller
+//!     rustc --edition 2021 -O examples/caller/caller.rs -C link-arg=crates/gate/out/libgate.a -o caller
 //!     ./caller examples/nu-of-box/claim.bin examples/nu-of-box/proof.bin
 
 use std::process::ExitCode;

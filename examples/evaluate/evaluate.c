@@ -1,7 +1,7 @@
 /* Evaluates a claim in a model: one line for each entry, the states where it is
- * true. Build it from the root of the repository, after `rt staticlib gate`:
+ * true. Build it from the root of the repository, after `rt lib` in crates/gate:
  *
- *     cc -std=c11 -Iinclude examples/evaluate/evaluate.c target/staticlib/libgate.a -o evaluate
+ *     cc -std=c11 -Iinclude examples/evaluate/evaluate.c crates/gate/out/libgate.a -o evaluate
  *     ./evaluate examples/mu-of-box/claim.bin examples/evaluate/circle.bin
  */
 #include <stdio.h>

@@ -1,9 +1,9 @@
 /* Joins the proofs of two classes, each of which has proved one half of a condition:
  * beside the letter p one has nu X. box X, the other not p. Both claims have the same
  * table, in which entry 5 is the whole, nu X. box X and not p. From the top of the
- * repository, once target/staticlib/libgate.a is there:
+ * repository, once crates/gate/out/libgate.a is there:
  *
- *     cc -std=c11 -Iinclude examples/join/join.c target/staticlib/libgate.a -o join
+ *     cc -std=c11 -Iinclude examples/join/join.c crates/gate/out/libgate.a -o join
  *     ./join 5 examples/first-half/claim.bin examples/first-half/proof.bin \
  *              examples/second-half/claim.bin examples/second-half/proof.bin \
  *              claim.bin proof.bin

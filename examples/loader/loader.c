@@ -1,9 +1,9 @@
 /* A loader as a mount might have it. It opens a gate, presents a claim and proof
  * under a tag, takes the permit and closes; motors would start only with the
- * permit in hand. From the top of the repository, once target/staticlib/libgate.a
+ * permit in hand. From the top of the repository, once crates/gate/out/libgate.a
  * is there:
  *
- *     cc -std=c11 -Iinclude examples/loader/loader.c target/staticlib/libgate.a -o loader
+ *     cc -std=c11 -Iinclude examples/loader/loader.c crates/gate/out/libgate.a -o loader
  *     ./loader 7 examples/nu-of-box/claim.bin examples/nu-of-box/proof.bin
  *
  * It prints a line for each call:

@@ -2,9 +2,9 @@
  * of box, as in examples/nu-of-box; or nu of box and beside it a letter with its
  * negation, the two goals of examples/two-goals; or no goals at all, as in
  * examples/no-goals. Build it from the top of the repository, once
- * target/staticlib/libgate.a is there:
+ * crates/gate/out/libgate.a is there:
  *
- *     cc -std=c11 -Iinclude examples/writer/writer.c target/staticlib/libgate.a -o writer
+ *     cc -std=c11 -Iinclude examples/writer/writer.c crates/gate/out/libgate.a -o writer
  *     ./writer claim.bin proof.bin
  *     ./writer claim.bin proof.bin goals
  *     ./writer claim.bin proof.bin none
