@@ -26,7 +26,7 @@ loop-q-smaller c = omega (arith, c.loop-q-test.true)
 pub loop-q-preserved : goal.loop-q-preserved
 loop-q-preserved c =
     let was = c.loop-q.invariant in
-    (c.numbers-1.given ∙ was.0, c.marks-1.given ∙ was.1, c.turn.ensures)
+    (c.turn.auto.numbers ∙ was.0, c.turn.auto.marks ∙ was.1, c.turn.ensures)
 
 pub shape_of-numbers : goal.shape_of-numbers
 shape_of-numbers c = c.loop-q.invariant.0

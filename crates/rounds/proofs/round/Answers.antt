@@ -23,7 +23,7 @@ loop-e-smaller c = omega (arith, c.loop-e-test.true)
 pub loop-e-preserved : goal.loop-e-preserved
 loop-e-preserved c =
     let was = c.loop-e.invariant in
-    (c.numbers-1.given ∙ was.0, c.marks-1.given ∙ was.1, c.visit.ensures)
+    (c.visit.auto.numbers ∙ was.0, c.visit.auto.marks ∙ was.1, c.visit.ensures)
 
 pub shape_of-numbers : goal.shape_of-numbers
 shape_of-numbers c = c.loop-e.invariant.0
