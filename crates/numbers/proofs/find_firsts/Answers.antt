@@ -6,8 +6,8 @@ use Rattle.numbers.proofs.find_firsts.Goals as goal
 use Rattle.numbers.proofs.find_firsts.Goals.{In-loop-e}
 
 -- the entry of the turn
-abbrev at : tie.In-loop invariant-loop decreases-loop → ℕ
-at c = c.before.loop.e - 1
+abbrev at : In-loop-e → ℕ
+at c = c.loop-e.e - 1
 
 inside : (c : In-loop-e) → at c < c.args.count
 inside c = omega (arith, c.loop-e.invariant.0, c.loop-e-test.true)
@@ -26,13 +26,13 @@ pub overflow_sub-e : goal.overflow_sub-e
 overflow_sub-e c = omega (arith, c.loop-e-test.true)
 
 pub bounds-kinds-e : goal.bounds-kinds-e
-bounds-kinds-e c = omega (arith, inside c, c.requires.0)
+bounds-kinds-e c = omega (arith, inside (goal.at.bounds-kinds-e c).In-loop-e, c.requires.0)
 
 pub overflow_cast-least : goal.overflow_cast-least
-overflow_cast-least c = record { fits = omega (arith, inside (goal.at.overflow_cast-least c).After-way_told-1, c.requires.0) }
+overflow_cast-least c = record { fits = omega (arith, inside (goal.at.overflow_cast-least c).In-loop-e, c.requires.0) }
 
 pub bounds-numbers-e : goal.bounds-numbers-e
-bounds-numbers-e c = omega (arith, inside (goal.at.bounds-numbers-e c).After-way_told-1, c.requires.1)
+bounds-numbers-e c = omega (arith, inside (goal.at.bounds-numbers-e c).In-loop-e, c.requires.1)
 
 pub offset_bounds-least-place_of : goal.offset_bounds-least-place_of
 offset_bounds-least-place_of c = record { fits = omega (arith, c.place_of.ensures.1) }
@@ -46,8 +46,8 @@ loop-e-smaller-then-kinds-e-ne-NAME c = omega (arith, c.loop-e-test.true)
 pub loop-e-preserved-then-kinds-e-ne-NAME : goal.loop-e-preserved-then-kinds-e-ne-NAME
 loop-e-preserved-then-kinds-e-ne-NAME c =
     let place = c.place_of.ensures in (
-      omega (arith, inside (goal.at.loop-e-preserved-then-kinds-e-ne-NAME c).After-t9-1),
-      rw place.0 (firsts_put (inside (goal.at.loop-e-preserved-then-kinds-e-ne-NAME c).After-t9-1) (before_it (goal.at.loop-e-preserved-then-kinds-e-ne-NAME c).After-t9-1) (omega (arith, place.0, place.1)) c.if-kinds-e-ne-NAME.true),
+      omega (arith, inside (goal.at.loop-e-preserved-then-kinds-e-ne-NAME c).In-loop-e),
+      rw place.0 (firsts_put (inside (goal.at.loop-e-preserved-then-kinds-e-ne-NAME c).In-loop-e) (before_it (goal.at.loop-e-preserved-then-kinds-e-ne-NAME c).In-loop-e) (omega (arith, place.0, place.1)) c.if-kinds-e-ne-NAME.true),
     )
 
 pub loop-e-smaller : goal.loop-e-smaller
@@ -55,7 +55,7 @@ loop-e-smaller c = omega (arith, c.loop-e-test.true)
 
 pub loop-e-preserved : goal.loop-e-preserved
 loop-e-preserved c =
-    (omega (arith, inside (goal.at.loop-e-preserved c).After-way_told-1), firsts_name (inside (goal.at.loop-e-preserved c).After-way_told-1) (before_it (goal.at.loop-e-preserved c).After-way_told-1) c.if-kinds-e-ne-NAME.false)
+    (omega (arith, inside (goal.at.loop-e-preserved c).In-loop-e), firsts_name (inside (goal.at.loop-e-preserved c).In-loop-e) (before_it (goal.at.loop-e-preserved c).In-loop-e) c.if-kinds-e-ne-NAME.false)
 
 pub returns : goal.returns
 returns c =
