@@ -1,13 +1,15 @@
 -- `clash` meets its contract: the first member and the first that is another are all, and opposite.
 use mathlib.Core.Path.{refl, sym, ◌∙◌}
 use mathlib.Core.Logic.{◌≢◌}
-use Prim.Native.Nat.{◌<◌}
+use mathlib.Core.List.{List}
+use Prim.Native.Nat.{ℕ, ◌<◌, ◌+◌}
+use mathlib.Core.Path.{◌≡◌}
 use native.Mathlib.Omega.{arith}
 use borrow.Author.Rules.{rules}
 use Rattle.verdict.specs.Sets.{elements}
 use Rattle.sequents.specs.Keys.{keys_of}
-use Rattle.sequents.specs.Part.{part, span_small}
-use Rattle.axioms.specs.AxiomParts.{clash_alone, clash_pair, none_axiom, keys_none, key_member, other_within, other_none, other_key}
+use Rattle.sequents.specs.Part.{part, Span, span_small}
+use Rattle.axioms.specs.AxiomParts.{first_other, clash_alone, clash_pair, none_axiom, keys_none, key_member, other_within, other_none, other_key}
 use Rattle.sequents.specs.KeptLaws.{was_false, was_true}
 use Rattle.std.proofs.Common.{ap}
 use Rattle.std.specs.Prelude.{not}
@@ -20,9 +22,12 @@ one c =
     let a = c.args in
     rw c.key_of-x.ensures.1 (key_member a.canon.now c.requires.1 a.from (omega arith) (omega (arith, c.requires.1.order, c.if-from-to.false)))
 
+-- the place found with another member is within
+placed : (ns : List ℕ) {cs : List ℕ} {i j : ℕ} → Span cs i j → (x r : ℕ) → r ≡ i + first_other x (keys_of ns (part cs i j)) → r ≢ j → r < j
+placed ns S x r e d = omega (arith, S.order, other_within ns S x, d, e)
+
 within : (c : Else-other-to) → c.other_member-other.result < c.args.to
-within c =
-    omega (arith, c.requires.1.order, c.if-other-to.false, c.other_member-other.ensures, other_within c.args.canon.now c.requires.1 c.key_of-x.result)
+within c = placed c.args.canon.now c.requires.1 c.key_of-x.result c.other_member-other.result c.other_member-other.ensures c.if-other-to.false
 
 -- the first member that is another
 two : (c : After-key_of-y) → let a = c.args in
@@ -30,13 +35,13 @@ two : (c : After-key_of-y) → let a = c.args in
 two c =
     let a = c.args in
     rw c.key_of-y.ensures.1 (key_member a.canon.now c.requires.1 c.other_member-other.result
-    (omega (arith, c.other_member-other.ensures)) (within c.before.before-LEFT-Else-other-to))
+    (omega (arith, c.other_member-other.ensures)) (placed a.canon.now c.requires.1 c.key_of-x.result c.other_member-other.result c.other_member-other.ensures c.if-other-to.false))
 
 another : (c : After-key_of-y) → c.key_of-y.result ≢ c.key_of-x.result
 another c e =
     let a = c.args in
     let o = c.other_member-other.ensures in
-    let w = within c.before.before-LEFT-Else-other-to in
+    let w : c.other_member-other.result < a.to = placed a.canon.now c.requires.1 c.key_of-x.result c.other_member-other.result c.other_member-other.ensures c.if-other-to.false in
     other_key a.canon.now c.requires.1 c.key_of-x.result (omega (arith, o, w))
     (rw (← o) (sym c.key_of-y.ensures.1 ∙ e))
 

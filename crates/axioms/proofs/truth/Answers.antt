@@ -29,8 +29,8 @@ pub returns-then-kinds-entry_of-ne-TRUE : goal.returns-then-kinds-entry_of-ne-TR
 returns-then-kinds-entry_of-ne-TRUE c xs ys n E =
     let a = c.args in
     rw (
-      truth_one _ _ _ (one (goal.at.returns-then-kinds-entry_of-ne-TRUE c).After-entry_of),
-      table_of_kind a.kinds.now xs ys n _ (E _ (one (goal.at.returns-then-kinds-entry_of-ne-TRUE c).After-entry_of)),
+      truth_one _ _ _ (one (goal.at.returns-then-kinds-entry_of-ne-TRUE c).After-key_of-x),
+      table_of_kind a.kinds.now xs ys n _ (E _ (one (goal.at.returns-then-kinds-entry_of-ne-TRUE c).After-key_of-x)),
       ← c.entry_of.ensures,
       ne_eqb _ _ c.if-kinds-entry_of-ne-TRUE.true,
     ) refl
@@ -39,8 +39,8 @@ pub returns : goal.returns
 returns c xs ys n E =
     let a = c.args in
     rw (
-      truth_one _ _ _ (one (goal.at.returns c).After-entry_of),
-      table_of_kind a.kinds.now xs ys n _ (E _ (one (goal.at.returns c).After-entry_of)),
+      truth_one _ _ _ (one (goal.at.returns c).After-key_of-x),
+      table_of_kind a.kinds.now xs ys n _ (E _ (one (goal.at.returns c).After-key_of-x)),
       ← c.entry_of.ensures,
       eq-eqb _ _ c.if-kinds-entry_of-ne-TRUE.false,
     ) c.only.ensures

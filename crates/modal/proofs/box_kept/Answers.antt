@@ -31,7 +31,7 @@ modals : (c : Else-not-all_boxed) → let a = c.args in
     (d : ℕ) → elements (part a.codes.now a.from a.to) d → Modal a.kinds.now a.a.now a.b.now a.size d
 modals c =
     let p = c.requires in
-    modal p.0 _ p.2 (rw c.entry_of-entry.ensures at c.if-kinds-entry-ne-BOX.false) (was_true (tested c.before-LEFT-After-all_boxed) (ap not c.if-not-all_boxed.false))
+    modal p.0 _ p.2 (rw c.entry_of-entry.ensures at c.if-kinds-entry-ne-BOX.false) (was_true (rw (c.key_of-key.ensures.1, c.entry_of-entry.ensures) at c.all_boxed.ensures) (ap not c.if-not-all_boxed.false))
 
 pub returns-then-kinds-entry-ne-BOX : goal.returns-then-kinds-entry-ne-BOX
 unfolding Kept

@@ -1,23 +1,20 @@
 use mathlib.Core.Path.{◌≡◌}
 use mathlib.Core.List.{List}
-use Prim.Native.Nat.{ℕ, ◌≤◌, ◌-◌}
+use Prim.Native.Nat.{ℕ, ◌<◌, ◌≤◌, ◌-◌}
 use native.Mathlib.Omega.{arith}
 use lib.ListN.{get_or}
 use borrow.Author.Rules.{rules}
 use Rattle.verdict.specs.Sets.{elements}
 use Rattle.verdict.specs.Tests.{each}
 use Rattle.formula.specs.Plain.{table_of}
-use Rattle.sequents.specs.Part.{part, part_member}
+use Rattle.sequents.specs.Part.{part, Span, part_member}
 use Rattle.sequents.specs.CodeSet.{Holds, each_before, each_end}
 use Rattle.modal.specs.BoxLaws.{stepped_key, Modal}
 use Rattle.modal.proofs.put_targets.Goals as goal
-use Rattle.modal.proofs.put_targets.Goals.{After-shared_slice_known-in-loop-i-1}
 
 -- the code at hand is one of the part
-here : (c : After-shared_slice_known-in-loop-i-1) → elements (part c.args.codes.now c.args.from c.args.to) (get_or c.args.codes.now (c.loop-i.i - 1) 0)
-here c =
-    let c.before.before.before.before-LEFT-Start = c.before.before.before.before-LEFT-Start in
-    part_member c.args.codes.now c.args.from c.args.to (c.loop-i.i - 1) (omega arith) (omega arith) c.requires.1.long
+here : {cs : List ℕ} {i j : ℕ} (k : ℕ) → Span cs i j → i < k → k ≤ j → elements (part cs i j) (get_or cs (k - 1) 0)
+here {cs} {i} {j} k S h g = part_member cs i j (k - 1) (omega arith) (omega arith) S.long
 
 pub loop-i-init : goal.loop-i-init
 loop-i-init c = (search rules, search rules, λ ys n M. each_end _ c.args.codes.now c.args.to c.requires.3)
@@ -25,7 +22,7 @@ loop-i-init c = (search rules, search rules, λ ys n M. each_end _ c.args.codes.
 pub operand_key-requires : goal.operand_key-requires
 operand_key-requires c =
     let p = c.requires in
-    (p.0, p.1.small _ (here (goal.at.operand_key-requires c).After-shared_slice_known-in-loop-i-1), p.2 _ (here (goal.at.operand_key-requires c).After-shared_slice_known-in-loop-i-1), omega arith)
+    (p.0, p.1.small _ (here c.loop-i.i c.requires.1 c.loop-i-test.true c.loop-i.invariant.1), p.2 _ (here c.loop-i.i c.requires.1 c.loop-i-test.true c.loop-i.invariant.1), omega arith)
 
 pub put-requires : goal.put-requires
 put-requires c = c.operand_key.ensures.0
@@ -36,7 +33,7 @@ loop-i-preserved c =
       search rules,
       search rules,
       λ ys n M.
-          let m = M _ (here (goal.at.loop-i-preserved c).After-shared_slice_known-in-loop-i-1) in
+          let m = M _ (here c.loop-i.i c.requires.1 c.loop-i-test.true c.loop-i.invariant.1) in
           each_before (stepped_key c.args.canon.now (table_of c.args.kinds.now c.args.a.now ys n)) c.args.codes.now l.i c.args.to _ (omega arith) (omega arith) c.requires.1.long
           (rw m.is (c.operand_key.ensures.1 ys n m.inside))
           (c.put.ensures _ (l.invariant.2 ys n M)),

@@ -22,17 +22,14 @@ use Rattle.operand_rules.proofs.and_kept.Goals.{After-is_side_plus, Else-kinds-e
 told : (c : Else-kinds-entry_of-ne-AND) → let a = c.args in Operands a.kinds.now a.a.now a.b.now a.size (entry_of_lem a.principal)
 told c = and_operands c.requires c.entry_of.ensures c.if-kinds-entry_of-ne-AND.false
 
--- the table that the function is lent
-abbrev table : tie.Start → Table
-table s = table_of s.args.kinds.now s.args.a.now s.args.b.now s.args.size
-
 -- what the test of the first child's sequent says
-first : (c : After-is_side_plus) → (l m : List ℕ) → Side (table c.before.before.before.before.before-LEFT-After-entry_of) c.args.side.now c.args.principal l → HoldsKeys (table c.before.before.before.before.before-LEFT-After-entry_of) c.args.first.now m
-    → c.is_side_plus.result ≡ same (each (key (table c.before.before.before.before.before-LEFT-After-entry_of)) m)
-    (key (table c.before.before.before.before.before-LEFT-After-entry_of) (code (target_a (table c.before.before.before.before.before-LEFT-After-entry_of) (entry_of_lem c.args.principal)) (c.args.principal % 2)) ∷ remove (key (table c.before.before.before.before.before-LEFT-After-entry_of) c.args.principal) (each (key (table c.before.before.before.before.before-LEFT-After-entry_of)) l))
+first : (c : After-is_side_plus) → let a = c.args in
+    let t = table_of a.kinds.now a.a.now a.b.now a.size in
+    (l m : List ℕ) → Side t a.side.now a.principal l → HoldsKeys t a.first.now m
+    → c.is_side_plus.result
+    ≡ same (each (key t) m) (key t (code (target_a t (entry_of_lem a.principal)) (a.principal % 2)) ∷ remove (key t a.principal) (each (key t) l))
 first c l m S M =
-    let c.before.before.before.before.before-LEFT-After-entry_of = c.before.before.before.before.before-LEFT-After-entry_of in
-    let k = told c.before.before-LEFT-Else-kinds-entry_of-ne-AND in
+    let k = and_operands c.requires c.entry_of.ensures c.if-kinds-entry_of-ne-AND.false in
     let a_key = c.operand_key-of_a.ensures.1 c.args.b.now c.args.size k.a.inside ∙ operand_member c.requires k.a (omega arith) in
     rw (← a_key) (c.is_side_plus.ensures _ _ S.holds M)
 

@@ -28,7 +28,7 @@ operand_key-right-requires c =
 pub returns : goal.returns
 unfolding Kept sides keys
 returns c l m S M =
-    let k = told (goal.at.returns c).After-t14-1 in
+    let k = told (goal.at.returns c).Else-kinds-entry_of-ne-OR in
     let a_key = c.operand_key-left.ensures.1 c.args.b.now c.args.size k.a.inside ∙ operand_member c.requires k.a (omega arith) in
     let b-key = c.operand_key-right.ensures.1 c.args.b.now c.args.size k.b.inside ∙ operand_member c.requires k.b (omega arith) in
     rw (

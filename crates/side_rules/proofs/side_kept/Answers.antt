@@ -31,10 +31,10 @@ pub focus_kept-requires-in-9 : goal.focus_kept-requires-in-9
 focus_kept-requires-in-9 c = let C = c.requires.0 in (C.numbers.narrow, omega (arith, C.inside, C.small), omega arith)
 
 pub returns-in-5 : goal.returns-in-5
-returns-in-5 c l m S M = c.fixpoint_kept.ensures l m S M ∙ tested_mu _ _ c.in-5.keys1
+returns-in-5 c l m S M = c.fixpoint_kept.ensures l m S M ∙ tested_mu _ _ c.in-5.is
 
 pub returns-in-6 : goal.returns-in-6
-returns-in-6 c l m S M = c.fixpoint_kept-in-6.ensures l m S M ∙ tested_nu _ _ c.in-6.keys2
+returns-in-6 c l m S M = c.fixpoint_kept-in-6.ensures l m S M ∙ tested_nu _ _ c.in-6.is
 
 pub returns-in-7 : goal.returns-in-7
 unfolding weaken_kept sides keys
@@ -42,16 +42,15 @@ returns-in-7 c l m S M =
     let a = c.args in
     let t = table_of a.kinds.now a.a.now a.b.now a.size in
     let w : c.same.result ≡ weaken_kept t (family a.principal l m []) 0 = rw (belongs_so t a.principal l m [] S.belongs) (c.same.ensures _ _ M S.holds) in
-    w ∙ tested_w _ _ c.in-7.keys3
+    w ∙ tested_w _ _ c.in-7.is
 
 pub returns-in-8 : goal.returns-in-8
-returns-in-8 c l m S M = let C = c.requires.0 in c.focus_kept.ensures _ C.numbers (inside C) l m S M ∙ tested_f _ _ c.in-8.keys4
+returns-in-8 c l m S M = let C = c.requires.0 in c.focus_kept.ensures _ C.numbers (inside C) l m S M ∙ tested_f _ _ c.in-8.is
 
 pub returns-in-9 : goal.returns-in-9
-returns-in-9 c l m S M = let C = c.requires.0 in c.focus_kept-in-9.ensures _ C.numbers (inside C) l m S M ∙ tested_u _ _ c.in-9.keys5
+returns-in-9 c l m S M = let C = c.requires.0 in c.focus_kept-in-9.ensures _ C.numbers (inside C) l m S M ∙ tested_u _ _ c.in-9.is
 
 pub returns-in_default : goal.returns-in_default
 returns-in_default c l m S M =
     let p = c.requires in
-    let n = c.in_default.rest in
-    absurd (omega (arith, p.1, p.2, n))
+    absurd (omega (arith, p.1, p.2))
