@@ -28,5 +28,4 @@ fill_all-requires c =
 
 pub returns : goal.returns
 returns c =
-    -- t6: the successor table, which came by value
-    first_written c.requires.given c.args.masks.now c.args.t6 _ _ c.fill_all.ensures
+    first_written c.requires.given c.args.masks.now c.args.marks _ _ c.fill_all.ensures

@@ -6,6 +6,7 @@ use borrow.Author.Rules.{rules}
 use Rattle.states.specs.BitLaws.{read_set, read_clear}
 use Rattle.states.specs.Rows.{RowWords, words_none, words_pass, words_more}
 use Rattle.successors.proofs.row_words.Goals as goal
+use Rattle.successors.proofs.row_words.Goals.{then-used-a-eq1, else-used-a-eq1}
 
 pub loop-a-init : goal.loop-a-init
 loop-a-init c = (omega arith, words_none _ _ _ _)
@@ -18,11 +19,12 @@ action_rows-requires c =
 
 pub loop-a-preserved : goal.loop-a-preserved
 loop-a-preserved c =
-    let turn = c.loop-a in
-    (
+    let turn = c.loop-a in (
       omega arith,
-      ⊎_elim (λ w. rw w.5 (words_more turn.invariant.1 c.requires.0 (read_set c.args.used turn.a w.0.taken) _ w.2.ensures))
-          (λ w. rw w.1 (words_pass turn.invariant.1 (read_clear c.args.used turn.a w.0.left))) c.if-used-a-eq1.branch,
+      elim c.if-used-a-eq1.branch [
+        | then-used-a-eq1 w ↦ rw w.rows-is (words_more turn.invariant.1 c.requires.0 (read_set c.args.used turn.a w.if-used-a-eq1.true) _ w.action_rows.ensures)
+        | else-used-a-eq1 w ↦ rw w.rows-is (words_pass turn.invariant.1 (read_clear c.args.used turn.a w.if-used-a-eq1.false))
+      ],
     )
 
 pub shape_of-rows : goal.shape_of-rows
