@@ -1,0 +1,26 @@
+-- entry evaluation and fixpoint iteration: twice the entry number falls from call to call, an entry before its iteration
+use Prim.Native.Nat.{◌+◌, ◌*◌}
+use lib.ListN.{get_or}
+use Rattle.dependencies.specs.Operands.{fix_of}
+use Rattle.entry_sets.specs.Sets.{Lowest}
+use Rattle.blocks.specs.Turn.{Iterating, ahead}
+use Rattle.settling.specs.Evaluated.{Meeting, unmet}
+use Rattle.settling.proofs.+eval_entry_iterate.Given as goal
+
+abbrev pub decreases-eval_entry : goal.decreases-eval_entry
+decreases-eval_entry l = 2 * l.e + 1
+
+abbrev pub decreases-iterate : goal.decreases-iterate
+decreases-iterate l = 2 * l.x
+
+abbrev pub invariant-iterate-loop-c : goal.invariant-iterate-loop-c
+invariant-iterate-loop-c l = Meeting l.kinds l.a l.b l.masks l.rows l.size l.x l.initial.done l.words l.done l.block l.met × Lowest l.met l.c
+
+abbrev pub decreases-iterate-loop-c : goal.decreases-iterate-loop-c
+decreases-iterate-loop-c l = unmet l.kinds l.a l.b l.masks l.rows l.size l.block l.met
+
+abbrev pub invariant-iterate-loop-e : goal.invariant-iterate-loop-e
+invariant-iterate-loop-e l = Iterating l.kinds l.a l.b l.masks l.rows l.size (fix_of (get_or l.kinds l.x 0)) l.done l.block l.words l.waiting × Lowest l.waiting l.e
+
+abbrev pub decreases-iterate-loop-e : goal.decreases-iterate-loop-e
+decreases-iterate-loop-e l = ahead l.kinds l.a l.b l.masks l.rows l.size (fix_of (get_or l.kinds l.x 0)) l.done l.block l.words l.waiting
