@@ -18,7 +18,7 @@ ax2_kept-requires c = let p = c.requires in (p.0.numbers.narrow, placed p.0 _ p.
 pub same_sequent-requires : goal.same_sequent-requires
 same_sequent-requires c =
     let p = c.requires in
-    (p.0.numbers.narrow, rw c.wide.ensures (first_placed p.0 _ p.1 (omega (arith, c.in-10.keys3)) (omega (arith, c.in-10.keys3))), placed p.0 _ p.1)
+    (p.0.numbers.narrow, rw c.wide.ensures (first_placed p.0 _ p.1 (omega (arith, c.in-10.is)) (omega (arith, c.in-10.is))), placed p.0 _ p.1)
 
 pub returns-in-0 : goal.returns-in-0
 returns-in-0 c =
@@ -26,7 +26,7 @@ returns-in-0 c =
     let a = c.args in
     c.ax1_kept.ensures a.b.now a.count (key_entries p.0 a.v p.1)
     ∙ ap (clash (table_of a.kinds.now a.a.now a.b.now a.count)) (keys_here p.0 a.v p.1)
-    ∙ keeps_ax1_here p.0 _ p.1 _ c.in-0.keys1
+    ∙ keeps_ax1_here p.0 _ p.1 _ c.in-0.is
 
 pub returns-in-1 : goal.returns-in-1
 returns-in-1 c =
@@ -34,13 +34,13 @@ returns-in-1 c =
     let a = c.args in
     c.ax2_kept.ensures a.a.now a.b.now a.count (key_entries p.0 a.v p.1)
     ∙ ap (truth (table_of a.kinds.now a.a.now a.b.now a.count)) (keys_here p.0 a.v p.1)
-    ∙ keeps_ax2_here p.0 _ p.1 _ c.in-1.keys2
+    ∙ keeps_ax2_here p.0 _ p.1 _ c.in-1.is
 
 pub returns-in-10 : goal.returns-in-10
 returns-in-10 c =
     let p = c.requires in
     let a = c.args in
-    let d = c.in-10.keys3 in
+    let d = c.in-10.is in
     rw c.wide.ensures at c.same_sequent.ensures
     ∙ ap₂ {C = Bool} same (first_keys_lem p.0 a.v p.1 (omega (arith, d)) (omega (arith, d))) (keys_here p.0 a.v p.1)
     ∙ keeps_d_here p.0 _ p.1 _ d
