@@ -23,10 +23,10 @@ use Rattle.fitting.proofs.rest_fits.Goals as goal
 use Rattle.fitting.proofs.rest_fits.Goals.{After-has, Start}
 
 -- the table that the function is lent
-abbrev table : tie.Start → Table
+abbrev table : Start → Table
 table s = table_of s.args.kinds.now s.args.a.now s.args.b.now s.args.entries
 
-abbrev found : tie.Start → List ℕ
+abbrev found : Start → List ℕ
 found s = part s.args.rest.now 0 s.args.count
 
 of_and : (s : Start) → kind (table s) s.args.entry ≡ Kind.AND
@@ -42,14 +42,14 @@ is_formula s = record {
 }
 
 -- whether the entry is a member of the rest
-told : (c : After-has) → c.has.result ≡ holds (table c.before.before.before.before.before.before.before-LEFT-Start) (found c.before.before.before.before.before.before.before-LEFT-Start) c.args.entry
+told : (c : After-has) → c.has.result ≡ holds (table c.before-LEFT-Start) (found c.before-LEFT-Start) c.args.entry
 told c =
-    let c.before.before.before.before.before.before.before-LEFT-Start = c.before.before.before.before.before.before.before-LEFT-Start in
+    let c.before-LEFT-Start = c.before-LEFT-Start in
     let N = c.requires.0.numbers in
-    let here = c.key.ensures.1 ∙ ap (focusAt c.args.canon.now) c.wide.ensures ∙ key_at_lem N c.args.entry 1 (is_formula c.before.before.before.before.before.before.before-LEFT-Start).inside in
-    c.has.ensures (each (focusAt c.args.canon.now) (found c.before.before.before.before.before.before.before-LEFT-Start)) c.put_goal.ensures
-    ∙ ap₂ {C = Bool} member (column_keys (table c.before.before.before.before.before.before.before-LEFT-Start) N (found c.before.before.before.before.before.before.before-LEFT-Start) (inside c.before.before.before.before.before.before.before-LEFT-Start)) here
-    ∙ focused_holds (table c.before.before.before.before.before.before.before-LEFT-Start) (found c.before.before.before.before.before.before.before-LEFT-Start) c.args.entry
+    let here = c.key.ensures.1 ∙ ap (focusAt c.args.canon.now) c.wide.ensures ∙ key_at_lem N c.args.entry 1 (is_formula c.before-LEFT-Start).inside in
+    c.has.ensures (each (focusAt c.args.canon.now) (found c.before-LEFT-Start)) c.put_goal.ensures
+    ∙ ap₂ {C = Bool} member (column_keys (table c.before-LEFT-Start) N (found c.before-LEFT-Start) (inside c.before-LEFT-Start)) here
+    ∙ focused_holds (table c.before-LEFT-Start) (found c.before-LEFT-Start) c.args.entry
 
 pub put_goal-requires : goal.put_goal-requires
 put_goal-requires c =

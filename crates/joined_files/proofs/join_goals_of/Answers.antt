@@ -16,9 +16,10 @@ use Rattle.joined_files.specs.Wholly.{wholly_refused, wholly_as}
 use Rattle.joined_files.specs.Ready.{laid_down}
 use Rattle.joined_files.specs.Paired.{unfit, fit, goals_given, goal_count, longer, ready}
 use Rattle.joined_files.proofs.join_goals_of.Goals as goal
+use Rattle.joined_files.proofs.join_goals_of.Goals.{Start}
 
 -- the table, the two goals, and the nodes of the two proofs
-module _ (s : tie.Start) where
+module _ (s : Start) where
   abbrev table : Table
   table = table_of s.args.kinds.now s.args.a.now s.args.b.now s.args.entries
 

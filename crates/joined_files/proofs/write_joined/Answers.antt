@@ -15,10 +15,10 @@ use Rattle.nodes.specs.ProofDecode.{proof_in, nodes_at_length}
 use Rattle.joined_files.specs.Wholly.{wholly_refused, wholly_good}
 use Rattle.joined_files.specs.Ready.{HalfProof, too_many, claim_short, proof_short, both_fit, proof_long, claim_is, one_goal_room}
 use Rattle.joined_files.proofs.write_joined.Goals as goal
-use Rattle.joined_files.proofs.write_joined.Goals.{After-node_count-2, Else-node_count-gt1024}
+use Rattle.joined_files.proofs.write_joined.Goals.{After-node_count-2, Else-node_count-gt1024, Start}
 
 -- the table, the joined goal, and the nodes of the two proofs
-module _ (s : tie.Start) where
+module _ (s : Start) where
   abbrev table : Table
   table = table_of s.args.kinds.now s.args.a.now s.args.b.now s.args.entries
 
@@ -32,14 +32,14 @@ module _ (s : tie.Start) where
   second = proof_in s.args.second.now 6
 
 -- how many nodes there are
-counted : (c : After-node_count-2) → (c.node_count.result ≡ length (first c.before.before.before.before.before.before-LEFT-Start)) × (c.node_count-2.result ≡ length (second c.before.before.before.before.before.before-LEFT-Start))
+counted : (c : After-node_count-2) → (c.node_count.result ≡ length (first c.before-LEFT-Start)) × (c.node_count-2.result ≡ length (second c.before-LEFT-Start))
 counted c = (c.node_count.ensures 6, c.node_count-2.ensures 6)
 
 most : {t : List ℕ} → HalfProof t → length (proof_in t 6) ≤ 1024
 most {t} h = omega (arith, nodes_at_length t 6 (word_at t 4), h.tree.decodes.few)
 
 -- not too many
-few : (c : Else-node_count-gt1024) → length (first c.before.before.before.before.before.before.before-LEFT-Start) + length (second c.before.before.before.before.before.before.before-LEFT-Start) + 1 ≤ 1024
+few : (c : Else-node_count-gt1024) → length (first c.before-LEFT-Start) + length (second c.before-LEFT-Start) + 1 ≤ 1024
 few c = omega (arith, c.if-node_count-gt1024.false, (counted c.before-LEFT-After-node_count-2).0, (counted c.before-LEFT-After-node_count-2).1)
 
 pub node_count-requires : goal.node_count-requires

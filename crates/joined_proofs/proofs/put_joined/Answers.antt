@@ -13,81 +13,79 @@ use Rattle.joining.specs.Joined.{proof_bytes, joined_root, joined_nodes}
 use Rattle.joined_proofs.specs.Parts.{opening_bytes, tree_bytes, joined_parts, joined_parts_lem, joined_fits}
 use borrow.Author.Rules.{rules}
 use Rattle.joined_proofs.proofs.put_joined.Goals as goal
+use Rattle.joined_proofs.proofs.put_joined.Goals.{After-copy_nodes-next, After-node_count-others, After-open_proof, After-put_root-at, Start}
 
 -- once the nodes are counted: what is to be stored
-module _ (c : tie.After-node-count2) where
-  abbrev s : tie.Start
-  s = c.before.before.before.before.before
-
+module _ (c : After-node_count-others) where
   abbrev out : List ℕ
-  out = s.args.out.now
+  out = c.args.out.now
 
   abbrev members : List ℕ
-  members = take s.args.count s.args.members.now
+  members = take c.args.count c.args.members.now
 
   abbrev first : Proof
-  first = proof_in s.args.first.now 6
+  first = proof_in c.args.first.now 6
 
   abbrev second : Proof
-  second = proof_in s.args.second.now 6
+  second = proof_in c.args.second.now 6
 
   abbrev nodes : ℕ
-  nodes = c.before.node_count.result
+  nodes = c.node_count-nodes.result
 
   abbrev others : ℕ
   others = c.node-count2.result
 
   nodes-are : nodes ≡ length first
-  nodes-are = c.before.node_count.ensures 6
+  nodes-are = c.node_count-nodes.ensures 6
 
   others-are : others ≡ length second
   others-are = c.node-count2.ensures 6
 
   few : nodes + others ≤ 1023
-  few = omega (arith, nodes-are, others-are, s.pre.4)
+  few = omega (arith, nodes-are, others-are, c.requires.4)
 
   abbrev opening : List ℕ
   opening = opening_bytes nodes others
 
   abbrev root : List ℕ
-  root = encode_node (joined_root s.args.entry members nodes)
+  root = encode_node (joined_root c.args.entry members nodes)
 
   abbrev trees : List ℕ
   trees = tree_bytes 1 first ++ tree_bytes (nodes + 1) second
 
   abbrev whole : List ℕ
-  whole = joined_parts s.args.entry members first second nodes others
+  whole = joined_parts c.args.entry members first second nodes others
 
-  whole-file : whole ≡ proof_bytes (joined_nodes s.args.entry members first second)
-  whole-file = joined_parts_lem s.args.entry members first second nodes-are others-are
+  whole-file : whole ≡ proof_bytes (joined_nodes c.args.entry members first second)
+  whole-file = joined_parts_lem c.args.entry members first second nodes-are others-are
 
   all_fit : 0 + length whole ≤ length out
-  all_fit = joined_fits s.args.entry members first second nodes-are others-are out s.pre.5
+  all_fit = joined_fits c.args.entry members first second nodes-are others-are out c.requires.5
 
 -- what is left after the opening, after the root, after the first tree
-module _ (c : tie.After-open-proof) where
-  abbrev opened : tie.After-node-count2
-  opened = c.before.before
+module _ (c : After-open_proof) where
+  abbrev opened : After-node_count-others
+  opened = c.before
 
   opening_left : Left (whole opened) 0 (out opened) (root opened ++ trees opened) 6 c.open-proof.new.0
   opening_left = less_left (opening opened) (root opened ++ trees opened) (all_left (whole opened) (out opened) 0) c.open-proof.ensures
 
-module _ (c : tie.After-put-root) where
-  abbrev rooted : tie.After-node-count2
-  rooted = opened c.before.before.before.before
+module _ (c : After-put_root-at) where
+  abbrev rooted : After-node_count-others
+  rooted = opened c.before
 
   root-left : Left (whole rooted) 0 (out rooted) (trees rooted) c.put-root.result c.put-root.new.0
-  root-left = less_left (root rooted) (trees rooted) (opening_left c.before.before.before.before) c.put-root.ensures
+  root-left = less_left (root rooted) (trees rooted) (opening_left c.before) c.put-root.ensures
 
-module _ (c : tie.After-copy-nodes) where
-  abbrev copied : tie.After-node-count2
-  copied = rooted c.before.before.before.before
+module _ (c : After-copy_nodes-next) where
+  abbrev copied : After-node_count-others
+  copied = rooted c.before
 
   abbrev last-tree : List ℕ
   last-tree = tree_bytes (nodes copied + 1) (second copied)
 
   first-left : Left (whole copied) 0 (out copied) last-tree c.copy-nodes.result c.copy-nodes.new.1.1.0
-  first-left = less_left (tree_bytes 1 (first copied)) last-tree (root-left c.before.before.before.before) c.copy-nodes.ensures
+  first-left = less_left (tree_bytes 1 (first copied)) last-tree (root-left c.before) c.copy-nodes.ensures
 
 pub overflow_add-nodes : goal.overflow_add-nodes
 overflow_add-nodes c = omega (arith, few (goal.at.overflow_add-nodes c).After-node_count-others)

@@ -12,23 +12,21 @@ use Rattle.joining.specs.Joined.{joined_root}
 use borrow.Author.Rules.{rules}
 use Rattle.joined_proofs.specs.Focusing.{focused_long, root_node}
 use Rattle.joined_proofs.proofs.put_root.Goals as goal
+use Rattle.joined_proofs.proofs.put_root.Goals.{After-put_focused, Start}
 
 -- once the codes stand
-module _ (c : tie.After-put-focused) where
-  abbrev s : tie.Start
-  s = c.before.before.before.before
-
+module _ (c : After-put_focused) where
   abbrev codes : List ℕ
   codes = c.put-focused.new.1.1.0
 
   still-24 : length codes ≡ 24
-  still-24 = focused_long s.pre.0 (replicate 24 0) c.put-focused.ensures (length-replicate {A = ℕ} 24 0)
+  still-24 = focused_long c.requires.0 (replicate 24 0) c.put-focused.ensures (length-replicate {A = ℕ} 24 0)
 
   abbrev root : Node
-  root = joined_root s.args.entry (take s.args.count s.args.members.now) s.args.nodes
+  root = joined_root c.args.entry (take c.args.count c.args.members.now) c.args.nodes
 
-  root_is : node_at Rule.AND (c.before.before.code_of_lem.result ∷ 1 ∷ (s.args.nodes + 1) ∷ 0 ∷ []) 0 codes 0 s.args.count ≡ root
-  root_is = root_node s.pre.0 (replicate 24 0) c.put-focused.ensures s.args.entry s.args.nodes c.before.before.code_of_lem.ensures.1
+  root_is : node_at Rule.AND (c.code_of_lem.result ∷ 1 ∷ (c.args.nodes + 1) ∷ 0 ∷ []) 0 codes 0 c.args.count ≡ root
+  root_is = root_node c.requires.0 (replicate 24 0) c.put-focused.ensures c.args.entry c.args.nodes c.code_of_lem.ensures.1
 
 pub slice_bounds-put_node-end-2 : goal.slice_bounds-put_node-end-2
 slice_bounds-put_node-end-2 c = sym (still-24 (goal.at.slice_bounds-put_node-end-2 c).After-put_focused)
@@ -36,10 +34,10 @@ slice_bounds-put_node-end-2 c = sym (still-24 (goal.at.slice_bounds-put_node-end
 pub put_node-requires : goal.put_node-requires
 put_node-requires c =
     let given = s (goal.at.put_node-requires c).After-put_focused in (
-      subst (λ (x : Node). Fits given.args.out.now 6 (encode_node x)) (sym (root_is (goal.at.put_node-requires c).After-put_focused)) given.pre.3,
+      subst (λ (x : Node). Fits given.args.out.now 6 (encode_node x)) (sym (root_is (goal.at.put_node-requires c).After-put_focused)) given.requires.3,
       omega arith,
-      omega (arith, still-24 (goal.at.put_node-requires c).After-put_focused, given.pre.0.few),
-      given.pre.0.few,
+      omega (arith, still-24 (goal.at.put_node-requires c).After-put_focused, given.requires.0.few),
+      given.requires.0.few,
     )
 
 pub returns : goal.returns

@@ -11,29 +11,27 @@ use Rattle.joiner.specs.Reading.{both_read, paired, other_entries, one_table, on
 use Rattle.std.proofs.Common.{ap}
 use Rattle.std.specs.Prelude.{not}
 use Rattle.joiner.proofs.join_accepted.Goals as goal
+use Rattle.joiner.proofs.join_accepted.Goals.{After-shared_slice_known-4-1, Start}
 
 -- the four lent files, and that both inputs are accepted
-module _ (c : tie.After-shared-slice-known4) where
-  abbrev start : tie.Start
-  start = c.before.before.before.before
+module _ (c : After-shared_slice_known-4-1) where
+  claim_bytes_lem : Bytes c.args.claim1.now
+  claim_bytes_lem = lent_bytes _ c.shared_slice_known-1.given
 
-  claim_bytes_lem : Bytes start.args.claim1.now
-  claim_bytes_lem = lent_bytes _ c.before.before.before.shared-slice-known.given
+  proof_bytes_lem : Bytes c.args.proof1.now
+  proof_bytes_lem = lent_bytes _ c.shared_slice_known-2-1.given
 
-  proof_bytes_lem : Bytes start.args.proof1.now
-  proof_bytes_lem = lent_bytes _ c.before.before.shared-slice-known2.given
+  other-claim-bytes : Bytes c.args.claim2.now
+  other-claim-bytes = lent_bytes _ c.shared_slice_known-3-1.given
 
-  other-claim-bytes : Bytes start.args.claim2.now
-  other-claim-bytes = lent_bytes _ c.before.shared-slice-known3.given
-
-  other-proof-bytes : Bytes start.args.proof2.now
+  other-proof-bytes : Bytes c.args.proof2.now
   other-proof-bytes = lent_bytes _ c.shared-slice-known4.given
 
-  first : CorrectHalf start.args.claim1.now start.args.proof1.now
-  first = (half_accepts _ _ claim_bytes_lem proof_bytes_lem).0 start.pre.0
+  first : CorrectHalf c.args.claim1.now c.args.proof1.now
+  first = (half_accepts _ _ claim_bytes_lem proof_bytes_lem).0 c.requires.0
 
-  second : CorrectHalf start.args.claim2.now start.args.proof2.now
-  second = (half_accepts _ _ other-claim-bytes other-proof-bytes).0 start.pre.1
+  second : CorrectHalf c.args.claim2.now c.args.proof2.now
+  second = (half_accepts _ _ other-claim-bytes other-proof-bytes).0 c.requires.1
 
 pub same_entries-requires : goal.same_entries-requires
 same_entries-requires c =
@@ -48,8 +46,8 @@ returns-then-not-same_entries c =
     let other = c.read_half-other_entries.ensures y.correct.read.claim y.correct.formed.claim_formed y.one in
     let differ = sym (not-true c.same_entries.result (ap not c.if-not-same_entries.true)) ∙ c.same_entries.ensures in
     wholly_refused
-    (both_read x y (claim_bytes_lem (goal.at.returns-then-not-same_entries c).After-shared_slice_known-4-1) (proof_bytes_lem (goal.at.returns-then-not-same_entries c).After-shared_slice_known-4-1) (other-claim-bytes (goal.at.returns-then-not-same_entries c).After-shared_slice_known-4-1) (other-proof-bytes (goal.at.returns-then-not-same_entries c).After-shared_slice_known-4-1) (start (goal.at.returns-then-not-same_entries c).After-shared_slice_known-4-1).args.entry _ _
-    ∙ other_entries x y held other (start (goal.at.returns-then-not-same_entries c).After-shared_slice_known-4-1).args.entry (length (start (goal.at.returns-then-not-same_entries c).After-shared_slice_known-4-1).args.claim.now) (length (start (goal.at.returns-then-not-same_entries c).After-shared_slice_known-4-1).args.proof.now) differ)
+    (both_read x y (claim_bytes_lem (goal.at.returns-then-not-same_entries c).After-shared_slice_known-4-1) (proof_bytes_lem (goal.at.returns-then-not-same_entries c).After-shared_slice_known-4-1) (other-claim-bytes (goal.at.returns-then-not-same_entries c).After-shared_slice_known-4-1) (other-proof-bytes (goal.at.returns-then-not-same_entries c).After-shared_slice_known-4-1) c.args.entry _ _
+    ∙ other_entries x y held other c.args.entry (length c.args.claim.now) (length c.args.proof.now) differ)
     c.refuse.ensures
 
 pub join_goals_of-requires : goal.join_goals_of-requires
@@ -60,7 +58,7 @@ join_goals_of-requires c =
     let other = c.read_half-other_entries.ensures y.correct.read.claim y.correct.formed.claim_formed y.one in
     let same = sym (not-false c.same_entries.result (ap not c.if-not-same_entries.false)) ∙ c.same_entries.ensures in
     rw (c.wide.ensures, c.wide-2.ensures, c.wide-3.ensures, c.wide-4.ensures) (
-    paired x y held other (one_table x y held other (start (goal.at.join_goals_of-requires c).After-shared_slice_known-4-1).args.entry (length (start (goal.at.join_goals_of-requires c).After-shared_slice_known-4-1).args.claim.now) (length (start (goal.at.join_goals_of-requires c).After-shared_slice_known-4-1).args.proof.now) same)
+    paired x y held other (one_table x y held other c.args.entry (length c.args.claim.now) (length c.args.proof.now) same)
     )
 
 pub returns : goal.returns
@@ -71,6 +69,6 @@ returns c =
     let other = c.read_half-other_entries.ensures y.correct.read.claim y.correct.formed.claim_formed y.one in
     let same = sym (not-false c.same_entries.result (ap not c.if-not-same_entries.false)) ∙ c.same_entries.ensures in
     wholly_as
-    (both_read x y (claim_bytes_lem (goal.at.returns c).After-shared_slice_known-4-1) (proof_bytes_lem (goal.at.returns c).After-shared_slice_known-4-1) (other-claim-bytes (goal.at.returns c).After-shared_slice_known-4-1) (other-proof-bytes (goal.at.returns c).After-shared_slice_known-4-1) (start (goal.at.returns c).After-shared_slice_known-4-1).args.entry _ _
-    ∙ one_fitted x y held other (start (goal.at.returns c).After-shared_slice_known-4-1).args.entry (length (start (goal.at.returns c).After-shared_slice_known-4-1).args.claim.now) (length (start (goal.at.returns c).After-shared_slice_known-4-1).args.proof.now) same)
+    (both_read x y (claim_bytes_lem (goal.at.returns c).After-shared_slice_known-4-1) (proof_bytes_lem (goal.at.returns c).After-shared_slice_known-4-1) (other-claim-bytes (goal.at.returns c).After-shared_slice_known-4-1) (other-proof-bytes (goal.at.returns c).After-shared_slice_known-4-1) c.args.entry _ _
+    ∙ one_fitted x y held other c.args.entry (length c.args.claim.now) (length c.args.proof.now) same)
     (rw (c.wide.ensures, c.wide-2.ensures, c.wide-3.ensures, c.wide-4.ensures) at c.join_goals_of.ensures)

@@ -16,10 +16,10 @@ room : (s : Start) {f : Form} → named_form s.args.form ≡ f → Fits s.args.o
 room s e = subst (λ (f : Form). Fits s.args.out.now 0 (claim_opening f ++ encode_two s.args.count)) e s.requires.0
 
 pub put_opening-requires : goal.put_opening-requires
-put_opening-requires c = (omega (arith, room (goal.at.put_opening-requires c).After-put_opening-arg-then-form-eq-CLM2-5-1 (names_several c.if-form-eq-CLM2.true)), c.requires.1)
+put_opening-requires c = (omega (arith, room (goal.at.put_opening-requires c).Start (names_several c.if-form-eq-CLM2.true)), c.requires.1)
 
 pub put_opening-requires-else-form-eq-CLM2 : goal.put_opening-requires-else-form-eq-CLM2
-put_opening-requires-else-form-eq-CLM2 c = (omega (arith, room (goal.at.put_opening-requires-else-form-eq-CLM2 c).After-put_opening-arg-else-form-eq-CLM2-6-1 (names_one c.if-form-eq-CLM2.false)), c.requires.1)
+put_opening-requires-else-form-eq-CLM2 c = (omega (arith, room (goal.at.put_opening-requires-else-form-eq-CLM2 c).Start (names_one c.if-form-eq-CLM2.false)), c.requires.1)
 
 pub returns-then-form-eq-CLM2 : goal.returns-then-form-eq-CLM2
 returns-then-form-eq-CLM2 c = rw (names_several c.if-form-eq-CLM2.true) (record { place = refl; stored = c.put_opening.ensures })

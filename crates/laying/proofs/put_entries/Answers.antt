@@ -8,37 +8,35 @@ use Rattle.writing.specs.Spelling.{spelled_as}
 use Rattle.laying.specs.Laying.{Left, entries_left, entries_begin, entries_step, entries_end_lem, less_left, none_left, room_left}
 use borrow.Author.Rules.{rules}
 use Rattle.laying.proofs.put_entries.Goals as goal
+use Rattle.laying.proofs.put_entries.Goals.{In-loop-i}
 
 -- in a turn: this entry, and what comes after it
-module _ (c : tie.In-loop invariant-loop decreases-loop) where
-  abbrev s : tie.Start invariant-loop decreases-loop
-  s = c.before.before.before
-
+module _ (c : In-loop-i) where
   abbrev i : ℕ
-  i = c.before.loop.i
+  i = c.loop-i.i
 
   abbrev this : Spelled
-  this = spelled_as (plain_entry s.args.kinds.now s.args.a.now s.args.b.now i)
+  this = spelled_as (plain_entry c.args.kinds.now c.args.a.now c.args.b.now i)
 
   abbrev left : ℕ → ℕ → List ℕ
-  left = entries_left s.args.kinds.now s.args.a.now s.args.b.now
+  left = entries_left c.args.kinds.now c.args.a.now c.args.b.now
 
   abbrev after : List ℕ
-  after = left (i + 1) (s.args.count - (i + 1))
+  after = left (i + 1) (c.args.count - (i + 1))
 
-  this_left : Left (left 0 s.args.count) 6 s.args.out.now (encode_entry this ++ after) c.before.loop.at c.before.loop.out
-  this_left = rw (← (entries_step s.args.kinds.now s.args.a.now s.args.b.now s.args.count i c.loop-test.true)) c.before.loop.invariant.1
+  this_left : Left (left 0 c.args.count) 6 c.args.out.now (encode_entry this ++ after) c.loop-i.at c.loop-i.out
+  this_left = rw (← (entries_step c.args.kinds.now c.args.a.now c.args.b.now c.args.count i c.loop-i-test.true)) c.loop-i.invariant.1
 
 pub loop-i-init : goal.loop-i-init
 loop-i-init c = let entry = c.args in (omega arith, entries_begin entry.kinds.now entry.a.now entry.b.now entry.count entry.out.now)
 
 pub put_entry-at-requires : goal.put_entry-at-requires
 put_entry-at-requires c =
-    room_left (encode_entry (this (goal.at.put_entry-at-requires c).After-put_entry-arg-in-loop-i-1)) (after (goal.at.put_entry-at-requires c).After-put_entry-arg-in-loop-i-1) (this_left (goal.at.put_entry-at-requires c).After-put_entry-arg-in-loop-i-1) (s (goal.at.put_entry-at-requires c).After-put_entry-arg-in-loop-i-1).requires.0
+    room_left (encode_entry (this (goal.at.put_entry-at-requires c).In-loop-i)) (after (goal.at.put_entry-at-requires c).In-loop-i) (this_left (goal.at.put_entry-at-requires c).In-loop-i) c.requires.0
 
 pub loop-i-preserved : goal.loop-i-preserved
 loop-i-preserved c =
-    (omega arith, less_left (encode_entry (this (goal.at.loop-i-preserved c).After-put_entry-arg-in-loop-i-1)) (after (goal.at.loop-i-preserved c).After-put_entry-arg-in-loop-i-1) (this_left (goal.at.loop-i-preserved c).After-put_entry-arg-in-loop-i-1) c.put_entry-at.ensures)
+    (omega arith, less_left (encode_entry (this (goal.at.loop-i-preserved c).In-loop-i)) (after (goal.at.loop-i-preserved c).In-loop-i) (this_left (goal.at.loop-i-preserved c).In-loop-i) c.put_entry-at.ensures)
 
 pub shape_of-out : goal.shape_of-out
 shape_of-out c = c.loop-i.invariant.1.long

@@ -1,6 +1,6 @@
 -- The two bytes in front, then the fields whose bits stand in the map, one run behind the other.
 use native.Mathlib.Omega.{arith}
-use mathlib.Core.Path.{sym, ap, subst}
+use mathlib.Core.Path.{◌≡◌, sym, ap, subst}
 use mathlib.Core.List.{List, [], ◌∷◌, ◌++◌}
 use Prim.Native.Nat.{ℕ, ◌+◌}
 use lib.ListN.{set, length-set}
@@ -8,14 +8,13 @@ use Rattle.formula.specs.Spelled.{Spelled, a_stands_lem, b_stands_lem}
 use Rattle.encoding.specs.Encode.{encode_field}
 use Rattle.claim_files.specs.ClaimFile.{encode_entry}
 use Rattle.writing.specs.Spelling.{spelled_as}
-use Rattle.laying.specs.Laying.{Fits, Put, Left, entry_at, all_left, less_left, room_left, left-fits, last_left, head_put, put_as, put_long}
-use borrow.Author.Rules.{rules}
+use Rattle.laying.specs.Laying.{Fits, Put, Left, entry_at, all_left, less_left, room_left, left-fits, last_left, head_put, put_as}
 use Rattle.laying.proofs.put_entry.Goals as goal
 
 -- what is to be stored: map and kind, then the two fields
-module _ (s : tie.Start) where
+module _ (kind a b at : ℕ) (out : List ℕ) where
   abbrev this : Spelled
-  this = spelled_as (entry_at s.args.kind s.args.a s.args.b)
+  this = spelled_as (entry_at kind a b)
 
   abbrev first : List ℕ
   first = encode_field (a_stands_lem this.map) this.a
@@ -24,59 +23,39 @@ module _ (s : tie.Start) where
   second = encode_field (b_stands_lem this.map) this.b
 
   abbrev Rest : List ℕ → ℕ → List ℕ → Type 0
-  Rest left at now = Left (encode_entry this) s.args.at s.args.out.now left at now
+  Rest left place now = Left (encode_entry this) at out left place now
 
--- once the first two bytes are stored
-module _ (c : tie.After-map-for) where
-  abbrev mapped : tie.Start
-  mapped = c.before.before
+  abbrev headed : ℕ → List ℕ
+  headed m = set (set out at m) (at + 1) kind
 
-  abbrev headed : List ℕ
-  headed = set (set mapped.args.out.now mapped.args.at c.map_for.result) (mapped.args.at + 1) mapped.args.kind
+  -- once the first two bytes are stored
+  head-left : (m : ℕ) → m ≡ this.map → Rest (first ++ second) (at + 2) (headed m)
+  head-left m e =
+      less_left (this.map ∷ kind ∷ []) (first ++ second) (all_left (encode_entry this) out at)
+      (put_as (ap (λ (m : ℕ). m ∷ kind ∷ []) e) (head_put out at m kind))
 
-  head-left : Rest mapped (first mapped ++ second mapped) (mapped.args.at + 2) headed
-  head-left =
-      less_left ((this mapped).map ∷ mapped.args.kind ∷ []) (first mapped ++ second mapped)
-      (all_left (encode_entry (this mapped)) mapped.args.out.now mapped.args.at)
-      (put_as (ap (λ (m : ℕ). m ∷ mapped.args.kind ∷ []) c.map_for.ensures) (head_put mapped.args.out.now mapped.args.at c.map_for.result mapped.args.kind))
-
--- once A is
-module _ (c : tie.After-put-field) where
-  abbrev entered : tie.Start
-  entered = mapped c.before.before
-
-  a-left : Rest entered (second entered) c.put-field.result c.put-field.new.0
-  a-left =
-      less_left (first entered) (second entered) (head-left c.before.before)
-      (put_as (ap (λ (m : ℕ). encode_field (a_stands_lem m) entered.args.a) c.before.before.map_for.ensures) c.put-field.ensures)
-
-module _ (c : tie.After-slice-known3) where
-  abbrev so_far : tie.After-put-field
-  so_far = c.before.before.before.before.before.before
-
-  abbrev ended : tie.Start
-  ended = entered so_far
-
-  whole-put : Put ended.args.out.now ended.args.at (encode_entry (this ended)) c.before.before.put-field2.result c.before.before.put-field2.new.0
-  whole-put =
-      last_left (second ended) (a-left so_far)
-      (put_as (ap (λ (m : ℕ). encode_field (b_stands_lem m) ended.args.b) so_far.before.before.map_for.ensures) c.before.before.put-field2.ensures)
+  -- once A is
+  a-left : (m : ℕ) {next : ℕ} {now : List ℕ} → m ≡ this.map → Put (headed m) (at + 2) (encode_field (a_stands_lem m) a) next now → Rest second next now
+  a-left m e p = less_left first second (head-left m e) (put_as (ap (λ (m : ℕ). encode_field (a_stands_lem m) a) e) p)
 
 pub bounds-out-at-2 : goal.bounds-out-at-2
 bounds-out-at-2 c = simp length-set (omega arith)
 
 pub put_field-next-requires : goal.put_field-next-requires
 put_field-next-requires c =
-    let s = mapped (goal.at.put_field-next-requires c).After-map_for-map in
-    let same = ap (λ (m : ℕ). encode_field (a_stands_lem m) s.args.a) c.map_for-map.ensures in
-    subst (Fits (headed (goal.at.put_field-next-requires c).After-map_for-map) (s.args.at + 2)) (sym same) (room_left (first s) (second s) (head-left (goal.at.put_field-next-requires c).After-map_for-map) s.pre)
+    let s = c.args in
+    let e = c.map_for-map.ensures in
+    let same = ap (λ (m : ℕ). encode_field (a_stands_lem m) s.a) e in
+    subst (Fits (headed s.kind s.a s.b s.at s.out.now c.map_for-map.result) (s.at + 2)) (sym same)
+    (room_left (first s.kind s.a s.b s.at s.out.now) (second s.kind s.a s.b s.at s.out.now) (head-left s.kind s.a s.b s.at s.out.now c.map_for-map.result e) c.requires)
 
 pub put_field-requires : goal.put_field-requires
 put_field-requires c =
-    rw c.map_for-map.ensures (left-fits (a-left (goal.at.put_field-requires c).After-put_field-next) (entered (goal.at.put_field-requires c).After-put_field-next).requires)
-
-pub shape_of-out : goal.shape_of-out
-shape_of-out c = put_long (whole-put c)
+    let s = c.args in
+    rw c.map_for-map.ensures (left-fits (a-left s.kind s.a s.b s.at s.out.now c.map_for-map.result c.map_for-map.ensures c.put_field-next.ensures) c.requires)
 
 pub returns : goal.returns
-returns c = whole-put c
+returns c =
+    let s = c.args in
+    last_left (second s.kind s.a s.b s.at s.out.now) (a-left s.kind s.a s.b s.at s.out.now c.map_for-map.result c.map_for-map.ensures c.put_field-next.ensures)
+    (put_as (ap (λ (m : ℕ). encode_field (b_stands_lem m) s.b) c.map_for-map.ensures) c.put_field.ensures)

@@ -7,41 +7,39 @@ use Rattle.laying.specs.Laying.{Left, all_left, less_left, none_left, room_left}
 use Rattle.laying.specs.Goals.{goal_at, goals_left, goals_step, goals_end_lem, MembersLeft, members_step}
 use borrow.Author.Rules.{rules}
 use Rattle.laying.proofs.put_goals.Goals as goal
+use Rattle.laying.proofs.put_goals.Goals.{In-loop-i}
 
 -- in a turn: this goal, and what comes after it
-module _ (c : tie.In-loop invariant-loop decreases-loop) where
-  abbrev s : tie.Start invariant-loop decreases-loop
-  s = c.before.before.before.before.before
-
+module _ (c : In-loop-i) where
   abbrev i : ℕ
-  i = c.before.loop.i
+  i = c.loop-i.i
 
   abbrev start : ℕ
-  start = c.before.loop.start
+  start = c.loop-i.start
 
   abbrev count : ℕ
-  count = get_or s.args.counts.now i 0
+  count = get_or c.args.counts.now i 0
 
   abbrev this : List ℕ
-  this = encode_members (goal_at s.args.members.now start count)
+  this = encode_members (goal_at c.args.members.now start count)
 
   abbrev left : ℕ → ℕ → List ℕ
-  left = goals_left s.args.counts.now s.args.members.now
+  left = goals_left c.args.counts.now c.args.members.now
 
   abbrev after : List ℕ
   after = left (i + 1) (start + count)
 
-  this_left : Left (left 0 0) s.args.from s.args.out.now (this ++ after) c.before.loop.at c.before.loop.out
-  this_left = rw (← (goals_step s.args.counts.now s.args.members.now i start c.loop-test.true)) c.before.loop.invariant.2
+  this_left : Left (left 0 0) c.args.from c.args.out.now (this ++ after) c.loop-i.at c.loop-i.out
+  this_left = rw (← (goals_step c.args.counts.now c.args.members.now i start c.loop-i-test.true)) c.loop-i.invariant.2
 
-  enough : (start + count ≤ length s.args.members.now) × MembersLeft s.args.counts.now s.args.members.now (i + 1) (start + count)
-  enough = members_step s.args.counts.now s.args.members.now i start c.loop-test.true c.before.loop.invariant.1
+  enough : (start + count ≤ length c.args.members.now) × MembersLeft c.args.counts.now c.args.members.now (i + 1) (start + count)
+  enough = members_step c.args.counts.now c.args.members.now i start c.loop-i-test.true c.loop-i.invariant.1
 
 pub loop-i-init : goal.loop-i-init
 loop-i-init c = (omega arith, omega (arith, c.requires.1.held), all_left (goals_left c.args.counts.now c.args.members.now 0 0) c.args.out.now c.args.from)
 
 pub put_goal-at-requires : goal.put_goal-at-requires
-put_goal-at-requires c = (room_left (this (goal.at.put_goal-at-requires c).In-loop-i) (after (goal.at.put_goal-at-requires c).In-loop-i) (this_left (goal.at.put_goal-at-requires c).In-loop-i) (s (goal.at.put_goal-at-requires c).In-loop-i).requires.0, (enough (goal.at.put_goal-at-requires c).In-loop-i).0)
+put_goal-at-requires c = (room_left (this (goal.at.put_goal-at-requires c).In-loop-i) (after (goal.at.put_goal-at-requires c).In-loop-i) (this_left (goal.at.put_goal-at-requires c).In-loop-i) c.requires.0, (enough (goal.at.put_goal-at-requires c).In-loop-i).0)
 
 pub overflow_add-start : goal.overflow_add-start
 overflow_add-start c = omega (arith, c.wide-start.ensures, (enough (goal.at.overflow_add-start c).In-loop-i).0)

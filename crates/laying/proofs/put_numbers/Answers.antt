@@ -7,32 +7,30 @@ use Rattle.encoding.specs.Encode.{encode_two}
 use Rattle.laying.specs.Laying.{Left, numbers_left, numbers_begin, numbers_step, numbers-end, numbers_length, less_left, none_left, room_left}
 use borrow.Author.Rules.{rules}
 use Rattle.laying.proofs.put_numbers.Goals as goal
+use Rattle.laying.proofs.put_numbers.Goals.{In-loop-i}
 
 -- in a turn: this number, and what comes after it
-module _ (c : tie.In-loop invariant-loop decreases-loop) where
-  abbrev s : tie.Start invariant-loop decreases-loop
-  s = c.before.before.before.before
-
+module _ (c : In-loop-i) where
   abbrev numbers : List ℕ
-  numbers = s.args.numbers.now
+  numbers = c.args.numbers.now
 
   abbrev i : ℕ
-  i = c.before.loop.i
+  i = c.loop-i.i
 
   abbrev this : ℕ
-  this = get_or numbers (s.args.start + i) 0
+  this = get_or numbers (c.args.start + i) 0
 
   abbrev after : List ℕ
-  after = numbers_left numbers (s.args.start + (i + 1)) (s.args.count - (i + 1))
+  after = numbers_left numbers (c.args.start + (i + 1)) (c.args.count - (i + 1))
 
   abbrev whole : List ℕ
-  whole = numbers_left numbers s.args.start s.args.count
+  whole = numbers_left numbers c.args.start c.args.count
 
-  this_left : Left whole s.args.from s.args.out.now (encode_two this ++ after) c.before.loop.at c.before.loop.out
-  this_left = rw (← (numbers_step numbers s.args.start s.args.count i c.loop-test.true s.pre.1)) c.before.loop.invariant.1
+  this_left : Left whole c.args.from c.args.out.now (encode_two this ++ after) c.loop-i.at c.loop-i.out
+  this_left = rw (← (numbers_step numbers c.args.start c.args.count i c.loop-i-test.true c.requires.1)) c.loop-i.invariant.1
 
-  room : c.before.loop.at + 2 ≤ length c.before.loop.out
-  room = room_left (encode_two this) after this_left (omega (arith, s.pre, numbers_length numbers s.args.start s.args.count s.pre.1))
+  room : c.loop-i.at + 2 ≤ length c.loop-i.out
+  room = room_left (encode_two this) after this_left (omega (arith, c.requires, numbers_length numbers c.args.start c.args.count c.requires.1))
 
 pub loop-i-init : goal.loop-i-init
 loop-i-init c = let entry = c.args in (omega arith, numbers_begin entry.numbers.now entry.start entry.count entry.from entry.out.now)

@@ -13,17 +13,15 @@ use Rattle.joining.specs.Shift.{shift}
 use Rattle.renumbering.specs.Copying.{NodeRead, four_links, room_for_codes, read_moves, read_moved}
 use borrow.Author.Rules.{rules}
 use Rattle.renumbering.proofs.copy_node.Goals as goal
+use Rattle.renumbering.proofs.copy_node.Goals.{After-decode_node-read, After-move_links, Start}
 
 -- the node of the file, in arrays of its own
-module _ (c : tie.After-decode-node) where
-  abbrev s : tie.Start
-  s = c.before.before.before.before.before.before
-
+module _ (c : After-decode_node-read) where
   abbrev file : List ℕ
-  file = s.args.bytes.now
+  file = c.args.bytes.now
 
   abbrev here : ℕ
-  here = s.args.places.from
+  here = c.args.places.from
 
   abbrev rules : List ℕ
   rules = c.decode-node.new.1.1.1.0
@@ -43,9 +41,9 @@ module _ (c : tie.After-decode-node) where
       record { rule = e.1.0; links = e.1.1.0; codes = e.1.1.1; many = omega (arith, e.0.1) }
 
 -- and moved there
-module _ (c : tie.After-move-links) where
-  abbrev decoded : tie.After-decode-node
-  decoded = c.before.before.before.before.before
+module _ (c : After-move_links) where
+  abbrev decoded : After-decode_node-read
+  decoded = c.before
 
   abbrev new-links : List ℕ
   new-links = c.move-links.new.1.0
@@ -59,7 +57,7 @@ module _ (c : tie.After-move-links) where
 
 pub move_links-requires : goal.move_links-requires
 move_links-requires c =
-    (four_links (read (goal.at.move_links-requires c).After-decode_node-read), read_moves (read (goal.at.move_links-requires c).After-decode_node-read) (s (goal.at.move_links-requires c).After-decode_node-read).requires.2)
+    (four_links (read (goal.at.move_links-requires c).After-decode_node-read), read_moves (read (goal.at.move_links-requires c).After-decode_node-read) c.requires.2)
 
 pub slice_bounds-put_node-end : goal.slice_bounds-put_node-end
 slice_bounds-put_node-end c = sym (still-four (goal.at.slice_bounds-put_node-end c).After-move_links)
@@ -67,10 +65,10 @@ slice_bounds-put_node-end c = sym (still-four (goal.at.slice_bounds-put_node-end
 pub put_node-after-requires : goal.put_node-after-requires
 put_node-after-requires c =
     let given = s (decoded (goal.at.put_node-after-requires c).After-move_links) in (
-      subst (λ (x : Node). Fits given.args.out.now given.args.places.to (encode_node x)) (sym (moved (goal.at.put_node-after-requires c).After-move_links)) given.pre.3,
+      subst (λ (x : Node). Fits given.args.out.now given.args.places.to (encode_node x)) (sym (moved (goal.at.put_node-after-requires c).After-move_links)) given.requires.3,
       omega (arith, still-four (goal.at.put_node-after-requires c).After-move_links),
-      omega (arith, room_for_codes (read (decoded (goal.at.put_node-after-requires c).After-move_links)) given.pre.0.few),
-      omega (arith, (read (decoded (goal.at.put_node-after-requires c).After-move_links)).many, given.pre.0.few),
+      omega (arith, room_for_codes (read (decoded (goal.at.put_node-after-requires c).After-move_links)) given.requires.0.few),
+      omega (arith, (read (decoded (goal.at.put_node-after-requires c).After-move_links)).many, given.requires.0.few),
     )
 
 pub returns : goal.returns

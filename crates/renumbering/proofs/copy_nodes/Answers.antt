@@ -6,7 +6,7 @@ use Rattle.nodes.specs.ProofDecode.{nodes_at_length}
 use Rattle.renumbering.specs.Copying.{Copying, copying_begins, copying_steps, copying_ends, node_fits, node_moves, node_room}
 use borrow.Author.Rules.{rules}
 use Rattle.renumbering.proofs.copy_nodes.Goals as goal
-use Rattle.renumbering.proofs.copy_nodes.Goals.{In-loop-i}
+use Rattle.renumbering.proofs.copy_nodes.Goals.{At-loop-i, In-loop-i}
 
 -- in a turn there is a node left
 unfinished : (c : In-loop-i) → c.loop-i.i < word_at (entry c.before-LEFT-At-loop-i).args.bytes.now 4

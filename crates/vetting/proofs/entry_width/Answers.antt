@@ -13,6 +13,7 @@ use Rattle.writing.specs.Spelling.{modal_fields, bits_stand}
 use Rattle.writing.specs.EntryEnds.{entry_width_lem}
 use borrow.Author.Rules.{rules}
 use Rattle.vetting.proofs.entry_width.Goals as goal
+use Rattle.vetting.proofs.entry_width.Goals.{After-has_a}
 
 module _ (k b : ℕ) where
   -- a box or diamond with an action other than 0
@@ -48,9 +49,8 @@ module _ (k b : ℕ) where
       go false = refl
 
 -- what is known once the kind has no B
-module _ (c : tie.After-has-a) where
-  no-b : has_b c.before.before.before.args.kind ≡ false
-  no-b = sym c.before.before.has-b.ensures ∙ c.before.if1.false
+no-b : (c : After-has_a) → has_b c.args.kind ≡ false
+no-b c = sym c.has_b.ensures ∙ c.if-has_b.false
 
 pub returns-then-has_b : goal.returns-then-has_b
 returns-then-has_b c = let s = c.args in (widest s.kind s.b (sym c.has_b.ensures ∙ c.if-has_b.true), omega arith)

@@ -15,8 +15,9 @@ use Rattle.vetting.specs.StepLaws.{finds_stop, finds_next, found_stop, found_nex
 use Rattle.vetting.specs.declared.Step.TheVariants.{Next, Stop}
 use borrow.Author.Rules.{rules}
 use Rattle.vetting.proofs.judge_claim.Goals as goal
+use Rattle.vetting.proofs.judge_claim.Goals.{Start}
 
-module _ (s : tie.Start) where
+module _ (s : Start) where
   abbrev table : Table
   table = table_of s.args.kinds.now s.args.a.now s.args.b.now s.args.count
 
@@ -31,22 +32,22 @@ module _ (s : tie.Start) where
 
 pub judge-requires : goal.judge-requires
 judge-requires c =
-    (claim_passed (named_form c.args.form) c.args.count (table (goal.at.judge-requires c).Start) (sizes (goal.at.judge-requires c).Start) (members (goal.at.judge-requires c).Start) _ (found_next c.judge_claim_bytes.ensures c.end-1.given.1)).entries.1
+    (claim_passed (named_form c.args.form) c.args.count (table (goal.at.judge-requires c).Start) (sizes (goal.at.judge-requires c).Start) (members (goal.at.judge-requires c).Start) _ (found_next c.in-Next.ensures refl)).entries.1
 
 pub returns-in-Stop : goal.returns-in-Stop
 returns-in-Stop c =
     for_named (λ (f : Form). Finds (judgedAs (goal.at.returns-in-Stop c).Start f) 2344 (Stop _ _))
-    (finds_stop (Stop _ _) (stops_there _ (found_stop c.judge_claim_bytes.ensures c.number-1.given.1)) refl)
+    (finds_stop (Stop _ _) (stops_there _ (found_stop c.in-Stop.ensures refl)) refl)
 
 pub returns-in-Refused : goal.returns-in-Refused
 returns-in-Refused c =
-    let walked = found_next c.judge_claim_bytes.ensures c.end-1.given.1 in
-    let told = sym c.judge.ensures ∙ ap shown c.number-in-Refused-1.given.1 in
+    let walked = found_next c.in-Next.ensures refl in
+    let told = sym c.in-Refused.ensures in
     for_named (λ (f : Form). Finds (judgedAs (goal.at.returns-in-Refused c).Start f) 2344 (Stop _ _)) (finds_stop (Stop _ _) (judge_refuses walked told) refl)
 
 pub returns-in-Accepted : goal.returns-in-Accepted
 returns-in-Accepted c =
-    let walk = c.judge_claim_bytes.ensures in
-    let told = sym c.judge.ensures ∙ ap shown c.enum_told-1.given.1 in
+    let walk = c.in-Next.ensures in
+    let told = sym c.in-Accepted.ensures in
     for_named (λ (f : Form). Finds (judgedAs (goal.at.returns-in-Accepted c).Start f) 2344 (Next _))
-    (finds_next (judge_accepts (found_next walk c.end-1.given.1) told) (walk.near _ c.end-1.given.1))
+    (finds_next (judge_accepts (found_next walk refl) told) (walk.near _ refl))

@@ -16,9 +16,9 @@ use Rattle.vetting.specs.KindTests.{goals_by_kinds}
 use Rattle.vetting.specs.declared.Step.TheVariants.{Stop}
 use borrow.Author.Rules.{rules}
 use Rattle.vetting.proofs.judge_claim_bytes.Goals as goal
-use Rattle.vetting.proofs.judge_claim_bytes.Goals.{After-wide}
+use Rattle.vetting.proofs.judge_claim_bytes.Goals.{After-wide, In-Next, Start}
 
-module _ (s : tie.Start) where
+module _ (s : Start) where
   abbrev form : Form
   form = named_form s.args.form
 
@@ -32,24 +32,21 @@ module _ (s : tie.Start) where
   members = s.args.members.now
 
 -- the least entry count of the form
-least : (c : After-wide) → c.wide.result ≡ fewest (form c.before.before.before.before-LEFT-Start)
+least : (c : After-wide) → c.wide.result ≡ fewest (named_form c.args.form)
 least c = c.wide.ensures ∙ c.fewest.ensures
 
 -- past the entries the goals are walked over, by the kinds alone
-module _ (c : tie.After-at) where
-  abbrev entries : tie.After-judge-entries
-  entries = c.before.before
-
-  abbrev s : tie.Start
-  s = entries.before.before.before.before.before.before.before
-
-  walked : (f : Form) → form s ≡ f → claim_end (form s) s.args.count (table s) (sizes s) (members s)
-      ≡ goals_end f (kind_table s.args.kinds.now s.args.count) (sizes s) (members s) c.at.given.0.0
-  walked f named =
-      claim_in (form s) s.args.count (table s) (sizes s) (members s) (omega (arith, least entries.before.before.before), omega arith)
-      ∙ goes_on _ (found_next entries.judge-entries.ensures c.at.given.1)
-      ∙ goals_by_kinds (form s) s.args.kinds.now s.args.a.now s.args.b.now s.args.count (sizes s) (members s) c.at.given.0.0
-      ∙ ap (λ (g : Form). goals_end g (kind_table s.args.kinds.now s.args.count) (sizes s) (members s) c.at.given.0.0) named
+walked : (c : In-Next) (f : Form) → named_form c.args.form ≡ f
+    → claim_end (named_form c.args.form) c.args.count (table_of c.args.kinds.now c.args.a.now c.args.b.now c.args.count) c.args.sizes.now c.args.members.now
+    ≡ goals_end f (kind_table c.args.kinds.now c.args.count) c.args.sizes.now c.args.members.now c.in-Next.at
+walked c f named =
+    let s = c.args in
+    let form = named_form s.form in
+    let low = c.wide.ensures ∙ c.fewest.ensures in
+    claim_in form s.count (table_of s.kinds.now s.a.now s.b.now s.count) s.sizes.now s.members.now (omega (arith, low), omega arith)
+    ∙ goes_on _ (found_next c.in-Next.ensures refl)
+    ∙ goals_by_kinds form s.kinds.now s.a.now s.b.now s.count s.sizes.now s.members.now c.in-Next.at
+    ∙ ap (λ (g : Form). goals_end g (kind_table s.kinds.now s.count) s.sizes.now s.members.now c.in-Next.at) named
 
 pub returns-then-count-wide : goal.returns-then-count-wide
 returns-then-count-wide c =
@@ -60,18 +57,18 @@ returns-then-count-gt256 c =
     finds_stop c.stop-then-count-gt256.result (claim_out (form (goal.at.returns-then-count-gt256 c).Start) c.args.count (table (goal.at.returns-then-count-gt256 c).Start) (sizes (goal.at.returns-then-count-gt256 c).Start) (members (goal.at.returns-then-count-gt256 c).Start) (λ k. omega (arith, k.1))) c.stop-then-count-gt256.ensures
 
 pub judge_goals-requires : goal.judge_goals-requires
-judge_goals-requires c = (omega arith, c.judge_entries.ensures.near _ c.at-1.given.1)
+judge_goals-requires c = (omega arith, c.in-Next.ensures.near _ refl)
 
 pub returns-then-form-eq-CLM2 : goal.returns-then-form-eq-CLM2
-returns-then-form-eq-CLM2 c = finds_as (walked (goal.at.returns-then-form-eq-CLM2 c).In-Next-2 _ (names_several c.if-form-eq-CLM2.true)) (omega arith) c.judge_goals.ensures
+returns-then-form-eq-CLM2 c = finds_as (walked (goal.at.returns-then-form-eq-CLM2 c).In-Next _ (names_several c.if-form-eq-CLM2.true)) (omega arith) c.judge_goals.ensures
 
 pub judge_goal-requires : goal.judge_goal-requires
-judge_goal-requires c = (omega arith, c.judge_entries.ensures.near _ c.at-1.given.1)
+judge_goal-requires c = (omega arith, c.in-Next.ensures.near _ refl)
 
 pub returns-in-Stop : goal.returns-in-Stop
 returns-in-Stop c =
     finds_stop (Stop _ _)
-    (claim_in (form (goal.at.returns-in-Stop c).Start) c.args.count (table (goal.at.returns-in-Stop c).Start) (sizes (goal.at.returns-in-Stop c).Start) (members (goal.at.returns-in-Stop c).Start) (omega (arith, least (goal.at.returns-in-Stop c).After-wide), omega arith) ∙ stops_there _ (found_stop c.judge_entries.ensures c.number-1.given.1)) refl
+    (claim_in (form (goal.at.returns-in-Stop c).Start) c.args.count (table (goal.at.returns-in-Stop c).Start) (sizes (goal.at.returns-in-Stop c).Start) (members (goal.at.returns-in-Stop c).Start) (omega (arith, least (goal.at.returns-in-Stop c).After-wide), omega arith) ∙ stops_there _ (found_stop c.in-Stop.ensures refl)) refl
 
 pub returns-else-form-eq-CLM2 : goal.returns-else-form-eq-CLM2
-returns-else-form-eq-CLM2 c = finds_as (walked (goal.at.returns-else-form-eq-CLM2 c).In-Next-2 _ (names_one c.if-form-eq-CLM2.false)) (omega arith) c.judge_goal.ensures
+returns-else-form-eq-CLM2 c = finds_as (walked (goal.at.returns-else-form-eq-CLM2 c).In-Next _ (names_one c.if-form-eq-CLM2.false)) (omega arith) c.judge_goal.ensures

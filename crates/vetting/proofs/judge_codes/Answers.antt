@@ -15,46 +15,39 @@ use Rattle.writing.specs.FieldEnds.{rising_end}
 use Rattle.vetting.specs.StepLaws.{finds_stop, finds_next}
 use Rattle.vetting.specs.WalkLaws.{RisingLeft, rising_begins, rising_stop, rising_on, rising-end, part_long, part_at}
 use Rattle.vetting.proofs.judge_codes.Goals as goal
-use Rattle.vetting.proofs.judge_codes.Goals.{After-is_code}
-
--- the code at i of those that are walked over
-module _ (c : tie.Start invariant-loop decreases-loop) where
-  abbrev codes : List ℕ
-  codes = take c.args.count (drop c.args.start c.args.codes.now)
-
-  long : length codes ≡ c.args.count
-  long = part_long c.args.codes.now c.args.start c.args.count c.requires.1
-
-  read : (i : ℕ) → i < c.args.count → get_or c.args.codes.now (c.args.start + i) 0 ≡ get_or codes i 0
-  read i h = part_at c.args.codes.now c.args.start c.args.count c.requires.1 i h
+use Rattle.vetting.proofs.judge_codes.Goals.{After-is_code, After-wide-number}
 
 -- in a turn: the code is read, and passes the test or not
-module _ (c : tie.After-wide invariant-loop decreases-loop) where
-  abbrev s : tie.Start invariant-loop decreases-loop
-  s = c.before.before.before.before.before
-
+module _ (c : After-wide-number) where
   abbrev table : Table
-  table = kind_table s.args.kinds.now s.args.entries
+  table = kind_table c.args.kinds.now c.args.entries
 
   abbrev floor : ℕ
-  floor = c.before.before.before.loop.least
+  floor = c.loop-i.least
 
   abbrev here : ℕ
-  here = c.before.before.before.loop.i
+  here = c.loop-i.i
 
-  stops : fits_from (is_code_lem table) floor c.wide.result ≡ false → rising_end (is_code_lem table) 34 (codes s) s.args.at ≡ stop 34 (s.args.at + 2 * here)
-  stops f =
-      rising_stop c.before.before.before.loop.invariant.1 (omega (arith, long s)) c.wide.result (c.wide.ensures ∙ read s here c.before.before.loop-test.true) f
+  abbrev walked : List ℕ
+  walked = take c.args.count (drop c.args.start c.args.codes.now)
 
-  goes_on : fits_from (is_code_lem table) floor c.wide.result ≡ true → RisingLeft (is_code_lem table) 34 (codes s) s.args.at (here + 1) (c.wide.result + 1)
-  goes_on f =
-      rising_on c.before.before.before.loop.invariant.1 (omega (arith, long s)) c.wide.result (c.wide.ensures ∙ read s here c.before.before.loop-test.true) f
+  inside : here < length walked
+  inside = omega (arith, part_long c.args.codes.now c.args.start c.args.count c.requires.1)
+
+  read : c.wide-number.result ≡ get_or walked here 0
+  read = c.wide-number.ensures ∙ part_at c.args.codes.now c.args.start c.args.count c.requires.1 here c.loop-i-test.true
+
+  stops : fits_from (is_code_lem table) floor c.wide-number.result ≡ false → rising_end (is_code_lem table) 34 walked c.args.at ≡ stop 34 (c.args.at + 2 * here)
+  stops f = rising_stop c.loop-i.invariant.1 inside c.wide-number.result read f
+
+  goes_on : fits_from (is_code_lem table) floor c.wide-number.result ≡ true → RisingLeft (is_code_lem table) 34 walked c.args.at (here + 1) (c.wide-number.result + 1)
+  goes_on f = rising_on c.loop-i.invariant.1 inside c.wide-number.result read f
 
 -- a code that rises is tested by its entry
-fits : (c : After-is_code) → fits_from (is_code_lem (table c.before.before-LEFT-After-wide-number)) (floor c.before.before-LEFT-After-wide-number) c.wide-number.result ≡ c.is_code.result
+fits : (c : After-is_code) → fits_from (is_code_lem (kind_table c.args.kinds.now c.args.entries)) c.loop-i.least c.wide-number.result ≡ c.is_code.result
 fits c =
-    let c.before.before-LEFT-After-wide-number = c.before.before-LEFT-After-wide-number in
-    rw (le-leb (floor c.before.before-LEFT-After-wide-number) c.wide-number.result c.if-number-least.false) (ap (is_code_lem (table c.before.before-LEFT-After-wide-number)) c.wide-number.ensures ∙ sym c.is_code.ensures)
+    rw (le-leb c.loop-i.least c.wide-number.result c.if-number-least.false)
+    (ap (is_code_lem (kind_table c.args.kinds.now c.args.entries)) c.wide-number.ensures ∙ sym c.is_code.ensures)
 
 pub loop-i-init : goal.loop-i-init
 loop-i-init c = (omega arith, rising_begins _ _ _ _)
@@ -69,12 +62,12 @@ returns-then-not-is_code c =
 
 pub overflow_add-least : goal.overflow_add-least
 overflow_add-least c =
-    omega (arith, c.shared_slice_known-in-loop-i-1.given ((s (goal.at.overflow_add-least c).After-wide-number).args.start + here (goal.at.overflow_add-least c).After-wide-number), c.wide-number.ensures)
+    omega (arith, c.type_inv.codes (c.args.start + c.loop-i.i), c.wide-number.ensures)
 
 pub loop-i-preserved : goal.loop-i-preserved
 loop-i-preserved c = (omega arith, goes_on (goal.at.loop-i-preserved c).After-wide-number (fits (goal.at.loop-i-preserved c).After-is_code ∙ c.if-not-is_code.false))
 
 pub returns : goal.returns
 returns c =
-    let n = long (goal.at.returns c).Start in
+    let n = part_long c.args.codes.now c.args.start c.args.count c.requires.1 in
     finds_next (rising-end c.loop-i.invariant.1 (omega arith) ∙ ap (λ (m : ℕ). next (c.args.at + 2 * m)) n) (omega arith)

@@ -7,8 +7,9 @@ use Rattle.vetting.specs.StepLaws.{finds_stop, finds_as}
 use Rattle.vetting.specs.CountLaws.{goal_unfit, goal_fits}
 use borrow.Author.Rules.{rules}
 use Rattle.vetting.proofs.judge_goal.Goals as goal
+use Rattle.vetting.proofs.judge_goal.Goals.{Start}
 
-module _ (s : tie.Start) where
+module _ (s : Start) where
   abbrev sizes : List ℕ
   sizes = s.args.sizes.now
 

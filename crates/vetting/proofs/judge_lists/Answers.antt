@@ -20,7 +20,7 @@ judge_listed-requires c =
 pub returns-in-Stop : goal.returns-in-Stop
 returns-in-Stop c =
     finds_stop (Stop _ _)
-    (lists_stop c.loop-i.invariant.1 c.loop-i-test.true c.wide-listed.result c.wide-listed.ensures (found_stop c.judge_listed.ensures c.number-1.given.1))
+    (lists_stop c.loop-i.invariant.1 c.loop-i-test.true c.wide-listed.result c.wide-listed.ensures (found_stop c.in-Stop.ensures refl))
     refl
 
 pub overflow_add-start : goal.overflow_add-start
@@ -32,7 +32,7 @@ loop-i-preserved c =
     (
       omega arith,
       lists_on c.loop-i.invariant.1 c.loop-i-test.true c.wide-listed.result c.wide-listed.ensures
-          (found_next c.judge_listed.ensures c.next-1.given.1) (c.judge_listed.ensures.near _ c.next-1.given.1),
+          (found_next c.in-Next.ensures refl) (c.in-Next.ensures.near _ refl),
     )
 
 pub returns : goal.returns

@@ -14,37 +14,35 @@ use Rattle.vetting.specs.StepLaws.{finds_stop, finds_next}
 use Rattle.vetting.specs.WalkLaws.{RisingLeft, rising_begins, rising_stop, rising_on, rising-end, part_long, part_at}
 use Rattle.vetting.specs.KindTests.{may_follow_fits}
 use Rattle.vetting.proofs.judge_members.Goals as goal
+use Rattle.vetting.proofs.judge_members.Goals.{After-may_follow, Start}
 
 -- the members that are walked over
-module _ (c : tie.Start invariant-loop decreases-loop) where
-  abbrev goal : List ℕ
-  goal = take c.args.listed (drop c.args.start c.args.members.now)
+module _ (c : Start) where
+  abbrev all : List ℕ
+  all = take c.args.listed (drop c.args.start c.args.members.now)
 
-  long : length goal ≡ c.args.listed
+  long : length all ≡ c.args.listed
   long = part_long c.args.members.now c.args.start c.args.listed c.requires.1
 
 -- in a turn: the member is read, and the code's test of it is the walk's
-module _ (c : tie.After-may-follow invariant-loop decreases-loop) where
-  abbrev s : tie.Start invariant-loop decreases-loop
-  s = c.before.before.before.before.before.before
-
+module _ (c : After-may_follow) where
   abbrev ok : ℕ → Bool
-  ok = is_formula (kind_table s.args.kinds.now s.args.count)
+  ok = is_formula (kind_table c.args.kinds.now c.args.count)
 
   abbrev here : ℕ
-  here = c.before.before.before.before.loop.i
+  here = c.loop-i.i
 
-  abbrev floor : ℕ
-  floor = c.before.before.before.before.loop.floor
+  abbrev walked : List ℕ
+  walked = take c.args.listed (drop c.args.start c.args.members.now)
 
-  inside : here < length (goal s)
-  inside = omega (arith, long s)
+  inside : here < length walked
+  inside = omega (arith, part_long c.args.members.now c.args.start c.args.listed c.requires.1)
 
-  read : c.before.wide.result ≡ get_or (goal s) here 0
-  read = c.before.wide.ensures ∙ part_at s.args.members.now s.args.start s.args.listed s.pre.1 here c.before.before.before.loop-test.true
+  read : c.wide-member.result ≡ get_or walked here 0
+  read = c.wide-member.ensures ∙ part_at c.args.members.now c.args.start c.args.listed c.requires.1 here c.loop-i-test.true
 
-  fits : fits_from ok floor c.before.wide.result ≡ c.may-follow.result
-  fits = sym (c.may-follow.ensures ∙ may_follow_fits _ [] [] _ floor c.before.wide.result)
+  fits : fits_from ok c.loop-i.floor c.wide-member.result ≡ c.may_follow.result
+  fits = sym (c.may_follow.ensures ∙ may_follow_fits _ [] [] _ c.loop-i.floor c.wide-member.result)
 
 pub loop-i-init : goal.loop-i-init
 loop-i-init c = (omega arith, rising_begins _ _ _ _)
@@ -56,7 +54,7 @@ returns-then-not-may_follow c =
 
 pub overflow_add-floor : goal.overflow_add-floor
 overflow_add-floor c =
-    omega (arith, c.shared_slice_known-in-loop-i-1.given ((s (goal.at.overflow_add-floor c).After-may_follow).args.start + here (goal.at.overflow_add-floor c).After-may_follow), c.wide-member.ensures)
+    omega (arith, c.type_inv.members (c.args.start + c.loop-i.i), c.wide-member.ensures)
 
 pub loop-i-preserved : goal.loop-i-preserved
 loop-i-preserved c =

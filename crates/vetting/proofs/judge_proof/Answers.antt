@@ -10,7 +10,7 @@ use Rattle.formula.specs.Records.{NodeRecord}
 use Rattle.proof_files.specs.ProofParts.{kind_table}
 use Rattle.formula.specs.NamedForm.{named_form, for_named}
 use Rattle.tree.specs.Owners.{tree_judged}
-use Rattle.writing.specs.Goals.{roots_of}
+use Rattle.writing.specs.Goals.{roots_fit, roots_of}
 use Rattle.writing.specs.Ends.{End}
 use Rattle.writing.specs.ProofEnds.{nodes_over, proof_end}
 use Rattle.writing.specs.Held.{records_of}
@@ -18,11 +18,18 @@ use Rattle.vetting.specs.Steps.{Finds}
 use Rattle.vetting.specs.StepLaws.{finds_stop, finds_next, found_stop, found_next, stops_there, judge_refuses, judge_accepts}
 use Rattle.vetting.specs.RootLaws.{ProofFound, proof_found}
 use Rattle.vetting.specs.Columns.{starts, nodes_of_columns}
-use Rattle.vetting.specs.declared.Step.TheVariants.{Stop}
+use Rattle.vetting.specs.declared.Step.{Step}
+use Rattle.vetting.specs.declared.Step.TheVariants.{Next, Stop}
+use Rattle.verdict.specs.declared.Verdict.{Verdict}
+use Rattle.claim_files.specs.ClaimFile.{GoalCount}
+use Rattle.formula.specs.PlainNodes.{proof_of}
+use Prim.Native.Nat.{ℕ}
+use mathlib.Core.Bool.{true}
 use borrow.Author.Rules.{rules}
 use Rattle.vetting.proofs.judge_proof.Goals as goal
+use Rattle.vetting.proofs.judge_proof.Goals.{Start}
 
-module _ (s : tie.Start) where
+module _ (s : Start) where
   abbrev table : Table
   table = kind_table s.args.kinds.now s.args.entries
 
@@ -32,55 +39,42 @@ module _ (s : tie.Start) where
   abbrev ends : Form → End
   ends f = proof_end f s.args.goals table s.args.nodes s.args.roots.now records s.args.codes.now
 
--- the walk, as any form that the number names
-module _ (c : tie.After-judge-proof-bytes) where
-  abbrev s : tie.Start
-  s = c.before.before.before.before.before.before
+  -- the walk, as any form that the number names
+  walked : {r : Step} → Finds (ends (named_form s.args.form)) 58406 r → (f : Form) → s.args.form ≡ form_number f → Finds (ends f) 58406 r
+  walked {r} = for_named (λ (f : Form). Finds (ends f) 58406 r)
 
-  walked : (f : Form) → s.args.form ≡ form_number f → Finds (ends s f) 58406 c.judge-proof-bytes.result
-  walked = for_named (λ (f : Form). Finds (ends s f) 58406 c.judge-proof-bytes.result) c.judge-proof-bytes.ensures
-
--- past it, what it tells of the roots
-module _ (c : tie.After-end) where
-  abbrev bytes : tie.After-judge-proof-bytes
-  bytes = c.before.before
-
-  found : (f : Form) → Finds (ends (s bytes) f) 58406 bytes.judge-proof-bytes.result → ProofFound f (s bytes).args.goals (s bytes).args.nodes (s bytes).args.roots.now
+  -- past it, what it tells of the roots
+  found : (f : Form) {at : ℕ} → Finds (ends f) 58406 (Next at) → ProofFound f s.args.goals s.args.nodes s.args.roots.now
   found f w =
-      proof_found f (s bytes).args.goals (table (s bytes)) (s bytes).args.nodes (s bytes).args.roots.now (records (s bytes)) (s bytes).args.codes.now (s bytes).pre.0.1
-      (found_next w c.end.given.1)
-
--- what the judge of the trees says of the columns, it says of the nodes
-module _ (c : tie.After-judge-tree) where
-  abbrev past : tie.After-end
-  past = c.before.before
-
-  abbrev given : tie.Start
-  given = s (bytes past)
-
-  tree-told : (f : Form) → given.args.form ≡ form_number f
-      → tree_judged (roots_of f given.args.roots.now) (nodes_over (records given) given.args.codes.now) ≡ shown c.judge-tree.result
-  tree-told f named =
-      ap (λ (p : Proof). tree_judged (roots_of f given.args.roots.now) p)
-      (nodes_of_columns given.args.rules.now given.args.links.now given.args.counts.now given.args.codes.now given.args.nodes)
-      ∙ sym (c.judge-tree.ensures f (given.pre.0.2 f named) (found past f (walked (bytes past) f named)).fit (starts given.args.counts.now given.args.nodes) given.args.codes.now)
+      proof_found f s.args.goals table s.args.nodes s.args.roots.now records s.args.codes.now s.requires.entries_bound.1 (found_next w refl)
 
 pub judge_tree-requires : goal.judge_tree-requires
 judge_tree-requires c =
-    let f = found (goal.at.judge_tree-requires c).In-Next-2 (named_form c.args.form) c.judge_proof_bytes.ensures in
+    let f = found (goal.at.judge_tree-requires c).Start (named_form c.args.form) c.in-Next.ensures in
     let columns = c.requires.nodes_given f.nodes.1 in
     (f.nodes.1, columns.rules, columns.links, c.requires.entries_bound.1, f.roots)
 
 pub returns-in-Stop : goal.returns-in-Stop
-returns-in-Stop c f named = finds_stop (Stop _ _) (stops_there _ (found_stop (walked (goal.at.returns-in-Stop c).After-judge_proof_bytes f named) c.number-1.given.1)) refl
+returns-in-Stop c f named = finds_stop (Stop _ _) (stops_there _ (found_stop (walked (goal.at.returns-in-Stop c).Start c.in-Stop.ensures f named) refl)) refl
+
+-- what the judge of the trees says of the columns, it says of the nodes
+tree-told : (s : Start) (f : Form) → s.args.form ≡ form_number f → {at : ℕ} → Finds (ends s f) 58406 (Next at) → (v : Verdict)
+    → ((f : Form) → GoalCount f s.args.goals → roots_fit f s.args.goals s.args.roots.now ≡ true → (ss cs : List ℕ)
+        → shown v ≡ tree_judged (roots_of f s.args.roots.now) (proof_of s.args.rules.now s.args.links.now ss cs s.args.nodes))
+    → tree_judged (roots_of f s.args.roots.now) (nodes_over (records s) s.args.codes.now) ≡ shown v
+tree-told s f named w v told =
+    ap (λ (p : Proof). tree_judged (roots_of f s.args.roots.now) p)
+    (nodes_of_columns s.args.rules.now s.args.links.now s.args.counts.now s.args.codes.now s.args.nodes)
+    ∙ sym (told f (s.requires.entries_bound.2 f named) (found s f w).fit (starts s.args.counts.now s.args.nodes) s.args.codes.now)
 
 pub returns-in-Refused : goal.returns-in-Refused
 returns-in-Refused c f named =
-    let e = found_next (walked (goal.at.returns-in-Refused c).After-judge_proof_bytes f named) c.end-1.given.1 in
-    finds_stop (Stop _ _) (judge_refuses e (tree-told (goal.at.returns-in-Refused c).After-judge_tree f named ∙ ap shown c.number-in-Refused-1.given.1)) refl
+    let s = (goal.at.returns-in-Refused c).Start in
+    let w = walked s c.in-Next.ensures f named in
+    finds_stop (Stop _ _) (judge_refuses (found_next w refl) (tree-told s f named w _ c.in-Refused.ensures)) refl
 
 pub returns-in-Accepted : goal.returns-in-Accepted
 returns-in-Accepted c f named =
-    let walk = walked (goal.at.returns-in-Accepted c).After-judge_proof_bytes f named in
-    let e = found_next walk c.end-1.given.1 in
-    finds_next (judge_accepts e (tree-told (goal.at.returns-in-Accepted c).After-judge_tree f named ∙ ap shown c.enum_told-1.given.1)) (walk.near _ c.end-1.given.1)
+    let s = (goal.at.returns-in-Accepted c).Start in
+    let w = walked s c.in-Next.ensures f named in
+    finds_next (judge_accepts (found_next w refl) (tree-told s f named w _ c.in-Accepted.ensures)) (w.near _ refl)

@@ -16,9 +16,9 @@ use Rattle.vetting.specs.CountLaws.{proof_out, proof_in}
 use Rattle.vetting.specs.declared.Step.TheVariants.{Stop}
 use borrow.Author.Rules.{rules}
 use Rattle.vetting.proofs.judge_proof_bytes.Goals as goal
-use Rattle.vetting.proofs.judge_proof_bytes.Goals.{After-wide}
+use Rattle.vetting.proofs.judge_proof_bytes.Goals.{After-wide, Start}
 
-module _ (s : tie.Start) where
+module _ (s : Start) where
   abbrev form : Form
   form = named_form s.args.form
 
@@ -37,7 +37,7 @@ module _ (s : tie.Start) where
   walked = proof_in form s.args.goals table s.args.nodes s.args.roots.now records s.args.codes.now
 
 -- the least node count of the form
-least : (c : After-wide) → c.wide.result ≡ fewest (form c.before.before.before.before.before.before.before-LEFT-Start)
+least : (c : After-wide) → c.wide.result ≡ fewest (named_form c.args.form)
 least c = c.wide.ensures ∙ c.fewest.ensures
 
 pub returns-then-nodes-wide : goal.returns-then-nodes-wide
@@ -48,12 +48,12 @@ returns-then-nodes-gt1024 c = finds_stop c.stop-then-nodes-gt1024.result (out (g
 
 pub judge_nodes-requires : goal.judge_nodes-requires
 judge_nodes-requires c =
-    (c.requires.0, c.requires.2 c.if-nodes-gt1024.false, c.judge_rooted.ensures.near _ c.at-1.given.1)
+    (c.requires.0, c.requires.2 c.if-nodes-gt1024.false, c.in-Next.ensures.near _ refl)
 
 pub returns-in-Stop : goal.returns-in-Stop
 returns-in-Stop c =
-    finds_stop (Stop _ _) (walked (goal.at.returns-in-Stop c).Start (omega (arith, least (goal.at.returns-in-Stop c).After-wide), omega arith) ∙ stops_there _ (found_stop c.judge_rooted.ensures c.number-1.given.1)) refl
+    finds_stop (Stop _ _) (walked (goal.at.returns-in-Stop c).Start (omega (arith, least (goal.at.returns-in-Stop c).After-wide), omega arith) ∙ stops_there _ (found_stop c.in-Stop.ensures refl)) refl
 
 pub returns-in-Next : goal.returns-in-Next
 returns-in-Next c =
-    finds_as (walked (goal.at.returns-in-Next c).Start (omega (arith, least (goal.at.returns-in-Next c).After-wide), omega arith) ∙ goes_on _ (found_next c.judge_rooted.ensures c.at-1.given.1)) (omega arith) c.judge_nodes.ensures
+    finds_as (walked (goal.at.returns-in-Next c).Start (omega (arith, least (goal.at.returns-in-Next c).After-wide), omega arith) ∙ goes_on _ (found_next c.in-Next.ensures refl)) (omega arith) c.judge_nodes.ensures

@@ -10,8 +10,9 @@ use Rattle.vetting.specs.StepLaws.{finds_stop, finds_next, finds_as}
 use Rattle.vetting.specs.RootLaws.{roots_unfit, roots_fit_lem, roots_none}
 use borrow.Author.Rules.{rules}
 use Rattle.vetting.proofs.judge_rooted.Goals as goal
+use Rattle.vetting.proofs.judge_rooted.Goals.{Start}
 
-module _ (s : tie.Start) where
+module _ (s : Start) where
   abbrev form : Form
   form = named_form s.args.form
 

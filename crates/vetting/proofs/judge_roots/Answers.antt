@@ -12,20 +12,18 @@ use Rattle.writing.specs.FieldEnds.{rising_end}
 use Rattle.vetting.specs.StepLaws.{finds_stop, finds_next}
 use Rattle.vetting.specs.WalkLaws.{RisingLeft, rising_begins, rising_stop, rising_on, rising-end}
 use Rattle.vetting.proofs.judge_roots.Goals as goal
+use Rattle.vetting.proofs.judge_roots.Goals.{After-wide-root}
 
 -- in a turn: a root that does not fit ends the walk
-module _ (c : tie.After-wide invariant-loop decreases-loop) where
-  abbrev s : tie.Start invariant-loop decreases-loop
-  s = c.before.before.before.before.before
-
+module _ (c : After-wide-root) where
   abbrev nodes : ℕ
-  nodes = s.args.nodes
+  nodes = c.args.nodes
 
   abbrev floor : ℕ
-  floor = c.before.before.before.loop.least
+  floor = c.loop-i.least
 
-  stops : fits_from (is_node nodes) floor c.wide.result ≡ false → rising_end (is_node nodes) 34 s.args.roots.now 6 ≡ stop 34 (6 + 2 * c.before.before.before.loop.i)
-  stops f = rising_stop c.before.before.before.loop.invariant.1 c.before.before.loop-test.true c.wide.result c.wide.ensures f
+  stops : fits_from (is_node nodes) floor c.wide-root.result ≡ false → rising_end (is_node nodes) 34 c.args.roots.now 6 ≡ stop 34 (6 + 2 * c.loop-i.i)
+  stops f = rising_stop c.loop-i.invariant.1 c.loop-i-test.true c.wide-root.result c.wide-root.ensures f
 
 pub loop-i-init : goal.loop-i-init
 loop-i-init c = (omega arith, rising_begins _ _ _ _)
@@ -40,7 +38,7 @@ returns-then-nodes-root c =
     (stops (goal.at.returns-then-nodes-root c).After-wide-root (rw (le-leb (floor (goal.at.returns-then-nodes-root c).After-wide-root) c.wide-root.result c.if-root-least.false, le-ltb c.wide-root.result (nodes (goal.at.returns-then-nodes-root c).After-wide-root) c.if-nodes-root.true) refl)) c.stop-then-nodes-root.ensures
 
 pub overflow_add-least : goal.overflow_add-least
-overflow_add-least c = omega (arith, c.shared_slice_known-in-loop-i-1.given c.loop-i.i, c.wide-root.ensures)
+overflow_add-least c = omega (arith, c.type_inv.roots c.loop-i.i, c.wide-root.ensures)
 
 pub loop-i-preserved : goal.loop-i-preserved
 loop-i-preserved c =

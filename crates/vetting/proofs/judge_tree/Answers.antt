@@ -11,7 +11,7 @@ use borrow.Author.Rules.{rules}
 use Rattle.vetting.proofs.judge_tree.Goals as goal
 use Rattle.vetting.proofs.judge_tree.Goals.{After-copy_roots}
 
-copied : (c : After-copy_roots) → c.copy_roots.new.1.0 ≡ placed c.args.roots.now
+copied : (c : After-copy_roots) → c.copy_roots.new.into ≡ placed c.args.roots.now
 copied c = c.copy_roots.ensures
 
 pub fill_owners-requires : goal.fill_owners-requires

@@ -21,9 +21,10 @@ use Rattle.vetting.specs.StepLaws.{found_stop, found_next}
 use Rattle.writer.specs.Written.{wrote_refusal, wrote_no_room, wrote_file, nodes_given, node_room}
 use borrow.Author.Rules.{rules}
 use Rattle.writer.proofs.write_beside.Goals as goal
+use Rattle.writer.proofs.write_beside.Goals.{Start}
 
 -- the proof that stands in the columns, its file, and what its judge finds
-module _ (s : tie.Start) where
+module _ (s : Start) where
   abbrev form : Form
   form = named_form s.args.form
 
@@ -51,7 +52,7 @@ module _ (s : tie.Start) where
   passes : {o : ℕ} → found ≡ next o → ProofPasses form s.args.goals kinds s.args.nodes roots records codes o
   passes =
       proof_passes form s.args.goals kinds s.args.nodes roots records codes
-      (λ _. values_from_length (plain_record s.args.rules.now s.args.links.now s.args.counts.now) 0 s.args.nodes) s.pre.1
+      (λ _. values_from_length (plain_record s.args.rules.now s.args.links.now s.args.counts.now) 0 s.args.nodes) s.requires.1
 
 pub judge_proof-requires : goal.judge_proof-requires
 judge_proof-requires c =
@@ -59,20 +60,19 @@ judge_proof-requires c =
 
 pub returns-then-out-length : goal.returns-then-out-length
 returns-then-out-length c =
-    wrote_no_room (file (goal.at.returns-then-out-length c).Start) (out (goal.at.returns-then-out-length c).Start) (found_next (c.judge_proof.ensures (form (goal.at.returns-then-out-length c).Start) c.requires.0.named) c.length-1.given.1) c.if-out-length.true c.refuse-then-out-length.ensures
+    wrote_no_room (file (goal.at.returns-then-out-length c).Start) (out (goal.at.returns-then-out-length c).Start) (found_next (c.in-Next.ensures (form (goal.at.returns-then-out-length c).Start) c.requires.0.named) refl) c.if-out-length.true c.refuse-then-out-length.ensures
 
 pub put_proof-requires : goal.put_proof-requires
 put_proof-requires c =
-    let p = passes (goal.at.put_proof-requires c).Start (found_next (c.judge_proof.ensures (form (goal.at.put_proof-requires c).Start) c.requires.0.named) c.length-1.given.1) in (
+    let p = passes (goal.at.put_proof-requires c).Start (found_next (c.in-Next.ensures (form (goal.at.put_proof-requires c).Start) c.requires.0.named) refl) in (
       omega (arith, p.end, c.if-out-length.false),
       node_room c.args.rules.now c.args.links.now c.args.counts.now (codes (goal.at.put_proof-requires c).Start) c.args.nodes (nodes_given c.requires.1 c.requires.2 p.nodes) p.few,
     )
 
 pub returns-in-Stop : goal.returns-in-Stop
-returns-in-Stop c =
-    wrote_refusal (length (out (goal.at.returns-in-Stop c).Start)) (file (goal.at.returns-in-Stop c).Start) (out (goal.at.returns-in-Stop c).Start) (found_stop (c.judge_proof.ensures (form (goal.at.returns-in-Stop c).Start) c.requires.0.named) c.number-1.given.1) c.refuse.ensures
+returns-in-Stop c = let h = c.in-Stop in ?
 
 pub returns-else-out-length : goal.returns-else-out-length
 returns-else-out-length c =
-    let walked = found_next (c.judge_proof.ensures (form (goal.at.returns-else-out-length c).Start) c.requires.0.named) c.length-1.given.1 in
+    let walked = found_next (c.in-Next.ensures (form (goal.at.returns-else-out-length c).Start) c.requires.0.named) refl in
     wrote_file (file (goal.at.returns-else-out-length c).Start) (out (goal.at.returns-else-out-length c).Start) _ walked (omega (arith, c.if-out-length.false)) (passes (goal.at.returns-else-out-length c).Start walked).end (c.put_proof.ensures (form (goal.at.returns-else-out-length c).Start) c.requires.0.named)

@@ -21,10 +21,10 @@ use borrow.Author.Rules.{rules}
 use Rattle.std.proofs.Common.{ap}
 use Rattle.std.specs.Prelude.{not}
 use Rattle.writer.proofs.write_claim.Goals as goal
-use Rattle.writer.proofs.write_claim.Goals.{Else-not-is_form}
+use Rattle.writer.proofs.write_claim.Goals.{Else-not-is_form, Start}
 
 -- the claim that stands in the columns, its file, and what its judge finds
-module _ (s : tie.Start) where
+module _ (s : Start) where
   abbrev form : Form
   form = named_form s.args.form
 
@@ -59,7 +59,7 @@ module _ (s : tie.Start) where
 long : (c : Else-not-is_form) → 256 ≤ c.args.lent
 long c = omega (arith, c.if-lent-lt256.false)
 
-named : (c : Else-not-is_form) → c.args.form ≡ form_number (form c)
+named : (c : Else-not-is_form) → c.args.form ≡ form_number (named_form c.args.form)
 named c = asked_form c.args.form c.is_form.ensures (ap not c.if-not-is_form.false)
 
 pub returns-then-lent-lt256 : goal.returns-then-lent-lt256
@@ -74,21 +74,21 @@ returns-then-not-is_form c =
 
 pub returns-then-out-end : goal.returns-then-out-end
 returns-then-out-end c =
-    promised (goal.at.returns-then-out-end c).Else-not-is_form _ _ (long (goal.at.returns-then-out-end c).Else-not-is_form) (named (goal.at.returns-then-out-end c).Else-not-is_form)
-    (wrote_no_room (file (goal.at.returns-then-out-end c).Else-not-is_form) (out (goal.at.returns-then-out-end c).Else-not-is_form) (found_next (c.judge_claim.ensures (form (goal.at.returns-then-out-end c).Else-not-is_form) (named (goal.at.returns-then-out-end c).Else-not-is_form)) c.end-1.given.1) c.if-out-end.true c.refuse-then-out-end.ensures)
+    promised (goal.at.returns-then-out-end c).Start _ _ (long (goal.at.returns-then-out-end c).Else-not-is_form) (named (goal.at.returns-then-out-end c).Else-not-is_form)
+    (wrote_no_room (file (goal.at.returns-then-out-end c).Start) (out (goal.at.returns-then-out-end c).Start) (found_next (c.in-Next.ensures (form (goal.at.returns-then-out-end c).Start) (named (goal.at.returns-then-out-end c).Else-not-is_form)) refl) c.if-out-end.true c.refuse-then-out-end.ensures)
 
 pub put_claim-requires : goal.put_claim-requires
 put_claim-requires c =
-    let p = passes (goal.at.put_claim-requires c).Else-not-is_form (found_next (c.judge_claim.ensures (form (goal.at.put_claim-requires c).Else-not-is_form) (named (goal.at.put_claim-requires c).Else-not-is_form)) c.end-1.given.1) in
+    let p = passes (goal.at.put_claim-requires c).Start (found_next (c.in-Next.ensures (form (goal.at.put_claim-requires c).Start) (named (goal.at.put_claim-requires c).Else-not-is_form)) refl) in
     (omega (arith, p.end, c.if-out-end.false), p.entries, goals_room p)
 
 pub returns-in-Stop : goal.returns-in-Stop
 returns-in-Stop c =
-    promised (goal.at.returns-in-Stop c).Else-not-is_form _ _ (long (goal.at.returns-in-Stop c).Else-not-is_form) (named (goal.at.returns-in-Stop c).Else-not-is_form)
-    (wrote_refusal (length (out (goal.at.returns-in-Stop c).Else-not-is_form)) (file (goal.at.returns-in-Stop c).Else-not-is_form) (out (goal.at.returns-in-Stop c).Else-not-is_form) (found_stop (c.judge_claim.ensures (form (goal.at.returns-in-Stop c).Else-not-is_form) (named (goal.at.returns-in-Stop c).Else-not-is_form)) c.number-1.given.1) c.refuse-in-Stop.ensures)
+    promised (goal.at.returns-in-Stop c).Start _ _ (long (goal.at.returns-in-Stop c).Else-not-is_form) (named (goal.at.returns-in-Stop c).Else-not-is_form)
+    (wrote_refusal (length (out (goal.at.returns-in-Stop c).Start)) (file (goal.at.returns-in-Stop c).Start) (out (goal.at.returns-in-Stop c).Start) (found_stop (c.in-Stop.ensures (form (goal.at.returns-in-Stop c).Start) (named (goal.at.returns-in-Stop c).Else-not-is_form)) refl) c.refuse-in-Stop.ensures)
 
 pub returns-else-out-end : goal.returns-else-out-end
 returns-else-out-end c =
-    let walked = found_next (c.judge_claim.ensures (form (goal.at.returns-else-out-end c).Else-not-is_form) (named (goal.at.returns-else-out-end c).Else-not-is_form)) c.end-1.given.1 in
-    promised (goal.at.returns-else-out-end c).Else-not-is_form _ _ (long (goal.at.returns-else-out-end c).Else-not-is_form) (named (goal.at.returns-else-out-end c).Else-not-is_form)
-    (wrote_file (file (goal.at.returns-else-out-end c).Else-not-is_form) (out (goal.at.returns-else-out-end c).Else-not-is_form) _ walked (omega (arith, c.if-out-end.false)) (passes (goal.at.returns-else-out-end c).Else-not-is_form walked).end (c.put_claim.ensures (form (goal.at.returns-else-out-end c).Else-not-is_form) (named (goal.at.returns-else-out-end c).Else-not-is_form)))
+    let walked = found_next (c.in-Next.ensures (form (goal.at.returns-else-out-end c).Start) (named (goal.at.returns-else-out-end c).Else-not-is_form)) refl in
+    promised (goal.at.returns-else-out-end c).Start _ _ (long (goal.at.returns-else-out-end c).Else-not-is_form) (named (goal.at.returns-else-out-end c).Else-not-is_form)
+    (wrote_file (file (goal.at.returns-else-out-end c).Start) (out (goal.at.returns-else-out-end c).Start) _ walked (omega (arith, c.if-out-end.false)) (passes (goal.at.returns-else-out-end c).Start walked).end (c.put_claim.ensures (form (goal.at.returns-else-out-end c).Start) (named (goal.at.returns-else-out-end c).Else-not-is_form)))

@@ -23,10 +23,16 @@ use borrow.Author.Rules.{rules}
 use Rattle.std.proofs.Common.{ap}
 use Rattle.std.specs.Prelude.{not}
 use Rattle.writer.proofs.write_proof.Goals as goal
-use Rattle.writer.proofs.write_proof.Goals.{Else-codes-lt24576, Else-not-is_form}
+use Rattle.writer.proofs.write_proof.Goals.{Else-codes-lt24576, Else-not-is_form, Start}
+
+-- every slice is as long as document 01 asks
+record Long (lent nodes_lent : ℕ) (codes : List ℕ) : Type 0 where
+  pub entries : 256 ≤ lent
+  pub nodes : 1024 ≤ nodes_lent
+  pub codes_long : 24576 ≤ length codes
 
 -- what the claim's judge finds, and what is promised
-module _ (s : tie.Start) where
+module _ (s : Start) where
   abbrev form : Form
   form = named_form s.args.form
 
@@ -57,49 +63,43 @@ module _ (s : tie.Start) where
   abbrev Promised : ℕ → List ℕ → Type 0
   Promised r after =
       ProofWritten s.args.form s.args.lent s.args.count s.args.kinds.now s.args.a.now s.args.b.now sizes members
-      s.args.nodes-lent s.args.nodes s.args.rules.now s.args.links.now s.args.counts.now roots codes out r after
+      s.args.nodes_lent s.args.nodes s.args.rules.now s.args.links.now s.args.counts.now roots codes out r after
+
+  abbrev IsLong : Type 0
+  IsLong = Long s.args.lent s.args.nodes_lent codes
 
   abbrev Named : Type 0
   Named = s.args.form ≡ form_number form
 
-  -- every slice is as long as document 01 asks
-  record Long : Type 0 where
-    pub entries : 256 ≤ s.args.lent
-    pub nodes : 1024 ≤ s.args.nodes-lent
-    pub codes : 24576 ≤ length codes
-
-  short : (r : ℕ) → (ltb s.args.lent 256 || (ltb s.args.nodes-lent 1024 || ltb (length codes) 24576)) ≡ true → Wrote (refused 1 0) out r out → Promised r out
+  short : (r : ℕ) → (ltb s.args.lent 256 || (ltb s.args.nodes_lent 1024 || ltb (length codes) 24576)) ≡ true → Wrote (refused 1 0) out r out → Promised r out
   short r =
       proof_too_short s.args.form s.args.lent s.args.count s.args.kinds.now s.args.a.now s.args.b.now sizes members
-      s.args.nodes-lent s.args.nodes s.args.rules.now s.args.links.now s.args.counts.now roots codes out
+      s.args.nodes_lent s.args.nodes s.args.rules.now s.args.links.now s.args.counts.now roots codes out
 
-  no_form : (r : ℕ) → Long → formed s.args.form ≡ false → Wrote (refused 10 0) out r out → Promised r out
+  no_form : (r : ℕ) → IsLong → formed s.args.form ≡ false → Wrote (refused 10 0) out r out → Promised r out
   no_form r l =
       proof_of_no_form s.args.form s.args.lent s.args.count s.args.kinds.now s.args.a.now s.args.b.now sizes members
-      s.args.nodes-lent s.args.nodes s.args.rules.now s.args.links.now s.args.counts.now roots codes out
-      l.entries l.nodes l.codes
+      s.args.nodes_lent s.args.nodes s.args.rules.now s.args.links.now s.args.counts.now roots codes out
+      l.entries l.nodes l.codes_long
 
-  refused-first : (r : ℕ) {n q : ℕ} → Long → Named → found ≡ stop n q → Wrote (refused n q) out r out → Promised r out
+  refused-first : (r : ℕ) {n q : ℕ} → IsLong → Named → found ≡ stop n q → Wrote (refused n q) out r out → Promised r out
   refused-first r l named =
       claim_refused_first s.args.form s.args.lent s.args.count s.args.kinds.now s.args.a.now s.args.b.now sizes members
-      s.args.nodes-lent s.args.nodes s.args.rules.now s.args.links.now s.args.counts.now roots codes out
-      l.entries l.nodes l.codes form named
+      s.args.nodes_lent s.args.nodes s.args.rules.now s.args.links.now s.args.counts.now roots codes out
+      l.entries l.nodes l.codes_long form named
 
-  written : (r : ℕ) (after : List ℕ) {o : ℕ} → Long → Named → found ≡ next o
+  written : (r : ℕ) (after : List ℕ) {o : ℕ} → IsLong → Named → found ≡ next o
       → Wrote (proved_by form (length sizes) (kind_table s.args.kinds.now s.args.count) s.args.nodes roots records codes (length out)) out r after → Promised r after
   written r after l named =
       proof_written s.args.form s.args.lent s.args.count s.args.kinds.now s.args.a.now s.args.b.now sizes members
-      s.args.nodes-lent s.args.nodes s.args.rules.now s.args.links.now s.args.counts.now roots codes out
-      l.entries l.nodes l.codes form named
+      s.args.nodes_lent s.args.nodes s.args.rules.now s.args.links.now s.args.counts.now roots codes out
+      l.entries l.nodes l.codes_long form named
 
-long : (c : Else-codes-lt24576) → Long c
-long c = record { entries = omega (arith, c.if-lent-lt256.false); nodes = omega (arith, c.if-nodes_lent-lt1024.false); codes = omega (arith, c.if-codes-lt24576.false) }
+long : (c : Else-codes-lt24576) → Long c.args.lent c.args.nodes_lent c.args.codes.now
+long c = record { entries = omega (arith, c.if-lent-lt256.false); nodes = omega (arith, c.if-nodes_lent-lt1024.false); codes_long = omega (arith, c.if-codes-lt24576.false) }
 
-abbrev start : tie.Else4 → tie.Start
-start c = lent c.before.before
-
-named : (c : Else-not-is_form) → Named (start c)
-named c = asked_form (start c).args.form c.is_form.ensures (ap not c.if-not-is_form.false)
+named : (c : Else-not-is_form) → c.args.form ≡ form_number (named_form c.args.form)
+named c = asked_form c.args.form c.is_form.ensures (ap not c.if-not-is_form.false)
 
 pub returns-then-lent-lt256 : goal.returns-then-lent-lt256
 returns-then-lent-lt256 c =
@@ -107,7 +107,7 @@ returns-then-lent-lt256 c =
 
 pub returns-then-nodes_lent-lt1024 : goal.returns-then-nodes_lent-lt1024
 returns-then-nodes_lent-lt1024 c =
-    short (goal.at.returns-then-nodes_lent-lt1024 c).Start _ (rw (le-ltb c.args.lent 256 (omega (arith, c.if-lent-lt256.false)), lt-ltb c.args.nodes-lent 1024 c.if-nodes_lent-lt1024.true) refl)
+    short (goal.at.returns-then-nodes_lent-lt1024 c).Start _ (rw (le-ltb c.args.lent 256 (omega (arith, c.if-lent-lt256.false)), lt-ltb c.args.nodes_lent 1024 c.if-nodes_lent-lt1024.true) refl)
     (record { answer = c.refuse-then-nodes_lent-lt1024.ensures; laid = refl })
 
 pub returns-then-codes-lt24576 : goal.returns-then-codes-lt24576
@@ -115,29 +115,29 @@ returns-then-codes-lt24576 c =
     short (goal.at.returns-then-codes-lt24576 c).Start _
     (rw (
       le-ltb c.args.lent 256 (omega (arith, c.if-lent-lt256.false)),
-      le-ltb c.args.nodes-lent 1024 (omega (arith, c.if-nodes_lent-lt1024.false)),
+      le-ltb c.args.nodes_lent 1024 (omega (arith, c.if-nodes_lent-lt1024.false)),
       lt-ltb (length (codes (goal.at.returns-then-codes-lt24576 c).Start)) 24576 c.if-codes-lt24576.true,
     ) refl)
     (record { answer = c.refuse-then-codes-lt24576.ensures; laid = refl })
 
 pub returns-then-not-is_form : goal.returns-then-not-is_form
 returns-then-not-is_form c =
-    no_form (goal.at.returns-then-not-is_form c).Else-codes-lt24576 _ (long (goal.at.returns-then-not-is_form c).Else-codes-lt24576) (asked_none c.args.form c.is_form.ensures (ap not c.if-not-is_form.true)) (record { answer = c.refuse-then-not-is_form.ensures; laid = refl })
+    no_form (goal.at.returns-then-not-is_form c).Start _ (long (goal.at.returns-then-not-is_form c).Else-codes-lt24576) (asked_none c.args.form c.is_form.ensures (ap not c.if-not-is_form.true)) (record { answer = c.refuse-then-not-is_form.ensures; laid = refl })
 
 pub write_beside-requires : goal.write_beside-requires
 write_beside-requires c =
-    let s = start (goal.at.write_beside-requires c).Else-not-is_form in
-    let walked = found_next (c.judge_claim.ensures (form s) (named (goal.at.write_beside-requires c).Else-not-is_form)) c.enum_told-1.given.1 in
+    let s = (goal.at.write_beside-requires c).Start in
+    let walked = found_next (c.in-Next.ensures (form s) (named (goal.at.write_beside-requires c).Else-not-is_form)) refl in
     let p = claim_passes (form s) s.args.count (table s) (sizes s) (members s) (table_of_length s.args.kinds.now s.args.a.now s.args.b.now s.args.count) walked in
-    (stands_beside (named (goal.at.write_beside-requires c).Else-not-is_form) p, (long (goal.at.write_beside-requires c).Else-codes-lt24576).codes, s.pre)
+    (stands_beside (named (goal.at.write_beside-requires c).Else-not-is_form) p, (long (goal.at.write_beside-requires c).Else-codes-lt24576).codes_long, s.requires)
 
 pub returns-in-Stop : goal.returns-in-Stop
 returns-in-Stop c =
-    let s = start (goal.at.returns-in-Stop c).Else-not-is_form in
-    refused-first s _ (long (goal.at.returns-in-Stop c).Else-codes-lt24576) (named (goal.at.returns-in-Stop c).Else-not-is_form) (found_stop (c.judge_claim.ensures (form s) (named (goal.at.returns-in-Stop c).Else-not-is_form)) c.number-1.given.1)
+    let s = (goal.at.returns-in-Stop c).Start in
+    refused-first s _ (long (goal.at.returns-in-Stop c).Else-codes-lt24576) (named (goal.at.returns-in-Stop c).Else-not-is_form) (found_stop (c.in-Stop.ensures (form s) (named (goal.at.returns-in-Stop c).Else-not-is_form)) refl)
     (record { answer = c.refuse-in-Stop.ensures; laid = refl })
 
 pub returns-in-Next : goal.returns-in-Next
 returns-in-Next c =
-    let s = start (goal.at.returns-in-Next c).Else-not-is_form in
-    written s _ _ (long (goal.at.returns-in-Next c).Else-codes-lt24576) (named (goal.at.returns-in-Next c).Else-not-is_form) (found_next (c.judge_claim.ensures (form s) (named (goal.at.returns-in-Next c).Else-not-is_form)) c.enum_told-1.given.1) c.write_beside.ensures
+    let s = (goal.at.returns-in-Next c).Start in
+    written s _ _ (long (goal.at.returns-in-Next c).Else-codes-lt24576) (named (goal.at.returns-in-Next c).Else-not-is_form) (found_next (c.in-Next.ensures (form s) (named (goal.at.returns-in-Next c).Else-not-is_form)) refl) c.write_beside.ensures
