@@ -21,6 +21,7 @@ use Rattle.vetting.specs.Columns.{starts, nodes_of_columns}
 use Rattle.vetting.specs.declared.Step.{Step}
 use Rattle.vetting.specs.declared.Step.TheVariants.{Next, Stop}
 use Rattle.verdict.specs.declared.Verdict.{Verdict}
+use Rattle.verdict.specs.declared.Verdict.TheVariants.{Accepted, Refused}
 use Rattle.claim_files.specs.ClaimFile.{GoalCount}
 use Rattle.formula.specs.PlainNodes.{proof_of}
 use Prim.Native.Nat.{ℕ}
@@ -71,10 +72,10 @@ pub returns-in-Refused : goal.returns-in-Refused
 returns-in-Refused c f named =
     let s = (goal.at.returns-in-Refused c).Start in
     let w = walked s c.in-Next.ensures f named in
-    finds_stop (Stop _ _) (judge_refuses (found_next w refl) (tree-told s f named w _ c.in-Refused.ensures)) refl
+    finds_stop (Stop _ _) (judge_refuses (found_next w refl) (tree-told s f named w (Refused c.in-Refused.number c.in-Refused.place) c.in-Refused.ensures)) refl
 
 pub returns-in-Accepted : goal.returns-in-Accepted
 returns-in-Accepted c f named =
     let s = (goal.at.returns-in-Accepted c).Start in
     let w = walked s c.in-Next.ensures f named in
-    finds_next (judge_accepts (found_next w refl) (tree-told s f named w _ c.in-Accepted.ensures)) (w.near _ refl)
+    finds_next (judge_accepts (found_next w refl) (tree-told s f named w Accepted c.in-Accepted.ensures)) (w.near _ refl)

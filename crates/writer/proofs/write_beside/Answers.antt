@@ -1,6 +1,6 @@
 -- Each answer is what the judge of the nodes found, and the file is laid down only where there is room for it.
 use native.Mathlib.Omega.{arith}
-use mathlib.Core.Path.{◌≡◌}
+use mathlib.Core.Path.{◌≡◌, refl}
 use mathlib.Core.List.{List}
 use Prim.Native.Nat.{ℕ}
 use lib.ListN.{length}
@@ -70,7 +70,9 @@ put_proof-requires c =
     )
 
 pub returns-in-Stop : goal.returns-in-Stop
-returns-in-Stop c = let h = c.in-Stop in ?
+returns-in-Stop c =
+    let s = (goal.at.returns-in-Stop c).Start in
+    wrote_refusal (length (out s)) (file s) (out s) (found_stop (c.in-Stop.ensures (form s) c.requires.0.named) refl) c.refuse.ensures
 
 pub returns-else-out-length : goal.returns-else-out-length
 returns-else-out-length c =
