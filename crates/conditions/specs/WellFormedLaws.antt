@@ -1,7 +1,6 @@
 -- what well-formedness says of fixpoints, operands and free names
-use Rattle.std.specs.Prelude.{◌≡◌, refl, ℕ, ◌<◌, length}
+use Rattle.std.specs.Prelude.{◌≡◌, ℕ, ◌<◌, length}
 use Rattle.std.proofs.Math.Path.{subst⁻¹}
-use Rattle.std.proofs.Common.{arith}
 use Rattle.formula.specs.Table.{Table}
 use Rattle.formula.specs.Shape.{Shape, fix, name, Fix, shape, Operand}
 use Rattle.conditions.specs.Free.{Free, named, inside}

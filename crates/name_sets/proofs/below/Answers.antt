@@ -1,5 +1,4 @@
 use Rattle.name_sets.specs.Ordered.{below_marks}
-use borrow.Author.Rules.{rules}
 use Rattle.name_sets.proofs.below.Goals as goal
 
 pub returns : goal.returns

@@ -1,5 +1,4 @@
 use Rattle.name_sets.specs.Ordered.{meets_one}
-use borrow.Author.Rules.{rules}
 use Rattle.name_sets.proofs.has.Goals as goal
 
 pub returns : goal.returns

@@ -7,7 +7,6 @@ use lib.Pow.{pow_pos, shl_exact}
 use borrow.Author.Tests.{lt-ltb, le-ltb}
 use native.Mathlib.Decide.{dec_lt}
 use Rattle.bits.specs.Bits.{bit, no_bit, ones_bit}
-use borrow.Author.Rules.{rules}
 use Rattle.name_sets.proofs.low_word.Goals as goal
 
 in_64 : (m : ℕ) → m < 64 → 1 * 2 ^ m % 2 ^ 64 ≡ 1 * 2 ^ m

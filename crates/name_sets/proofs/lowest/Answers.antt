@@ -1,7 +1,6 @@
 -- the first word that is not 0
 use native.Mathlib.Omega.{arith}
 use Rattle.name_sets.specs.Ordered.{lowest_in, lowest_none}
-use borrow.Author.Rules.{rules}
 use Rattle.name_sets.proofs.lowest.Goals as goal
 
 pub returns-then-x-ne0 : goal.returns-then-x-ne0

@@ -1,4 +1,3 @@
-use borrow.Author.Rules.{rules}
 use Rattle.name_sets.specs.NameSets.{only_marks}
 use Rattle.name_sets.proofs.only.Goals as goal
 

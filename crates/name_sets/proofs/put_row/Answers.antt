@@ -1,6 +1,5 @@
 use native.Mathlib.Omega.{arith}
 use lib.ListN.{length-set}
-use borrow.Author.Rules.{rules}
 use Rattle.name_sets.proofs.put_row.Goals as goal
 
 pub bounds-rows-at-2 : goal.bounds-rows-at-2

@@ -1,6 +1,5 @@
 use mathlib.Core.Path.{◌∙◌, ap}
 use mathlib.Core.Bool.{Bool, ◌||◌}
-use borrow.Author.Rules.{rules}
 use Rattle.name_sets.specs.NameSets.{holds}
 use Rattle.name_sets.proofs.with.Goals as goal
 

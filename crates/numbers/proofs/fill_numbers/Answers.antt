@@ -4,7 +4,6 @@ use native.Mathlib.Omega.{arith}
 use Rattle.thinning.specs.Columns.{prepared_none}
 use Rattle.numbers.specs.Begun.{begins}
 use Rattle.numbers.specs.Ended.{told}
-use borrow.Author.Rules.{rules}
 use Rattle.numbers.proofs.fill_numbers.Goals as goal
 
 pub prepare_all-requires : goal.prepare_all-requires

@@ -1,8 +1,6 @@
 -- The invariant: of the entries passed, the least of each number.
-use mathlib.Core.Path.{◌≡◌}
-use Prim.Native.Nat.{ℕ, suc, ◌-◌, ◌<◌, ◌≤◌}
-use native.Mathlib.Omega.{arith}
-use Rattle.numbers.specs.First.{Firsts, firsts_name, firsts_put}
+use Prim.Native.Nat.{◌≤◌}
+use Rattle.numbers.specs.First.{Firsts}
 use Rattle.numbers.proofs.find_firsts.Given as goal
 
 abbrev pub invariant-loop-e : goal.invariant-loop-e

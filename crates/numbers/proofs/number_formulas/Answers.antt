@@ -2,7 +2,6 @@
 use mathlib.Core.Path.{refl}
 use native.Mathlib.Omega.{arith}
 use Rattle.numbers.specs.Numbered.{room}
-use borrow.Author.Rules.{rules}
 use Rattle.numbers.proofs.number_formulas.Goals as goal
 
 pub number_in-requires : goal.number_in-requires

@@ -1,6 +1,5 @@
 -- The least entry that has a number, found for each number and taken for each entry.
 use Rattle.numbers.specs.Ended.{numbered_each}
-use borrow.Author.Rules.{rules}
 use Rattle.numbers.proofs.number_in.Goals as goal
 
 pub returns : goal.returns

@@ -1,8 +1,8 @@
 use mathlib.Core.Path.{◌≡◌, refl, ap}
-use Prim.Native.Nat.{ℕ, ◌-◌, ◌<◌, ◌≤◌}
+use Prim.Native.Nat.{ℕ, ◌<◌, ◌≤◌}
 use native.Mathlib.Omega.{arith}
 use lib.ListN.{get_or}
-use Rattle.numbers.specs.First.{FirstEach, first_more}
+use Rattle.numbers.specs.First.{first_more}
 use Rattle.numbers.proofs.take_firsts.Goals as goal
 
 -- the entry of the turn is one of the table

@@ -1,9 +1,6 @@
 -- The invariant: the entries passed have the least of their numbers.
-use mathlib.Core.Path.{◌≡◌, refl, ap}
-use Prim.Native.Nat.{ℕ, ◌-◌, ◌<◌, ◌≤◌}
-use native.Mathlib.Omega.{arith}
-use lib.ListN.{get_or}
-use Rattle.numbers.specs.First.{FirstEach, first_more}
+use Prim.Native.Nat.{◌-◌, ◌≤◌}
+use Rattle.numbers.specs.First.{FirstEach}
 use Rattle.numbers.proofs.take_firsts.Given as goal
 
 abbrev pub invariant-loop-e : goal.invariant-loop-e

@@ -2,7 +2,6 @@
 use mathlib.Core.Path.{sym}
 use Rattle.verdict.specs.Tells.{fails, false_tells, not_tells, tells_as}
 use Rattle.one_level.specs.Agree.{alike_not, alike_both}
-use borrow.Author.Rules.{rules}
 use Rattle.one_level.proofs.agree.Goals as goal
 
 pub returns-then-meet : goal.returns-then-meet

@@ -4,7 +4,6 @@ use mathlib.Core.Logic.{inl, inr}
 use native.Mathlib.Omega.{arith}
 use Rattle.verdict.specs.Tells.{tells_as, eqb_tells, true_tells, false_tells}
 use Rattle.one_level.specs.Fit.{fit_bare, fit_letter, fit_two, fit_step, fit_fix}
-use borrow.Author.Rules.{rules}
 use Rattle.one_level.proofs.fit.Goals as goal
 
 pub returns-then-kinds-f : goal.returns-then-kinds-f

@@ -1,7 +1,6 @@
 -- Each number read is below 65,536, so the two sums do not overflow.
 use native.Mathlib.Omega.{arith}
 use Rattle.verdict.specs.Tells.{eqb_tells}
-use borrow.Author.Rules.{rules}
 use Rattle.one_level.proofs.fit_fix.Goals as goal
 
 pub overflow_add-result : goal.overflow_add-result

@@ -1,7 +1,5 @@
 use mathlib.Core.Path.{sym, ◌∙◌}
-use borrow.Author.Tests.{not-true, not-false}
 use Rattle.verdict.specs.Tells.{fails, false_tells, tells_as}
-use borrow.Author.Rules.{rules}
 use Rattle.one_level.proofs.fit_two.Goals as goal
 
 pub returns-then-number : goal.returns-then-number

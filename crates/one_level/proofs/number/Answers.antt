@@ -2,7 +2,6 @@ use mathlib.Core.Path.{sym, ap}
 use Prim.Native.Nat.{ℕ, ◌+◌, ◌*◌}
 use native.Mathlib.Omega.{arith}
 use lib.ListN.{get_or, get_or-eq_default}
-use borrow.Author.Rules.{rules}
 use Rattle.one_level.proofs.number.Goals as goal
 
 pub returns-then-place-numbers : goal.returns-then-place-numbers

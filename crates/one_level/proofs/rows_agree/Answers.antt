@@ -1,6 +1,5 @@
 use Rattle.verdict.specs.Tells.{tells_as}
 use Rattle.one_level.specs.Agree.{alike_agree, agree_alike}
-use borrow.Author.Rules.{rules}
 use Rattle.one_level.proofs.rows_agree.Goals as goal
 
 pub returns : goal.returns

@@ -1,10 +1,6 @@
-use mathlib.Core.Path.{◌≡◌, refl, sym, ◌∙◌}
-use Prim.Native.Nat.{ℕ, ◌<◌, ◌≤◌, ◌-◌}
+use mathlib.Core.Path.{refl, sym, ◌∙◌}
 use native.Mathlib.Omega.{arith}
-use borrow.Author.Rules.{rules}
 use borrow.Author.Count.{below_more}
-use Rattle.formula.specs.Plain.{table_of}
-use Rattle.operands.specs.OperandBounds.{number_at_lem}
 use Rattle.operands.proofs.first_fault.Goals as goal
 
 pub loop-e-init : goal.loop-e-init

@@ -1,9 +1,6 @@
 -- The invariant: no entry passed earns 20 or 71.
-use mathlib.Core.Path.{◌≡◌, refl, sym, ◌∙◌}
+use mathlib.Core.Path.{◌≡◌}
 use Prim.Native.Nat.{ℕ, ◌<◌, ◌≤◌, ◌-◌}
-use native.Mathlib.Omega.{arith}
-use borrow.Author.Rules.{rules}
-use borrow.Author.Count.{below_more}
 use Rattle.formula.specs.Plain.{table_of}
 use Rattle.operands.specs.OperandBounds.{number_at_lem}
 use Rattle.operands.proofs.first_fault.Given as goal

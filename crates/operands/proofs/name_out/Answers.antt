@@ -1,7 +1,6 @@
 use mathlib.Core.Path.{refl, ap}
 use mathlib.Core.Bool.{not}
 use borrow.Author.Tests.{le-leb, lt-leb}
-use borrow.Author.Rules.{rules}
 use Rattle.operands.proofs.name_out.Goals as goal
 
 pub returns-then-fixpoint-e : goal.returns-then-fixpoint-e

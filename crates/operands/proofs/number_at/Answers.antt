@@ -1,6 +1,5 @@
 -- `number_at` meets its contract, test by test.
-use mathlib.Core.Path.{refl, sym, ◌∙◌}
-use borrow.Author.Rules.{rules}
+use mathlib.Core.Path.{sym, ◌∙◌}
 use Rattle.operands.specs.OperandBounds.{number_out, number_far, number_zero}
 use Rattle.operands.proofs.number_at.Goals as goal
 

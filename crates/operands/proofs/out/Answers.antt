@@ -1,6 +1,5 @@
 use native.Mathlib.Omega.{arith}
 use Rattle.operands.specs.OperandBounds.{name_answer, other_answer}
-use borrow.Author.Rules.{rules}
 use Rattle.operands.proofs.out.Goals as goal
 
 pub returns-then-kind-eq-NAME : goal.returns-then-kind-eq-NAME

@@ -3,7 +3,6 @@ use mathlib.Core.Path.{refl}
 use native.Mathlib.Omega.{arith}
 use borrow.Author.Tests.{eq-eqb, ne_eqb}
 use Rattle.name_sets.specs.Ordered.{meets_one}
-use borrow.Author.Rules.{rules}
 use Rattle.rounds.proofs.due.Goals as goal
 
 pub returns-then-q-count : goal.returns-then-q-count

@@ -1,8 +1,6 @@
 use mathlib.Core.Path.{◌≡◌, refl, ◌∙◌}
 use Prim.Native.Nat.{◌+◌, ◌-◌}
 use native.Mathlib.Omega.{arith}
-use lib.ListN.{length}
-use Rattle.rounds.specs.Rounds.{Between}
 use Rattle.rounds.proofs.fill.Goals as goal
 
 pub overflow_add-q : goal.overflow_add-q

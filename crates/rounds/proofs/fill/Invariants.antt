@@ -1,7 +1,5 @@
 -- The invariant: the rounds from q on are done.
-use mathlib.Core.Path.{◌≡◌, refl, ◌∙◌}
-use Prim.Native.Nat.{◌+◌, ◌-◌}
-use native.Mathlib.Omega.{arith}
+use mathlib.Core.Path.{◌≡◌}
 use lib.ListN.{length}
 use Rattle.rounds.specs.Rounds.{Between}
 use Rattle.rounds.proofs.fill.Given as goal

@@ -1,8 +1,6 @@
-use mathlib.Core.Path.{◌≡◌, refl, ◌∙◌}
-use Prim.Native.Nat.{◌-◌}
+use mathlib.Core.Path.{refl, ◌∙◌}
 use native.Mathlib.Omega.{arith}
-use lib.ListN.{length}
-use Rattle.rounds.specs.Rounds.{Round, round_begins, round_ends}
+use Rattle.rounds.specs.Rounds.{round_begins, round_ends}
 use Rattle.rounds.proofs.round.Goals as goal
 
 pub loop-e-init : goal.loop-e-init

@@ -1,9 +1,8 @@
 -- The invariant: the entries passed have their numbers.
-use mathlib.Core.Path.{◌≡◌, refl, ◌∙◌}
+use mathlib.Core.Path.{◌≡◌}
 use Prim.Native.Nat.{◌-◌}
-use native.Mathlib.Omega.{arith}
 use lib.ListN.{length}
-use Rattle.rounds.specs.Rounds.{Round, round_begins, round_ends}
+use Rattle.rounds.specs.Rounds.{Round}
 use Rattle.rounds.proofs.round.Given as goal
 
 abbrev pub invariant-loop-e : goal.invariant-loop-e

@@ -1,8 +1,6 @@
 -- Nothing is due in the round of an entry that is no fixpoint.
 use mathlib.Core.Path.{sym, ◌∙◌}
-use borrow.Author.Tests.{not-true}
 use Rattle.rounds.specs.Rounds.{round_of_none}
-use borrow.Author.Rules.{rules}
 use Rattle.rounds.proofs.turn.Goals as goal
 
 pub returns-then-not-is_fixpoint : goal.returns-then-not-is_fixpoint

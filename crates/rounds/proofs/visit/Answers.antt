@@ -1,14 +1,8 @@
 -- An entry that is due gets its number, and every other has it already.
-use mathlib.Core.Path.{◌≡◌, sym, ◌∙◌}
-use mathlib.Core.Bool.{Bool, true}
+use mathlib.Core.Path.{sym, ◌∙◌}
 use Prim.Native.Nat.{ℕ, ◌<◌, ◌≤◌}
 use native.Mathlib.Omega.{arith}
-use borrow.Author.Tests.{not-true, not-false}
-use Rattle.formula.specs.Plain.{table_of}
-use Rattle.numbering.specs.FilledCanon.{free_test}
-use Rattle.rounds.specs.Stand.{due}
 use Rattle.rounds.specs.Rounds.{due_tells, round_skips, here, level_small, round_places}
-use borrow.Author.Rules.{rules}
 use Rattle.rounds.proofs.visit.Goals as goal
 
 -- the entry of a round is one of the table

@@ -1,9 +1,8 @@
 use mathlib.Core.Path.{refl}
-use Prim.Native.Nat.{ℕ, ◌+◌, ◌*◌, ◌-◌, ◌<◌, ◌≤◌}
+use Prim.Native.Nat.{ℕ, ◌+◌, ◌*◌, ◌<◌, ◌≤◌}
 use native.Mathlib.Omega.{arith}
 use lib.ListN.{length}
-use borrow.Author.Rules.{rules}
-use Rattle.scopes.specs.FreeRows.{FreeReached, free_on}
+use Rattle.scopes.specs.FreeRows.{free_on}
 use Rattle.scopes.proofs.fill_free_rows.Goals as goal
 use Rattle.scopes.proofs.fill_free_rows.Goals.{In-loop-e}
 

@@ -1,10 +1,6 @@
 -- The invariant: the rows of all entries passed.
-use mathlib.Core.Path.{refl}
-use Prim.Native.Nat.{ℕ, ◌+◌, ◌*◌, ◌-◌, ◌<◌, ◌≤◌}
-use native.Mathlib.Omega.{arith}
-use lib.ListN.{length}
-use borrow.Author.Rules.{rules}
-use Rattle.scopes.specs.FreeRows.{FreeReached, free_on}
+use Prim.Native.Nat.{◌-◌}
+use Rattle.scopes.specs.FreeRows.{FreeReached}
 use Rattle.scopes.proofs.fill_free_rows.Given as goal
 
 abbrev pub invariant-loop-e : goal.invariant-loop-e

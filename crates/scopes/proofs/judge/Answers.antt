@@ -2,7 +2,6 @@
 use mathlib.Core.Path.{◌≡◌}
 use Prim.Native.Nat.{ℕ, ◌<◌}
 use native.Mathlib.Omega.{arith}
-use borrow.Author.Rules.{rules}
 use Rattle.formula.specs.Plain.{table_of, table_of_length}
 use Rattle.operands.specs.OperandBounds.{number_at_lem, number-none}
 use Rattle.scopes.specs.JudgeSteps.{judge_fault, judge_names}

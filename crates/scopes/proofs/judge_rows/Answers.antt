@@ -1,12 +1,11 @@
 use mathlib.Core.Path.{◌≡◌, refl, ap, sym, ◌∙◌}
-use Prim.Native.Nat.{ℕ, ◌+◌, ◌*◌, ◌-◌, ◌<◌, ◌≤◌}
+use Prim.Native.Nat.{ℕ, ◌+◌, ◌*◌, ◌<◌, ◌≤◌}
 use native.Mathlib.Omega.{arith}
 use lib.ListN.{length}
-use borrow.Author.Rules.{rules}
 use Rattle.formula.specs.Plain.{table_of}
 use Rattle.name_sets.specs.RowWords.{length_row}
 use Rattle.scopes.specs.Faults.{fault_at}
-use Rattle.scopes.specs.JudgeSteps.{Reached, starts, seen, refuses, goes_on, ends}
+use Rattle.scopes.specs.JudgeSteps.{starts, seen, refuses, goes_on, ends}
 use Rattle.scopes.proofs.judge_rows.Goals as goal
 use Rattle.scopes.proofs.judge_rows.Goals.{After-fault-number}
 

@@ -1,14 +1,8 @@
 -- The invariant: the rows of all entries passed, and that what is left of the pass decides.
-use mathlib.Core.Path.{◌≡◌, refl, ap, sym, ◌∙◌}
-use Prim.Native.Nat.{ℕ, ◌+◌, ◌*◌, ◌-◌, ◌<◌, ◌≤◌}
-use native.Mathlib.Omega.{arith}
+use mathlib.Core.Path.{◌≡◌}
+use Prim.Native.Nat.{◌-◌}
 use lib.ListN.{length}
-use borrow.Author.Rules.{rules}
-use Rattle.formula.specs.Table.{Table}
-use Rattle.formula.specs.Plain.{table_of}
-use Rattle.name_sets.specs.RowWords.{length_row}
-use Rattle.scopes.specs.Faults.{fault_at}
-use Rattle.scopes.specs.JudgeSteps.{Reached, starts, seen, refuses, goes_on, ends}
+use Rattle.scopes.specs.JudgeSteps.{Reached}
 use Rattle.scopes.proofs.judge_rows.Given as goal
 
 abbrev pub invariant-loop-e : goal.invariant-loop-e

@@ -1,14 +1,8 @@
 -- The invariant: the entries of the kind among those passed.
-use mathlib.Core.Path.{◌≡◌}
-use mathlib.Core.Logic.{⊎_elim}
-use mathlib.Core.Bool.{Bool}
-use Prim.Native.Nat.{ℕ, ◌≤◌, ◌-◌}
-use native.Mathlib.Omega.{arith}
+use Prim.Native.Nat.{◌≤◌, ◌-◌}
 use lib.Dec.{eqb}
 use lib.ListN.{get_or}
-use borrow.Author.Rules.{rules}
-use borrow.Author.Tests.{eq-eqb, ne_eqb}
-use Rattle.name_sets.specs.MarksBelow.{MarksBelow, below_none, below_skip, below_with}
+use Rattle.name_sets.specs.MarksBelow.{MarksBelow}
 use Rattle.scopes.proofs.of_kind.Given as goal
 
 abbrev pub invariant-loop-e : goal.invariant-loop-e

@@ -1,6 +1,5 @@
 use native.Mathlib.Omega.{arith}
 use Rattle.verdict.specs.Tells.{false_tells, tells_as}
-use borrow.Author.Rules.{rules}
 use Rattle.searching.proofs.candidate.Goals as goal
 
 pub returns-then-kinds-f : goal.returns-then-kinds-f

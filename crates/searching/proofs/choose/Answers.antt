@@ -1,8 +1,6 @@
 -- A name, a mark that does not stand yet, or a search.
 use mathlib.Core.Path.{refl, sym, ◌∙◌}
-use borrow.Author.Tests.{not-true}
 use Rattle.searching.specs.Search.{chosen_name, chosen_unseen, chosen_searched}
-use borrow.Author.Rules.{rules}
 use Rattle.searching.proofs.choose.Goals as goal
 
 pub returns-then-kinds-e-eq-NAME : goal.returns-then-kinds-e-eq-NAME

@@ -1,8 +1,5 @@
 -- The invariant: none of the entries passed is one.
 use Prim.Native.Nat.{ℕ, ◌-◌, ◌<◌, ◌≤◌}
-use native.Mathlib.Omega.{arith}
-use borrow.Author.Count.{below_more}
-use Rattle.verdict.specs.Tells.{fails}
 use Rattle.searching.specs.Search.{Candidate}
 use Rattle.searching.proofs.find.Given as goal
 

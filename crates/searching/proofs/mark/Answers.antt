@@ -1,7 +1,6 @@
 -- one bit more
 use native.Mathlib.Omega.{arith}
 use Rattle.bits.specs.WordSet.{in_inserted}
-use borrow.Author.Rules.{rules}
 use Rattle.searching.proofs.mark.Goals as goal
 
 pub returns : goal.returns

@@ -1,7 +1,6 @@
 use mathlib.Core.Path.{sym}
 use native.Mathlib.Omega.{arith}
 use Rattle.searching.specs.Search.{mark_constant, mark_letter, mark_two, mark_step, mark_one}
-use borrow.Author.Rules.{rules}
 use Rattle.searching.proofs.mark_in.Goals as goal
 
 pub returns-then-kind-lt-LETTER : goal.returns-then-kind-lt-LETTER

@@ -1,7 +1,6 @@
 -- Nothing is in own and not in inner.
 use Rattle.verdict.specs.Tells.{not_tells, tells_as}
 use Rattle.thinning.specs.AllMarked.{within_less, within_none}
-use borrow.Author.Rules.{rules}
 use Rattle.thinning.proofs.has_all.Goals as goal
 
 pub returns : goal.returns

@@ -1,7 +1,5 @@
 -- Its place is marked where the operand has the name.
 use mathlib.Core.Path.{refl, sym, ◌∙◌}
-use borrow.Author.Tests.{not-true, not-false}
-use borrow.Author.Rules.{rules}
 use Rattle.thinning.specs.Marked.{grown_without, grown_with}
 use Rattle.thinning.proofs.pass.Goals as goal
 

@@ -6,7 +6,6 @@ use Rattle.numbering.specs.Count.{tally, tally_bound}
 use Rattle.name_sets.specs.declared.Names.{Names}
 use Rattle.name_sets.specs.NameSets.{holds}
 use Rattle.thinning.specs.Columns.{prepared_more}
-use borrow.Author.Rules.{rules}
 use Rattle.thinning.proofs.prepare.Goals as goal
 
 -- no more names than numbers

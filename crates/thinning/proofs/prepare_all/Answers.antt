@@ -1,8 +1,5 @@
 use mathlib.Core.Path.{◌≡◌, refl, ◌∙◌}
-use Prim.Native.Nat.{◌-◌, ◌≤◌}
 use native.Mathlib.Omega.{arith}
-use lib.ListN.{length}
-use Rattle.thinning.specs.Columns.{Prepared}
 use Rattle.thinning.proofs.prepare_all.Goals as goal
 
 pub loop-e-init : goal.loop-e-init

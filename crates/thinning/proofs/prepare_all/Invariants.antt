@@ -1,7 +1,6 @@
 -- The invariant: the columns of the entries passed.
-use mathlib.Core.Path.{◌≡◌, refl, ◌∙◌}
+use mathlib.Core.Path.{◌≡◌}
 use Prim.Native.Nat.{◌-◌, ◌≤◌}
-use native.Mathlib.Omega.{arith}
 use lib.ListN.{length}
 use Rattle.thinning.specs.Columns.{Prepared}
 use Rattle.thinning.proofs.prepare_all.Given as goal

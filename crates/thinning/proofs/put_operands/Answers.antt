@@ -1,7 +1,6 @@
 -- What has no two operands keeps the rows that stood there.
 use native.Mathlib.Omega.{arith}
 use Rattle.thinning.specs.Columns.{row_left, row_for}
-use borrow.Author.Rules.{rules}
 use Rattle.thinning.proofs.put_operands.Goals as goal
 
 pub returns-then-kind-lt-OR : goal.returns-then-kind-lt-OR

@@ -2,7 +2,6 @@
 use mathlib.Core.Path.{sym, ◌∙◌}
 use Rattle.thinning.specs.AllMarked.{none_among, all_among}
 use Rattle.thinning.specs.Columns.{row_put}
-use borrow.Author.Rules.{rules}
 use Rattle.thinning.proofs.put_thinned.Goals as goal
 
 pub returns-then-size-eq0 : goal.returns-then-size-eq0

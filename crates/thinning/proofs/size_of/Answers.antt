@@ -1,9 +1,8 @@
 use mathlib.Core.Path.{refl}
-use Prim.Native.Nat.{◌-◌, ◌<◌}
+use Prim.Native.Nat.{◌<◌}
 use native.Mathlib.Omega.{arith}
 use Rattle.name_sets.specs.NameSets.{none_marks}
-use Rattle.name_sets.specs.declared.Names.{Names}
-use Rattle.thinning.specs.Marked.{Thinning, thinning_starts, thinning_nearer, thinning_on, thinning_ends, size-within, grown_without}
+use Rattle.thinning.specs.Marked.{thinning_starts, thinning_nearer, thinning_on, thinning_ends, size-within, grown_without}
 use Rattle.thinning.proofs.size_of.Goals as goal
 
 pub loop-name-init : goal.loop-name-init

@@ -1,10 +1,7 @@
 -- The invariant is that of `thin` over no name of an operand: the names below the one that is next are passed.
-use mathlib.Core.Path.{refl}
-use Prim.Native.Nat.{◌-◌, ◌<◌}
-use native.Mathlib.Omega.{arith}
-use Rattle.name_sets.specs.NameSets.{none_marks}
+use Prim.Native.Nat.{◌-◌}
 use Rattle.name_sets.specs.declared.Names.{Names}
-use Rattle.thinning.specs.Marked.{Thinning, thinning_starts, thinning_nearer, thinning_on, thinning_ends, size-within, grown_without}
+use Rattle.thinning.specs.Marked.{Thinning}
 use Rattle.thinning.proofs.size_of.Given as goal
 
 abbrev empty : Names

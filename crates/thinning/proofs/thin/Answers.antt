@@ -1,7 +1,6 @@
 use mathlib.Core.Path.{refl}
-use Prim.Native.Nat.{◌-◌}
 use native.Mathlib.Omega.{arith}
-use Rattle.thinning.specs.Marked.{Thinning, thinning_starts, thinning_nearer, thinning_on, thinning_ends, size-within}
+use Rattle.thinning.specs.Marked.{thinning_starts, thinning_nearer, thinning_on, thinning_ends, size-within}
 use Rattle.thinning.proofs.thin.Goals as goal
 
 pub loop-name-init : goal.loop-name-init

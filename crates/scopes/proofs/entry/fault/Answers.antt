@@ -1,8 +1,6 @@
 -- Each test tells a name in common of two sets, and the sets are those that `Seen` says.
 use mathlib.Core.Path.{◌≡◌, sym, ◌∙◌}
 use mathlib.Core.Bool.{true}
-use borrow.Author.Rules.{rules}
-use borrow.Author.Tests.{not-true, not-false}
 use Rattle.verdict.specs.Tells.{Tells}
 use Rattle.formula.specs.Fields.{is_fixpoint_lem}
 use Rattle.name_sets.specs.NameSets.{Shared}

@@ -1,7 +1,6 @@
 -- The last arm is left to the kinds below 4 and to numbers past the last kind.
-use mathlib.Core.Logic.{⊎_elim, inl, inr}
+use mathlib.Core.Logic.{inl, inr}
 use native.Mathlib.Omega.{arith}
-use borrow.Author.Rules.{rules}
 use Rattle.conditions.specs.Judge.{free_row}
 use Rattle.scopes.specs.RowMarks.{free_joins, made_leaf, made_two, made_name, free_step, free_fix}
 use Rattle.scopes.proofs.entry.free_names.Goals as goal
@@ -28,7 +27,7 @@ returns-in_default c =
     let given = c.args in
     made_leaf free_row free_joins given.kind given.first given.e given.x given.y _
     (elim c.in_default.branch [
-      in_default-via-then-kind-lt4 w ↦ inl (omega arith)
-    | in_default-via-else-kind-lt4+else-kind-lt6+else-kind-lt8+else-kind-lt10 w ↦ inr (omega arith)
+      | in_default-via-then-kind-lt4 w ↦ inl (omega arith)
+      | in_default-via-else-kind-lt4+else-kind-lt6+else-kind-lt8+else-kind-lt10 w ↦ inr (omega arith)
     ])
     c.none.ensures
