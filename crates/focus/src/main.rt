@@ -5,7 +5,8 @@
 // standard error, and there is no verdict.
 #![tactic(auto)]
 
-ghost use Rattle.std.specs.Prelude.{◌≤◌, IfOk, length};
+ghost use Rattle.std.specs.Prelude.{IfOk};
+ghost use Rattle.io.specs.Counts.{IsPrefixLen};
 
 use std::fs;
 use std::io;
@@ -16,7 +17,7 @@ use verdict::Verdict;
 // Reads the file to its end, to the buffer's, or to the first read that fails, as one does that a signal interrupts: how many bytes came,
 // and no count where a read failed. A read that brings less than was asked is no end: a pipe's bytes come in pieces.
 fn read_file(file: &mut impl Read, buf: &mut [u8]) -> io::Result<usize>
-    ensures { IfOk result (λ count. count ≤ length buf.new) }
+    ensures { IfOk result (λ count. IsPrefixLen count buf.new) }
 {
     let mut done = 0;
     while done < buf.len() {
@@ -30,7 +31,7 @@ fn read_file(file: &mut impl Read, buf: &mut [u8]) -> io::Result<usize>
 }
 
 fn read_named(files: &impl Files, name: &str, buf: &mut [u8]) -> io::Result<usize>
-    ensures { IfOk result (λ count. count ≤ length buf.new) }
+    ensures { IfOk result (λ count. IsPrefixLen count buf.new) }
 {
     let mut file = fs::open(files, name)?;
     read_file(&mut file, buf)
@@ -43,10 +44,17 @@ fn write_verdict(rt: &impl Print, verdict: Verdict) -> io::Result<()> {
     }
 }
 
+fn judge(rt: &(impl Print + Eprint), claim: &[u8], proof: &[u8]) -> io::Result<()> {
+    match write_verdict(rt, single::judge_files(claim, proof)) {
+        Ok(_) => Ok(()),
+        Err(error) => eprintln!(rt; "standard output: {error}"),
+    }
+}
+
 fn judge_with(rt: &(impl Files + Print + Eprint), claim: &[u8]) -> io::Result<()> {
     let mut proof = [0u8; 65536];
     match read_named(rt, "proof.bin", &mut proof) {
-        Ok(n) => write_verdict(rt, single::judge_files(claim, &proof[..n])),
+        Ok(n) => judge(rt, claim, &proof[..n]),
         Err(error) => eprintln!(rt; "proof.bin: {error}"),
     }
 }
