@@ -8,7 +8,9 @@ use Rattle.rules.proofs.judge.judge_in.Goals as goal
 
 pub fill_owners-requires : goal.fill_owners-requires
 fill_owners-requires c =
-    let (L, G, F, _) = c.requires in (
+    let L = c.requires.0 in
+    let G = c.requires.1 in
+    let F = c.requires.2 in (
       record { few = L.columns.few; room = (L.columns.rules, L.columns.links, F.room) },
       record { few = G.roots.few; long = G.roots.long; inside = G.roots.inside },
       F.ownerless,
@@ -16,17 +18,19 @@ fill_owners-requires c =
 
 pub judge_tree-requires : goal.judge_tree-requires
 judge_tree-requires c =
-    let (L, M, F, N) = c.requires in
-    let filled = rw c.enum_told-1.given.1 at c.fill_owners.ensures in record { judged = (filled_judged filled L N, M); upward = (
+    let L = c.requires.0 in
+    let filled = c.in-Accepted.ensures in
+    record {
+      judged = (filled_judged filled L c.requires.3, c.requires.1);
+      upward = (
         record { few = L.columns.few; room = search rules; parented = filled_parented _ _ _ _ _ filled },
         filled.owned refl,
-        F.once,
-      ) }
+        c.requires.2.once,
+      );
+    }
 
 pub returns-in-Accepted : goal.returns-in-Accepted
-returns-in-Accepted c f =
-    let filled = rw c.enum_told-1.given.1 at c.fill_owners.ensures in
-    c.judge_tree.ensures f ∙ sym (tree_good _ _ (filled_tree filled _ _))
+returns-in-Accepted c f = c.judge_tree.ensures f ∙ sym (tree_good _ _ (filled_tree c.in-Accepted.ensures _ _))
 
 pub returns-in-Refused : goal.returns-in-Refused
-returns-in-Refused c f = sym (tree_bad _ _ (sym (c.fill_owners.ensures.answers _ _) ∙ ap shown c.number-1.given.1))
+returns-in-Refused c f = sym (tree_bad _ _ (sym (c.in-Refused.ensures.answers _ _)))

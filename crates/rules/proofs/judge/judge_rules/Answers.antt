@@ -11,17 +11,6 @@ use Rattle.formula.specs.Nodes.{Proof}
 use Rattle.formula.specs.PlainNodes.{proof_of, proof_of_length}
 use Rattle.rules.specs.JudgeStages.{rules_judged, rules_linked, nodes_passed, nodes_refused}
 use Rattle.rules.proofs.judge.judge_rules.Goals as goal
-use Rattle.rules.proofs.judge.judge_rules.Goals.{In-Accepted}
-
--- the claim and the proof that the function is lent, whatever the claim's goals
-abbrev claim : tie.Start → Form → List ℕ → List ℕ → ℕ → Claim
-claim s f gs ms k = held_claim f s.args.kinds.now s.args.a.now s.args.b.now s.args.count gs ms k
-
-abbrev proof : tie.Start → Proof
-proof s = proof_of s.args.rules.now s.args.links.now s.args.starts.now s.args.codes.now s.args.nodes
-
-passed : (c : In-Accepted) (f : Form) (gs ms : List ℕ) (k : ℕ) → rules_judged (claim c f gs ms k) (proof c) ≡ accepted
-passed c f gs ms k = sym (rw c.enum_told-1.given.1 at c.judge_nodes.ensures f gs ms k)
 
 pub fill_spans-requires : goal.fill_spans-requires
 fill_spans-requires c = (c.requires.judged.1, c.requires.owned_by.1)
@@ -36,16 +25,29 @@ judge_nodes-requires c =
 
 pub judge_loops-requires : goal.judge_loops-requires
 judge_loops-requires c =
-    let J = c.requires.judged.0 in record { tabled = record {
+    let a = c.args in
+    let J = c.requires.judged.0 in
+    record {
+      tabled = record {
         upward = c.requires.judged.1;
         room = (J.columns.rules, J.columns.starts, omega (arith, c.requires.owned_by.1.room), omega (arith, c.requires.owned_by.1.room));
         within = λ v h. (J.rising v h).1;
-      }; nodes_in_bounds = (J.columns.links, c.requires.owned_by.0 _ _, rules_linked (claim clm1 [] [] 0) (proof (goal.at.judge_loops-requires c).?None) (passed (goal.at.judge_loops-requires c).In-Accepted clm1 [] [] 0)) }
+      };
+      nodes_in_bounds = (
+        J.columns.links,
+        c.requires.owned_by.0 _ _,
+        rules_linked (held_claim clm1 a.kinds.now a.a.now a.b.now a.count [] [] 0) (proof_of a.rules.now a.links.now a.starts.now a.codes.now a.nodes)
+            (sym (c.in-Accepted.ensures clm1 [] [] 0)),
+      );
+    }
 
 pub returns-in-Accepted : goal.returns-in-Accepted
 returns-in-Accepted c f gs ms k =
-    c.judge_loops.ensures ∙ sym (nodes_passed (claim f gs ms k) (proof (goal.at.returns-in-Accepted c).?None) (passed (goal.at.returns-in-Accepted c).In-Accepted f gs ms k))
+    let a = c.args in
+    c.judge_loops.ensures
+    ∙ sym (nodes_passed (held_claim f a.kinds.now a.a.now a.b.now a.count gs ms k) (proof_of a.rules.now a.links.now a.starts.now a.codes.now a.nodes) (sym (c.in-Accepted.ensures f gs ms k)))
 
 pub returns-in-Refused : goal.returns-in-Refused
 returns-in-Refused c f gs ms k =
-    sym (nodes_refused (claim f gs ms k) (proof (goal.at.returns-in-Refused c).?None) (sym (rw c.number-1.given.1 at c.judge_nodes.ensures f gs ms k)))
+    let a = c.args in
+    sym (nodes_refused (held_claim f a.kinds.now a.a.now a.b.now a.count gs ms k) (proof_of a.rules.now a.links.now a.starts.now a.codes.now a.nodes) (sym (c.in-Refused.ensures f gs ms k)))

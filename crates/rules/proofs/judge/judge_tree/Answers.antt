@@ -7,38 +7,37 @@ use Rattle.verdict.specs.Shown.{shown}
 use Rattle.formula.specs.Claim.{Form, Claim, Derivation}
 use Rattle.formula.specs.Plain.{table_of_length}
 use Rattle.formula.specs.Held.{held_claim, held_proof}
+use Rattle.formula.specs.PlainNodes.{proof_of}
 use Rattle.goals.specs.Goals.{goals_judged}
 use Rattle.principal_rules.specs.Judged.{placed}
 use Rattle.rules.specs.JudgeStages.{goals_bad, goals_good}
 use Rattle.rules.proofs.judge.judge_tree.Goals as goal
-
--- the claim and the proof that the function is lent
-abbrev claim : tie.Start → Form → Claim
-claim s f = held_claim f s.args.kinds.now s.args.a.now s.args.b.now s.args.count s.args.bounds.now s.args.members.now s.args.goals
-
-abbrev proof : tie.Start → Derivation
-proof s = held_proof s.args.rules.now s.args.links.now s.args.starts.now s.args.codes.now s.args.nodes s.args.roots.now s.args.goals
+use Rattle.rules.proofs.judge.judge_tree.Goals.{After-judge_goals}
 
 -- what 36 says of the goals, whose members and the nodes' codes name entries of the table
-module _ (c : tie.After-judge-goals) where
-  abbrev start : tie.Start
-  start = c.before.before.before.before.before.before.before.before
-
-  goals-told : (f : Form)
-      → shown c.judge-goals.result ≡ goals_judged (claim start f) (take start.args.goals start.args.roots.now) (proof start).nodes
-  goals-told f =
-      let (J, G) = start.pre.0 in
-      let long = table_of_length start.args.kinds.now start.args.a.now start.args.b.now start.args.count in
-      c.judge-goals.ensures _
-      (record {
-        numbers = J.numbers;
-        members = λ i h e m. omega (arith, G.placed.inside i h e m, long);
-        codes = λ v h x m. (J.members v h x m).inside;
-      }) f _ _
+goals_told : (c : After-judge_goals) → let a = c.args in (f : Form)
+    → shown c.judge_goals.result
+    ≡ goals_judged (held_claim f a.kinds.now a.a.now a.b.now a.count a.bounds.now a.members.now a.goals) (take a.goals a.roots.now)
+    (proof_of a.rules.now a.links.now a.starts.now a.codes.now a.nodes)
+goals_told c f =
+    let J = c.requires.judged.0 in
+    let G = c.requires.judged.1 in
+    let long = table_of_length c.args.kinds.now c.args.a.now c.args.b.now c.args.count in
+    c.judge_goals.ensures _
+    (record {
+      numbers = J.numbers;
+      members = λ i h e m. omega (arith, G.placed.inside i h e m, long);
+      codes = λ v h x m. (J.members v h x m).inside;
+    }) f _ _
 
 pub judge_goals-requires : goal.judge_goals-requires
 judge_goals-requires c =
-    let (J, G) = c.requires.judged in record { narrow = (J.numbers.narrow, record { held = G.placed.held; inside = λ i h e m. omega (arith, G.placed.inside i h e m, J.entries) }, G.roots); by_index = λ v h. placed J v h }
+    let J = c.requires.judged.0 in
+    let G = c.requires.judged.1 in
+    record {
+      narrow = (J.numbers.narrow, record { held = G.placed.held; inside = λ i h e m. omega (arith, G.placed.inside i h e m, J.entries) }, G.roots);
+      by_index = λ v h. placed J v h;
+    }
 
 pub judge_rules-requires : goal.judge_rules-requires
 judge_rules-requires c =
@@ -46,10 +45,15 @@ judge_rules-requires c =
 
 pub returns-in-Accepted : goal.returns-in-Accepted
 returns-in-Accepted c f =
-    let s = start (goal.at.returns-in-Accepted c).After-judge_goals in
+    let a = c.args in
     c.judge_rules.ensures f _ _ _
-    ∙ sym (goals_good (claim s f) (proof s) (sym (goals-told (goal.at.returns-in-Accepted c).After-judge_goals f) ∙ ap shown c.enum_told-1.given.1))
+    ∙ sym (goals_good (held_claim f a.kinds.now a.a.now a.b.now a.count a.bounds.now a.members.now a.goals)
+    (held_proof a.rules.now a.links.now a.starts.now a.codes.now a.nodes a.roots.now a.goals)
+    (sym (goals_told (goal.at.returns-in-Accepted c).After-judge_goals f) ∙ ap shown c.in-Accepted.is))
 
 pub returns-in-Refused : goal.returns-in-Refused
 returns-in-Refused c f =
-    sym (goals_bad (claim (goal.at.returns-in-Refused c).Start f) (proof (goal.at.returns-in-Refused c).Start) (sym (goals-told (goal.at.returns-in-Refused c).After-judge_goals f) ∙ ap shown c.number-1.given.1))
+    let a = c.args in
+    sym (goals_bad (held_claim f a.kinds.now a.a.now a.b.now a.count a.bounds.now a.members.now a.goals)
+    (held_proof a.rules.now a.links.now a.starts.now a.codes.now a.nodes a.roots.now a.goals)
+    (sym (goals_told (goal.at.returns-in-Refused c).After-judge_goals f) ∙ ap shown c.in-Refused.is))
