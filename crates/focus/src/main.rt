@@ -8,10 +8,9 @@
 ghost use Rattle.std.specs.Prelude.{IfOk};
 ghost use Rattle.io.specs.Counts.{IsPrefixLen};
 
-use std::fs;
-use std::io;
 use std::io::Read;
 use std::rt::Files;
+use std::{fs, io};
 use verdict::Verdict;
 
 // Reads the file to its end, to the buffer's, or to the first read that fails, as one does that a signal interrupts: how many bytes came,

@@ -21,10 +21,13 @@ slice_bounds-fill_all-end-5 c =
 
 pub fill_all-requires : goal.fill_all-requires
 fill_all-requires c =
-    let given = c.requires.given in record { claim = first_claim given; size_bound = (
+    let given = c.requires.given in record {
+      claim = first_claim given;
+      size_bound = (
         c.requires.size_bound,
         length-take-le _ _ given.words_there ∙ sym (length-take-le _ _ given.kinds_there),
-      ) }
+      );
+    }
 
 pub returns : goal.returns
 returns c =

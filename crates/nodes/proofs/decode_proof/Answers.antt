@@ -74,8 +74,11 @@ returns c =
     let a = c.args in
     let done = c.loop-i in
     let all : done.i ≡ c.node_count-n.result = omega arith in
-    let last : done.i ≡ word_at a.bytes.now 4 = all ∙ done.invariant.1 in record { value = c.node_count-n.ensures a.at; nodes_stored = subst
+    let last : done.i ≡ word_at a.bytes.now 4 = all ∙ done.invariant.1 in record {
+      value = c.node_count-n.ensures a.at;
+      nodes_stored = subst
           (λ (k : ℕ).
           NodesStored (proof_in a.bytes.now a.at) a.rules.now a.links.now a.starts.now a.codes.now
           done.rules done.links (set done.starts k done.spot.start) done.codes)
-          all (stored_nodes c.requires.0 c.requires.2 done.invariant.2 last) }
+          all (stored_nodes c.requires.0 c.requires.2 done.invariant.2 last);
+    }

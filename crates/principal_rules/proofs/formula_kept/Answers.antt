@@ -34,7 +34,7 @@ ends P p q h = rw (p, q) h
 
 -- what the function is asked, of a node v whose principal has the key k
 module _ {ks xs ys ns : List ℕ} {n : ℕ} {rs ls ss cs : List ℕ} {m v k : ℕ}
-  (P : Judged ks xs ys ns n rs ls ss cs m × (v < m) × (Rule.OR ≤ get_or rs v 0) × (get_or rs v 0 ≤ Rule.U) × IsMember ks ns n (get_or ls (4 * v) 0) k) where
+    (P : Judged ks xs ys ns n rs ls ss cs m × (v < m) × (Rule.OR ≤ get_or rs v 0) × (get_or rs v 0 ≤ Rule.U) × IsMember ks ns n (get_or ls (4 * v) 0) k) where
   is_coded : Coded ks xs ys ns n (get_or ls (4 * v) 0)
   is_coded = coded P.0 v P.1 P.4.formula
 

@@ -11,6 +11,7 @@ loop-i-init c = (omega arith, refl)
 
 pub loop-i-preserved : goal.loop-i-preserved
 loop-i-preserved c =
-    let room : c.loop-i.i < length c.args.entries.now = omega (arith, c.requires.1) in
-    (omega arith,
-    c.put_entry.ensures ∙ values_more (entry_of_lem c.args.kinds.now c.args.a.now c.args.b.now) _ _ _ _ c.loop-i.invariant.1 c.entry_of-entry.ensures room)
+    let room : c.loop-i.i < length c.args.entries.now = omega (arith, c.requires.1) in (
+      omega arith,
+      c.put_entry.ensures ∙ values_more (entry_of_lem c.args.kinds.now c.args.a.now c.args.b.now) _ _ _ _ c.loop-i.invariant.1 c.entry_of-entry.ensures room,
+    )

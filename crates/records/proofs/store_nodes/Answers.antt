@@ -11,6 +11,7 @@ loop-i-init c = (omega arith, refl)
 
 pub loop-i-preserved : goal.loop-i-preserved
 loop-i-preserved c =
-    let room : c.loop-i.i < length c.args.nodes.now = omega (arith, c.requires.1) in
-    (omega arith,
-    c.put_node.ensures ∙ values_more (node_of_lem c.args.rules.now c.args.links.now c.args.starts.now) _ _ _ _ c.loop-i.invariant.1 c.node_of-node.ensures room)
+    let room : c.loop-i.i < length c.args.nodes.now = omega (arith, c.requires.1) in (
+      omega arith,
+      c.put_node.ensures ∙ values_more (node_of_lem c.args.rules.now c.args.links.now c.args.starts.now) _ _ _ _ c.loop-i.invariant.1 c.node_of-node.ensures room,
+    )
