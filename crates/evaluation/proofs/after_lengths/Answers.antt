@@ -7,21 +7,21 @@ use Rattle.evaluation.specs.EvaluateStages.{staged_same, staged_refused, claim_r
 use Rattle.evaluation.proofs.after_lengths.Goals as goal
 
 pub overflow_cast-number : goal.overflow_cast-number
-overflow_cast-number c = omega (arith, (claim_as_refused _ _ _ _ _ c.read_formed.ensures c.number-1.given.1).small)
+overflow_cast-number c = omega (arith, (claim_as_refused _ _ _ _ _ c.read_formed.ensures c.in-Refused.is).small)
 
 pub overflow_cast-place : goal.overflow_cast-place
-overflow_cast-place c = omega (arith, (claim_as_refused _ _ _ _ _ c.read_formed.ensures c.number-1.given.1).small)
+overflow_cast-place c = omega (arith, (claim_as_refused _ _ _ _ _ c.read_formed.ensures c.in-Refused.is).small)
 
 pub after_model-requires : goal.after_model-requires
 after_model-requires c =
-    claim_given _ c.args.model.now (claim_as_read _ _ _ _ _ c.read_formed.ensures c.entries-1.given.1)
-    (lent_bytes _ c.shared_slice_known-1.given) (search rules)
+    claim_given _ c.args.model.now (claim_as_read _ _ _ _ _ c.read_formed.ensures c.in-Read.is)
+    (lent_bytes _ c.type_inv.claim) (search rules)
 
 pub returns-in-Refused : goal.returns-in-Refused
 returns-in-Refused c =
-    staged_refused _ _ (claim_refused _ _ (claim_as_refused _ _ _ _ _ c.read_formed.ensures c.number-1.given.1)) c.refuse.ensures
+    staged_refused _ _ (claim_refused _ _ (claim_as_refused _ _ _ _ _ c.read_formed.ensures c.in-Refused.is)) c.refuse.ensures
 
 pub returns-in-Read : goal.returns-in-Read
 returns-in-Read c =
-    staged_same (claim_goes_on _ _ (claim_as_read _ _ _ _ _ c.read_formed.ensures c.entries-1.given.1))
+    staged_same (claim_goes_on _ _ (claim_as_read _ _ _ _ _ c.read_formed.ensures c.in-Read.is))
     c.after_model.ensures
