@@ -8,5 +8,5 @@ use Rattle.gate.proofs.check.focus_check.Goals as goal
 
 pub returns : goal.returns
 returns c =
-    single c.args.claim.now c.args.proof.now (lent_bytes _ c.shared_slice_known-1.given) (lent_bytes _ c.shared_slice_known-2-1.given) _ (c.pack.ensures.0 ∙ ap packed c.judge_files.ensures)
+    single c.args.claim.now c.args.proof.now (lent_bytes _ c.type_inv.claim) (lent_bytes _ c.type_inv.proof) _ (c.pack.ensures.0 ∙ ap packed c.judge_files.ensures)
     (rw c.judge_files.ensures at c.pack.ensures.1)

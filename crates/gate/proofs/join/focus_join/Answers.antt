@@ -7,5 +7,5 @@ use Rattle.gate.proofs.join.focus_join.Goals as goal
 pub returns : goal.returns
 returns c =
     let joined = c.join_files.ensures in
-    join_call _ _ _ _ _ (lent_bytes _ c.shared_slice_known-1.given) (lent_bytes _ c.shared_slice_known-2-1.given) (lent_bytes _ c.shared_slice_known-3-1.given)
-    (lent_bytes _ c.shared_slice_known-4-1.given) _ _ _ _ _ joined.answer joined.claim_laid joined.proof_laid
+    join_call _ _ _ _ _ (lent_bytes _ c.type_inv.claim1) (lent_bytes _ c.type_inv.proof1) (lent_bytes _ c.type_inv.claim2)
+    (lent_bytes _ c.type_inv.proof2) _ _ _ _ _ joined.answer joined.claim_laid joined.proof_laid
