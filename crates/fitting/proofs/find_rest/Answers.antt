@@ -1,5 +1,4 @@
 use mathlib.Core.Path.{◌≡◌, sym, ap, ◌∙◌}
-use mathlib.Core.Logic.{⊎_elim}
 use mathlib.Core.List.{List, ◌∷◌}
 use Prim.Native.Nat.{ℕ, ◌+◌, ◌-◌, ◌≤◌}
 use native.Mathlib.Omega.{arith}
@@ -11,6 +10,7 @@ use Rattle.sequents.specs.Keys.{in_focus}
 use Rattle.sequents.specs.Part.{part, part_none, part-more, part_member}
 use Rattle.fitting.specs.Sifting.{Sifting, sifting_begins, sifting_keeps, sifting_drops, sifting_ends}
 use Rattle.fitting.proofs.find_rest.Goals as goal
+use Rattle.fitting.proofs.find_rest.Goals.{then-has, else-has}
 
 pub loop-i-init : goal.loop-i-init
 loop-i-init c = (omega arith, c.requires.1.order, omega arith, c.requires.3, λ l h. sifting_begins)
@@ -36,16 +36,16 @@ loop-i-preserved c =
     λ m h. rw (← more) (l.invariant.4 m h) in
     let passes : (m : List ℕ) → Holds c.args.second.now m → c.has.result ≡ member m (in_focus c.args.canon.now (get_or c.args.members.now l.i 0)) =
     λ m h. c.has.ensures m h ∙ ap (member m) (c.key.ensures.1 ∙ ap (in_focus c.args.canon.now) c.wide.ensures) in
-    ⊎_elim
-    (λ (t, r, f). rw (r, f) (
-      omega arith,
-      omega arith,
-      omega arith,
-      length-set l.rest l.found _ ∙ l.invariant.3,
-      λ m h. sifting_keeps (left m h) (omega (arith, c.requires.3)) (sym (passes m h) ∙ t.taken),
-    ))
-    (λ (t, r, f). rw (r, f) (omega arith, omega arith, omega arith, l.invariant.3, λ m h. sifting_drops (left m h) (sym (passes m h) ∙ t.left)))
-    c.if-has.branch
+    elim c.if-has.branch [
+      then-has w ↦ rw (w.rest-is, w.found-is) (
+        omega arith,
+        omega arith,
+        omega arith,
+        length-set l.rest l.found _ ∙ l.invariant.3,
+        λ m h. sifting_keeps (left m h) (omega (arith, c.requires.3)) (sym (passes m h) ∙ w.if-has.true),
+      )
+    | else-has w ↦ rw (w.rest-is, w.found-is) (omega arith, omega arith, omega arith, l.invariant.3, λ m h. sifting_drops (left m h) (sym (passes m h) ∙ w.if-has.false))
+    ]
 
 pub returns : goal.returns
 returns c l h = sifting_ends (c.loop-i.invariant.4 l h) (part_none c.args.members.now c.loop-i.i c.args.to (omega arith))

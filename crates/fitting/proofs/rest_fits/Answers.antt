@@ -42,14 +42,17 @@ is_formula s = record {
 }
 
 -- whether the entry is a member of the rest
-told : (c : After-has) → c.has.result ≡ holds (table c.before-LEFT-Start) (found c.before-LEFT-Start) c.args.entry
+told : (c : After-has) → c.has.result ≡ holds (table_of c.args.kinds.now c.args.a.now c.args.b.now c.args.entries) (part c.args.rest.now 0 c.args.count) c.args.entry
 told c =
-    let c.before-LEFT-Start = c.before-LEFT-Start in
+    let t = table_of c.args.kinds.now c.args.a.now c.args.b.now c.args.entries in
+    let ms = part c.args.rest.now 0 c.args.count in
+    let long = table_of_length c.args.kinds.now c.args.a.now c.args.b.now c.args.entries in
     let N = c.requires.0.numbers in
-    let here = c.key.ensures.1 ∙ ap (focusAt c.args.canon.now) c.wide.ensures ∙ key_at_lem N c.args.entry 1 (is_formula c.before-LEFT-Start).inside in
-    c.has.ensures (each (focusAt c.args.canon.now) (found c.before-LEFT-Start)) c.put_goal.ensures
-    ∙ ap₂ {C = Bool} member (column_keys (table c.before-LEFT-Start) N (found c.before-LEFT-Start) (inside c.before-LEFT-Start)) here
-    ∙ focused_holds (table c.before-LEFT-Start) (found c.before-LEFT-Start) c.args.entry
+    let within : c.args.entry < length t = omega (arith, c.requires.0.inside, long) in
+    let here = c.key.ensures.1 ∙ ap (focusAt c.args.canon.now) c.wide.ensures ∙ key_at_lem N c.args.entry 1 within in
+    c.has.ensures (each (focusAt c.args.canon.now) ms) c.put_goal.ensures
+    ∙ ap₂ {C = Bool} member (column_keys t N ms (λ (e : ℕ) (m : elements ms e). omega (arith, c.requires.1.inside e m, long))) here
+    ∙ focused_holds t ms c.args.entry
 
 pub put_goal-requires : goal.put_goal-requires
 put_goal-requires c =

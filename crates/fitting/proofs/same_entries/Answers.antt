@@ -24,7 +24,7 @@ returns-then-b-i c = row_differs _ _ _ _ _ _ _ _ (omega (arith, c.if-count-other
 pub loop-i-preserved : goal.loop-i-preserved
 loop-i-preserved c =
     let a = c.args in
-    (omega arith, row_same a.kinds.now a.a.now a.b.now a.other-kinds.now a.other-a.now a.other_b.now c.loop-i.i c.loop-i.invariant.1 c.if-kinds-i.false c.if-a-i.false c.if-b-i.false)
+    (omega arith, row_same a.kinds.now a.a.now a.b.now a.other_kinds.now a.other_a.now a.other_b.now c.loop-i.i c.loop-i.invariant.1 c.if-kinds-i.false c.if-a-i.false c.if-b-i.false)
 
 pub returns : goal.returns
 returns c =

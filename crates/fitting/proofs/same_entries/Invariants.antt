@@ -8,7 +8,7 @@ use Rattle.fitting.specs.SameEntries.{RowsSame, row_same, counts_differ, row_dif
 use Rattle.fitting.proofs.same_entries.Given as goal
 
 abbrev pub invariant-loop-i : goal.invariant-loop-i
-invariant-loop-i l = (l.i ≤ l.count) × RowsSame l.kinds l.a l.b other-l.kinds other-l.a l.other_b l.i
+invariant-loop-i l = (l.i ≤ l.count) × RowsSame l.kinds l.a l.b l.other_kinds l.other_a l.other_b l.i
 
 abbrev pub decreases-loop-i : goal.decreases-loop-i
 decreases-loop-i l = l.count - l.i
