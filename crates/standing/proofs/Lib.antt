@@ -1,4 +1,0 @@
-pub mod Passing
-mod Terms
-mod Called
-mod Stored
