@@ -11,10 +11,9 @@ use Rattle.encoding.specs.Widths.{Takes, byte_takes, two_takes, four_takes}
 use Rattle.encoding.specs.FaultLaws.{Refuses, CutIn, WrongIn, refuses_as, raw_refuses, part_refuses, seq_refuses, guard_refuses, tested_refuses}
 use Rattle.encoding.specs.Known.{known_takes}
 use Rattle.model_files.specs.ModelFile.{Form, mdl1, mdl2}
-use Rattle.model_files.specs.ReadModel.{early, masked, actions, header, lists}
+use Rattle.model_files.specs.ReadModel.{early, masked, actions, header}
 use Rattle.model_files.specs.Header.{letters_stand, list_stands, FitPart, NotZero, encode_masked, Masked, FitMasked, FitActions, encode_header, Header}
 use Rattle.model_files.specs.HeaderExact.{filled_tells, map_exact, mask_exact, masked_exact, actions_exact}
-use Rattle.model_files.specs.OneMore.{stands}
 use Rattle.model_files.specs.ModelDocument.{StateStage, at_map, at_mask, at_actions, at_count, at_successor, state_done, state_width, StateReached, StateWrong, unfit_map, zero_mask, zero_actions, zero_count, unfit_successor, state_stages}
 
 -- what is not filled stands, and is zero

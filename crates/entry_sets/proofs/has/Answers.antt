@@ -1,6 +1,5 @@
 -- the test of one bit
 use Rattle.bits.specs.WordSet.{in_word}
-use borrow.Author.Rules.{rules}
 use Rattle.entry_sets.proofs.has.Goals as goal
 
 pub returns : goal.returns

@@ -1,9 +1,7 @@
 -- one bit more
-use mathlib.Core.Path.{refl}
 use native.Mathlib.Omega.{arith}
 use lib.ListN.{length-set}
 use Rattle.bits.specs.WordSet.{in_inserted}
-use borrow.Author.Rules.{rules}
 use Rattle.entry_sets.proofs.insert.Goals as goal
 
 pub returns : goal.returns

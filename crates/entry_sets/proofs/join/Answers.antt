@@ -1,9 +1,7 @@
-use mathlib.Core.Path.{◌≡◌, refl}
+use mathlib.Core.Path.{◌≡◌}
 use native.Mathlib.Omega.{arith}
-use Prim.Native.Nat.{◌-◌, ◌≤◌}
-use Rattle.states.specs.Fill.{Filled, filled_none, filled_set}
-use Rattle.entry_sets.specs.Sets.{joined_word_lem, joined_word, joined}
-use borrow.Author.Rules.{rules}
+use Rattle.states.specs.Fill.{filled_none, filled_set}
+use Rattle.entry_sets.specs.Sets.{joined_word, joined}
 use Rattle.entry_sets.proofs.join.Goals as goal
 
 pub loop-i-init : goal.loop-i-init

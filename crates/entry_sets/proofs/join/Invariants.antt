@@ -1,10 +1,7 @@
 -- word by word
-use mathlib.Core.Path.{◌≡◌, refl}
-use native.Mathlib.Omega.{arith}
 use Prim.Native.Nat.{◌-◌, ◌≤◌}
-use Rattle.states.specs.Fill.{Filled, filled_none, filled_set}
-use Rattle.entry_sets.specs.Sets.{joined_word_lem, joined_word, joined}
-use borrow.Author.Rules.{rules}
+use Rattle.states.specs.Fill.{Filled}
+use Rattle.entry_sets.specs.Sets.{joined_word_lem}
 use Rattle.entry_sets.proofs.join.Given as goal
 
 abbrev pub invariant-loop-i : goal.invariant-loop-i

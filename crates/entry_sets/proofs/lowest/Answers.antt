@@ -1,8 +1,6 @@
 -- the first word that is not 0
-use mathlib.Core.Path.{refl}
 use native.Mathlib.Omega.{arith}
 use Rattle.entry_sets.specs.Sets.{lowest_found, lowest_none}
-use borrow.Author.Rules.{rules}
 use Rattle.entry_sets.proofs.lowest.Goals as goal
 
 pub returns-then-set-ne0 : goal.returns-then-set-ne0

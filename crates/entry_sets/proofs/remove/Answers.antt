@@ -1,7 +1,6 @@
 -- one bit less, in the number's word
 use native.Mathlib.Omega.{arith}
 use Rattle.entry_sets.specs.Sets.{removed_at}
-use borrow.Author.Rules.{rules}
 use Rattle.entry_sets.proofs.remove.Goals as goal
 
 pub returns-then-k-lt64 : goal.returns-then-k-lt64

@@ -1,12 +1,9 @@
 use mathlib.Core.Path.{ap}
 use Prim.Native.Nat.{ℕ}
 use native.Mathlib.Omega.{arith}
-use borrow.Author.Rules.{rules}
 use lib.Dec.{eqb}
-use lib.ListN.{get_or}
-use Rattle.bits.specs.Bits.{digit}
 use Rattle.states.specs.BitLaws.{read_digit}
-use Rattle.states.specs.TopDown.{Upper, upper_none, upper_small, upper_one, upper_whole}
+use Rattle.states.specs.TopDown.{upper_none, upper_small, upper_one, upper_whole}
 use Rattle.letters.proofs.letter_word.Goals as goal
 
 pub loop-s-init : goal.loop-s-init

@@ -1,5 +1,4 @@
 -- the mask has bit 0 of each quarter of a word
-use borrow.Author.Rules.{rules}
 use Rattle.marks.specs.Lanes.{four_masked}
 use Rattle.marks.proofs.four_bits.Goals as goal
 

@@ -2,7 +2,6 @@
 use mathlib.Core.Path.{refl}
 use Prim.Native.Nat.{◌+◌, ◌*◌}
 use native.Mathlib.Omega.{arith}
-use borrow.Author.Rules.{rules}
 use Rattle.bits.specs.Bits.{digit, bit}
 use Rattle.model_files.specs.DescribedLaws.{cell}
 use Rattle.marks.specs.Lanes.{sixteen_folded, one_digit}

@@ -1,13 +1,9 @@
 -- the states from s on all of whose successors are in w
 use mathlib.Core.Bool.{not, ◌||◌}
-use Prim.Native.Nat.{◌-◌}
-use native.Mathlib.Omega.{arith}
-use borrow.Author.Rules.{rules}
 use lib.ListN.{get_or}
 use Rattle.meaning.specs.Truth.{every}
 use Rattle.bits.specs.Bits.{bit}
-use Rattle.states.specs.StateWords.{box_test}
-use Rattle.states.specs.TopDown.{Upper, upper_none, upper_small, upper_one, upper_whole}
+use Rattle.states.specs.TopDown.{Upper}
 use Rattle.modal_words.proofs.box_word.Given as goal
 
 abbrev pub invariant-loop-s : goal.invariant-loop-s

@@ -1,12 +1,7 @@
-use mathlib.Core.Bool.{◌&&◌}
 use Prim.Native.Nat.{◌-◌}
 use native.Mathlib.Omega.{arith}
-use borrow.Author.Rules.{rules}
-use lib.ListN.{get_or}
-use Rattle.meaning.specs.Truth.{some}
-use Rattle.bits.specs.Bits.{bit}
 use Rattle.states.specs.StateWords.{diamond_test}
-use Rattle.states.specs.TopDown.{Upper, upper_none, upper_small, upper_one, upper_whole}
+use Rattle.states.specs.TopDown.{upper_none, upper_small, upper_one, upper_whole}
 use Rattle.modal_words.proofs.diamond_word.Goals as goal
 
 pub loop-s-init : goal.loop-s-init

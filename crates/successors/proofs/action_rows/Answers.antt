@@ -1,8 +1,6 @@
 use mathlib.Core.Path.{◌≡◌}
-use Prim.Native.Nat.{◌-◌, ◌≤◌}
 use native.Mathlib.Omega.{arith}
-use borrow.Author.Rules.{rules}
-use Rattle.states.specs.Rows.{ActionRows, rows_none, rows_set}
+use Rattle.states.specs.Rows.{rows_none, rows_set}
 use Rattle.successors.proofs.action_rows.Goals as goal
 
 pub loop-s-init : goal.loop-s-init

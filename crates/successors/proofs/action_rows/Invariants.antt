@@ -1,9 +1,6 @@
 -- the rows of the states below s are the words of their marks
-use mathlib.Core.Path.{◌≡◌}
 use Prim.Native.Nat.{◌-◌, ◌≤◌}
-use native.Mathlib.Omega.{arith}
-use borrow.Author.Rules.{rules}
-use Rattle.states.specs.Rows.{ActionRows, rows_none, rows_set}
+use Rattle.states.specs.Rows.{ActionRows}
 use Rattle.successors.proofs.action_rows.Given as goal
 
 abbrev pub invariant-loop-s : goal.invariant-loop-s

@@ -1,10 +1,5 @@
-use mathlib.Core.Path.{◌≡◌}
-use Prim.Native.Nat.{◌+◌, ◌*◌, ◌/◌, ◌%◌}
 use native.Mathlib.Omega.{arith}
-use borrow.Author.Rules.{rules}
-use Rattle.bits.specs.Bits.{bit}
-use Rattle.model_files.specs.DescribedLaws.{cell}
-use Rattle.states.specs.TopDown.{Upper, upper_none, upper_small, sixteen_small, upper_sixteen, upper_whole, word_cut}
+use Rattle.states.specs.TopDown.{upper_none, upper_small, sixteen_small, upper_sixteen, upper_whole, word_cut}
 use Rattle.successors.proofs.row_word.Goals as goal
 
 pub loop-u-init : goal.loop-u-init

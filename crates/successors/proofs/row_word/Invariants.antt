@@ -1,11 +1,9 @@
 -- the states from u on that are marked, in whole groups of sixteen
 use mathlib.Core.Path.{◌≡◌}
 use Prim.Native.Nat.{◌+◌, ◌*◌, ◌/◌, ◌%◌}
-use native.Mathlib.Omega.{arith}
-use borrow.Author.Rules.{rules}
 use Rattle.bits.specs.Bits.{bit}
 use Rattle.model_files.specs.DescribedLaws.{cell}
-use Rattle.states.specs.TopDown.{Upper, upper_none, upper_small, sixteen_small, upper_sixteen, upper_whole, word_cut}
+use Rattle.states.specs.TopDown.{Upper}
 use Rattle.successors.proofs.row_word.Given as goal
 
 abbrev pub invariant-loop-u : goal.invariant-loop-u

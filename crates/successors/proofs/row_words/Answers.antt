@@ -1,10 +1,8 @@
 use mathlib.Core.Path.{◌≡◌, sym, subst}
-use mathlib.Core.Logic.{⊎_elim}
-use Prim.Native.Nat.{ℕ, ◌+◌, ◌*◌, ◌-◌, ◌≤◌}
+use Prim.Native.Nat.{ℕ, ◌+◌, ◌*◌, ◌≤◌}
 use native.Mathlib.Omega.{arith}
-use borrow.Author.Rules.{rules}
 use Rattle.states.specs.BitLaws.{read_set, read_clear}
-use Rattle.states.specs.Rows.{RowWords, words_none, words_pass, words_more}
+use Rattle.states.specs.Rows.{words_none, words_pass, words_more}
 use Rattle.successors.proofs.row_words.Goals as goal
 use Rattle.successors.proofs.row_words.Goals.{then-used-a-eq1, else-used-a-eq1}
 

@@ -1,11 +1,6 @@
 -- the actions below a that are in the map have their rows
-use mathlib.Core.Path.{◌≡◌, sym, subst}
-use mathlib.Core.Logic.{⊎_elim}
-use Prim.Native.Nat.{ℕ, ◌+◌, ◌*◌, ◌-◌, ◌≤◌}
-use native.Mathlib.Omega.{arith}
-use borrow.Author.Rules.{rules}
-use Rattle.states.specs.BitLaws.{read_set, read_clear}
-use Rattle.states.specs.Rows.{RowWords, words_none, words_pass, words_more}
+use Prim.Native.Nat.{◌-◌, ◌≤◌}
+use Rattle.states.specs.Rows.{RowWords}
 use Rattle.successors.proofs.row_words.Given as goal
 
 abbrev pub invariant-loop-a : goal.invariant-loop-a
