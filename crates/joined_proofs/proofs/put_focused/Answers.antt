@@ -1,11 +1,7 @@
-use native.Mathlib.Omega.{arith}
-use mathlib.Core.Path.{◌≡◌}
-use Prim.Native.Nat.{◌-◌, ◌≤◌}
-use lib.ListN.{take}
+use Rattle.std.proofs.Common.{arith, ◌≡◌, ◌≤◌, ◌+◌, ◌-◌, sym, subst, ap, List, [], ◌∷◌, ◌++◌, ℕ, length, take, replicate}
 use Rattle.verdict.specs.Lists.{written}
 use Rattle.joining.specs.Joined.{in_focus}
 use Rattle.joined_proofs.specs.Focusing.{none_focused, more_focused, member_small}
-use borrow.Author.Rules.{rules}
 use Rattle.joined_proofs.proofs.put_focused.Goals as goal
 
 pub loop-i-init : goal.loop-i-init

@@ -1,9 +1,5 @@
 -- Opening and count, the new root, the first tree, then the second, one run behind the other.
-use native.Mathlib.Omega.{arith}
-use mathlib.Core.Path.{◌≡◌}
-use mathlib.Core.List.{List, ◌++◌}
-use Prim.Native.Nat.{ℕ, ◌+◌, ◌≤◌}
-use lib.ListN.{length, take}
+use Rattle.std.proofs.Common.{arith, ◌≡◌, ◌≤◌, ◌+◌, ◌-◌, sym, subst, ap, List, [], ◌∷◌, ◌++◌, ℕ, length, take, replicate}
 use Rattle.formula.specs.Nodes.{Proof}
 use Rattle.proof_files.specs.ProofFile.{encode_node}
 use Rattle.nodes.specs.ProofDecode.{proof_in}
@@ -11,7 +7,6 @@ use Rattle.laying.specs.Laying.{Left, all_left, less_left, room_left, left-fits,
 use Rattle.laying.specs.Files.{file_put}
 use Rattle.joining.specs.Joined.{proof_bytes, joined_root, joined_nodes}
 use Rattle.joined_proofs.specs.Parts.{opening_bytes, tree_bytes, joined_parts, joined_parts_lem, joined_fits}
-use borrow.Author.Rules.{rules}
 use Rattle.joined_proofs.proofs.put_joined.Goals as goal
 use Rattle.joined_proofs.proofs.put_joined.Goals.{After-copy_nodes-next, After-node_count-others, After-open_proof, After-put_root-at, Start}
 

@@ -1,43 +1,39 @@
 -- The links and the codes are those of the new root.
-use native.Mathlib.Omega.{arith}
-use mathlib.Core.Path.{◌≡◌, sym, subst, ap}
-use mathlib.Core.List.{List, [], ◌∷◌}
-use Prim.Native.Nat.{ℕ, ◌+◌}
-use lib.ListN.{length, take, replicate, length-replicate}
+use Rattle.std.proofs.Common.{arith, ◌≡◌, ◌≤◌, ◌+◌, ◌-◌, sym, subst, ap, List, [], ◌∷◌, ◌++◌, ℕ, length, take, replicate}
+use Rattle.std.proofs.Math.ListN.{length-replicate}
 use Rattle.formula.specs.Rule
 use Rattle.formula.specs.Nodes.{Node}
 use Rattle.proof_files.specs.ProofFile.{encode_node}
 use Rattle.laying.specs.Laying.{Fits, node_at, put_as}
 use Rattle.joining.specs.Joined.{joined_root}
-use borrow.Author.Rules.{rules}
 use Rattle.joined_proofs.specs.Focusing.{focused_long, root_node}
 use Rattle.joined_proofs.proofs.put_root.Goals as goal
-use Rattle.joined_proofs.proofs.put_root.Goals.{After-put_focused, Start}
+use Rattle.joined_proofs.proofs.put_root.Goals.{After-put_focused}
 
 -- once the codes stand
 module _ (c : After-put_focused) where
   abbrev codes : List ℕ
-  codes = c.put-focused.new.1.1.0
+  codes = c.put_focused.new.codes
 
-  still-24 : length codes ≡ 24
-  still-24 = focused_long c.requires.0 (replicate 24 0) c.put-focused.ensures (length-replicate {A = ℕ} 24 0)
+  still_24 : length codes ≡ 24
+  still_24 = focused_long c.requires.0 (replicate 24 0) c.put_focused.ensures (length-replicate {A = ℕ} 24 0)
 
   abbrev root : Node
   root = joined_root c.args.entry (take c.args.count c.args.members.now) c.args.nodes
 
-  root_is : node_at Rule.AND (c.code_of_lem.result ∷ 1 ∷ (c.args.nodes + 1) ∷ 0 ∷ []) 0 codes 0 c.args.count ≡ root
-  root_is = root_node c.requires.0 (replicate 24 0) c.put-focused.ensures c.args.entry c.args.nodes c.code_of_lem.ensures.1
+  root_is : node_at Rule.AND (c.code_of.result ∷ 1 ∷ (c.args.nodes + 1) ∷ 0 ∷ []) 0 codes 0 c.args.count ≡ root
+  root_is = root_node c.requires.0 (replicate 24 0) c.put_focused.ensures c.args.entry c.args.nodes c.code_of.ensures.1
 
 pub slice_bounds-put_node-end-2 : goal.slice_bounds-put_node-end-2
-slice_bounds-put_node-end-2 c = sym (still-24 (goal.at.slice_bounds-put_node-end-2 c).After-put_focused)
+slice_bounds-put_node-end-2 c = sym (still_24 (goal.at.slice_bounds-put_node-end-2 c).After-put_focused)
 
 pub put_node-requires : goal.put_node-requires
 put_node-requires c =
-    let given = s (goal.at.put_node-requires c).After-put_focused in (
-      subst (λ (x : Node). Fits given.args.out.now 6 (encode_node x)) (sym (root_is (goal.at.put_node-requires c).After-put_focused)) given.requires.3,
+    let here = (goal.at.put_node-requires c).After-put_focused in (
+      subst (λ (x : Node). Fits c.args.out.now 6 (encode_node x)) (sym (root_is here)) c.requires.3,
       omega arith,
-      omega (arith, still-24 (goal.at.put_node-requires c).After-put_focused, given.requires.0.few),
-      given.requires.0.few,
+      omega (arith, still_24 here, c.requires.0.few),
+      c.requires.0.few,
     )
 
 pub returns : goal.returns

@@ -1,10 +1,7 @@
-use native.Mathlib.Omega.{arith}
-use mathlib.Core.Path.{◌≡◌, ◌∙◌}
-use Prim.Native.Nat.{◌-◌, ◌<◌, ◌≤◌}
+use Rattle.std.proofs.Common.{arith, ◌∙◌, ◌<◌}
 use Rattle.encoding.specs.Places.{word_at}
 use Rattle.nodes.specs.ProofDecode.{nodes_at_length}
-use Rattle.renumbering.specs.Copying.{Copying, copying_begins, copying_steps, copying_ends, node_fits, node_moves, node_room}
-use borrow.Author.Rules.{rules}
+use Rattle.renumbering.specs.Copying.{copying_begins, copying_steps, copying_ends, node_fits, node_moves, node_room}
 use Rattle.renumbering.proofs.copy_nodes.Goals as goal
 use Rattle.renumbering.proofs.copy_nodes.Goals.{In-loop-i}
 
@@ -22,16 +19,18 @@ loop-i-init c =
 
 pub copy_node-places-requires : goal.copy_node-places-requires
 copy_node-places-requires c =
-    let given = c.requires in
     let so_far = c.loop-i.invariant.2 in
     let here = unfinished (goal.at.copy_node-places-requires c).In-loop-i in
-    (node_fits so_far here, omega (arith, so_far.near, given.0.few), node_moves so_far here, node_room so_far here given.2)
+    (node_fits so_far here, omega (arith, so_far.near, c.requires.0.few), node_moves so_far here, node_room so_far here c.requires.2)
 
 pub loop-i-preserved : goal.loop-i-preserved
 loop-i-preserved c =
     let so_far = c.loop-i.invariant in
     let copied = c.copy_node-places.ensures in
     (omega arith, so_far.1, copying_steps so_far.2 (unfinished (goal.at.loop-i-preserved c).In-loop-i) copied.0 copied.1)
+
+pub shape_of-out : goal.shape_of-out
+shape_of-out c = c.loop-i.invariant.2.left.long
 
 pub returns : goal.returns
 returns c = copying_ends c.loop-i.invariant.2 (omega (arith, c.loop-i.invariant.1))

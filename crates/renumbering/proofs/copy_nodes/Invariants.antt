@@ -1,11 +1,8 @@
 -- After i turns the first i nodes are laid down, and the others stand from the place reached on.
-use native.Mathlib.Omega.{arith}
-use mathlib.Core.Path.{◌≡◌, ◌∙◌}
-use Prim.Native.Nat.{◌-◌, ◌<◌, ◌≤◌}
+use mathlib.Core.Path.{◌≡◌}
+use Prim.Native.Nat.{◌-◌, ◌≤◌}
 use Rattle.encoding.specs.Places.{word_at}
-use Rattle.nodes.specs.ProofDecode.{nodes_at_length}
-use Rattle.renumbering.specs.Copying.{Copying, copying_begins, copying_steps, copying_ends, node_fits, node_moves, node_room}
-use borrow.Author.Rules.{rules}
+use Rattle.renumbering.specs.Copying.{Copying}
 use Rattle.renumbering.proofs.copy_nodes.Given as goal
 
 abbrev pub invariant-loop-i : goal.invariant-loop-i

@@ -1,6 +1,5 @@
 -- Each link is moved where the rule has its field; the stores before it leave it as it was.
 use Rattle.renumbering.specs.Moving.{second_kept, back_kept, links_moved}
-use borrow.Author.Rules.{rules}
 use Rattle.renumbering.proofs.move_links.Goals as goal
 
 pub moved-requires : goal.moved-requires

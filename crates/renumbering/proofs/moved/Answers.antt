@@ -1,7 +1,6 @@
 -- A field that stands is moved.
 use native.Mathlib.Omega.{arith}
 use mathlib.Core.Path.{refl}
-use borrow.Author.Rules.{rules}
 use Rattle.renumbering.proofs.moved.Goals as goal
 
 pub overflow_add-result : goal.overflow_add-result
