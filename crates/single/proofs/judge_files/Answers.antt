@@ -17,4 +17,4 @@ unfolding verdict
 refused_early claim proof e = sym (ap answer (claim_refuses claim e proof))
 
 pub returns-in-Refused : goal.returns-in-Refused
-returns-in-Refused c = refused_early _ _ (beginning_refused c.judge_beginning.ensures.stands (ap shown c.number-1.given.1))
+returns-in-Refused c = refused_early _ _ (beginning_refused c.judge_beginning.ensures.stands (ap shown c.in-Refused.is))

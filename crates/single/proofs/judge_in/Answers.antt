@@ -5,10 +5,10 @@ use borrow.Author.Rules.{rules}
 use Rattle.formula.specs.NodeColumns.{Columns}
 use Rattle.laid.specs.Readable.{laid, laid_judged, stored_same, stored_starts}
 use Rattle.single.proofs.judge_in.Goals as goal
-use Rattle.single.proofs.judge_in.Goals.{?After-judge-arg4}
+use Rattle.single.proofs.judge_in.Goals.{After-decode_proof}
 
 -- the columns are as long as they were
-columns : (c : ?After-judge-arg4) → let d = c.decode_proof in Columns c.args.nodes d.last.1.1.0 d.last.1.1.1.0 d.last.1.1.1.1.0 d.last.1.1.1.1.1.0
+columns : (c : After-decode_proof) → let d = c.decode_proof.new in Columns c.args.nodes d.rules d.links d.starts d.codes
 columns c = search rules
 
 pub decode_proof-requires : goal.decode_proof-requires
@@ -17,11 +17,15 @@ decode_proof-requires c =
 
 pub judge-requires : goal.judge-requires
 judge-requires c =
+    let r = c.requires.0 in
     let w = c.decode_proof.ensures.nodes_stored in
-    record { laid = laid c.pre.0 (columns c) (stored_same c.pre.0 w) (stored_starts c.pre.0 w); goals = (c.pre.0.goals, c.pre.2) }
+    record {
+      laid = laid r (columns (goal.at.judge-requires c).After-decode_proof) (stored_same r w) (stored_starts r w);
+      goals = (r.goals, c.requires.2);
+    }
 
 pub returns : goal.returns
 returns c f =
-    let s = start (goal.at.returns c).After-slice_known-8-1 in
-    let w = (decoded (goal.at.returns c).After-slice_known-8-1).decode-proof.ensures.1 in
-    c.judge.ensures f ∙ sym (laid_judged s.pre.0 (columns (goal.at.returns c).After-slice_known-8-1) (stored_same s.pre.0 w) (stored_starts s.pre.0 w) f)
+    let r = c.requires.0 in
+    let w = c.decode_proof.ensures.nodes_stored in
+    c.judge.ensures f ∙ sym (laid_judged r (columns (goal.at.returns c).After-decode_proof) (stored_same r w) (stored_starts r w) f)

@@ -19,35 +19,28 @@ verdict_is : (claim proof : List ℕ) → verdict claim proof ≡ answer (files 
 unfolding verdict
 verdict_is claim proof = refl
 
--- a lent slice of bytes holds bytes
-module _ (c : tie.After-shared-slice-known2) where
-  claim_bytes_lem : Bytes c.before.before.args.claim.now
-  claim_bytes_lem = lent_bytes _ c.before.shared-slice-known.given
-
-  proof_bytes_lem : Bytes c.before.before.args.proof.now
-  proof_bytes_lem = lent_bytes _ c.shared-slice-known2.given
-
 pub read_beside-requires : goal.read_beside-requires
 read_beside-requires c =
-    (λ f n k is. few_read _ (claim_bytes_lem (goal.at.read_beside-requires c).After-shared_slice_known-2-1) (claim_as_read _ _ _ _ _ c.read_formed-formed.ensures is), length-replicate {A = ℕ} 16 0)
+    (λ f n k is. few_read _ (lent_bytes _ c.type_inv.claim) (claim_as_read _ _ _ _ _ c.read_formed-formed.ensures is), length-replicate {A = ℕ} 16 0)
 
 pub overflow_cast-result : goal.overflow_cast-result
 overflow_cast-result c =
-    omega (arith, (files_as_refused _ _ _ _ _ _ (c.read_beside.ensures _ _ _ _ _ c.read_formed-formed.ensures) c.number-1.given.1).small)
+    omega (arith, (files_as_refused _ _ _ _ _ _ (c.read_beside.ensures _ _ _ _ _ c.read_formed-formed.ensures) c.in-Refused.is).small)
 
 pub overflow_cast-result-in-Refused : goal.overflow_cast-result-in-Refused
 overflow_cast-result-in-Refused c =
-    omega (arith, (files_as_refused _ _ _ _ _ _ (c.read_beside.ensures _ _ _ _ _ c.read_formed-formed.ensures) c.number-1.given.1).small)
+    omega (arith, (files_as_refused _ _ _ _ _ _ (c.read_beside.ensures _ _ _ _ _ c.read_formed-formed.ensures) c.in-Refused.is).small)
 
 pub judge_sized-requires : goal.judge_sized-requires
 judge_sized-requires c =
-    readable _ _ (claim_bytes_lem (goal.at.judge_sized-requires c).After-shared_slice_known-2-1) (proof_bytes_lem (goal.at.judge_sized-requires c).After-shared_slice_known-2-1) (files_as_read _ _ _ _ _ _ (c.read_beside.ensures _ _ _ _ _ c.read_formed-formed.ensures) c.entries-1.given.1)
+    readable _ _ (lent_bytes _ c.type_inv.claim) (lent_bytes _ c.type_inv.proof)
+    (files_as_read _ _ _ _ _ _ (c.read_beside.ensures _ _ _ _ _ c.read_formed-formed.ensures) c.in-Read.is)
 
 pub returns-in-Refused : goal.returns-in-Refused
 returns-in-Refused c =
-    sym (verdict_is _ _ ∙ ap answer (files_as_refused _ _ _ _ _ _ (c.read_beside.ensures _ _ _ _ _ c.read_formed-formed.ensures) c.number-1.given.1).was)
+    sym (verdict_is _ _ ∙ ap answer (files_as_refused _ _ _ _ _ _ (c.read_beside.ensures _ _ _ _ _ c.read_formed-formed.ensures) c.in-Refused.is).was)
 
 pub returns-in-Read : goal.returns-in-Read
 returns-in-Read c =
-    let got = files_as_read _ _ _ _ _ _ (c.read_beside.ensures _ _ _ _ _ c.read_formed-formed.ensures) c.entries-1.given.1 in
-    c.judge_sized.ensures clm1 ∙ sym (verdict_is _ _ ∙ ap answer got.was ∙ readable_judged _ _ (claim_bytes_lem (goal.at.returns-in-Read c).After-shared_slice_known-2-1) (proof_bytes_lem (goal.at.returns-in-Read c).After-shared_slice_known-2-1) got clm1)
+    let got = files_as_read _ _ _ _ _ _ (c.read_beside.ensures _ _ _ _ _ c.read_formed-formed.ensures) c.in-Read.is in
+    c.judge_sized.ensures clm1 ∙ sym (verdict_is _ _ ∙ ap answer got.was ∙ readable_judged _ _ (lent_bytes _ c.type_inv.claim) (lent_bytes _ c.type_inv.proof) got clm1)
