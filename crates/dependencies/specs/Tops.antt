@@ -1,7 +1,7 @@
 -- the highest free names, found upwards: an entry's from those below it
 use Rattle.std.specs.Prelude.{◌≡◌, List, ℕ, max, ◌<◌, ◌≤◌, length, get_or}
 use Rattle.std.proofs.Math.Path.{refl, sym}
-use Rattle.std.proofs.Common.{◌∙◌, arith}
+use Rattle.std.proofs.Common.{◌∙◌}
 use borrow.Author.Tests.{lt-ltb, le-ltb}
 use Rattle.formula.specs.Shape.{shape}
 use Rattle.dependencies.specs.Top.{top_clause, top}

@@ -1,5 +1,5 @@
 -- who reads each entry's word: that entry e reads c stands in the set as 256 * c + e
-use Rattle.std.specs.Prelude.{◌≡◌, refl, List, true, ◌⊎◌, ℕ, ◌+◌, ◌*◌, ◌<◌, length, get_or}
+use Rattle.std.specs.Prelude.{◌≡◌, refl, List, true, ℕ, ◌+◌, ◌*◌, ◌<◌, length, get_or}
 use Rattle.std.proofs.Common.{sym, ap, ◌∙◌, subst, ⊎_elim, arith}
 use Rattle.std.proofs.Math.Path.{subst⁻¹}
 use Rattle.std.proofs.Math.Decide.{ℕ_discrete}

@@ -1,9 +1,7 @@
 -- by the kind: what it reads is entered
-use mathlib.Core.Path.{refl}
 use native.Mathlib.Omega.{arith}
 use Rattle.forming.specs.Claim.{a_entry, b_below}
 use Rattle.dependencies.specs.Users.{entered_none, entered_one, entered_two}
-use borrow.Author.Rules.{rules}
 use Rattle.dependencies.proofs.enter.Goals as goal
 
 pub returns-then-kind-lt-OR : goal.returns-then-kind-lt-OR

@@ -1,11 +1,8 @@
 use mathlib.Core.Path.{◌≡◌}
-use Prim.Native.Nat.{ℕ, ◌-◌, ◌≤◌}
+use Prim.Native.Nat.{ℕ}
 use native.Mathlib.Omega.{arith}
-use borrow.Author.Rules.{rules}
-use lib.ListN.{length, replicate, length-replicate}
-use Rattle.dependencies.specs.Top.{top}
-use Rattle.forming.specs.Claim.{table_from}
-use Rattle.states.specs.Fill.{Filled, filled_none, filled_set}
+use lib.ListN.{length, length-replicate}
+use Rattle.states.specs.Fill.{filled_none, filled_set}
 use Rattle.dependencies.specs.Tops.{top_next}
 use Rattle.dependencies.proofs.find_tops.Goals as goal
 

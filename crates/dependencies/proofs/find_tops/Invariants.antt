@@ -1,13 +1,9 @@
 -- the entries below e have their highest free names
-use mathlib.Core.Path.{◌≡◌}
-use Prim.Native.Nat.{ℕ, ◌-◌, ◌≤◌}
-use native.Mathlib.Omega.{arith}
-use borrow.Author.Rules.{rules}
-use lib.ListN.{length, replicate, length-replicate}
+use Prim.Native.Nat.{◌-◌, ◌≤◌}
+use lib.ListN.{length, replicate}
 use Rattle.dependencies.specs.Top.{top}
 use Rattle.forming.specs.Claim.{table_from}
-use Rattle.states.specs.Fill.{Filled, filled_none, filled_set}
-use Rattle.dependencies.specs.Tops.{top_next}
+use Rattle.states.specs.Fill.{Filled}
 use Rattle.dependencies.proofs.find_tops.Given as goal
 
 abbrev pub invariant-loop-e : goal.invariant-loop-e

@@ -1,9 +1,7 @@
-use mathlib.Core.Path.{◌≡◌, refl, sym, ◌∙◌}
+use mathlib.Core.Path.{◌≡◌, sym, ◌∙◌}
 use native.Mathlib.Omega.{arith}
-use Prim.Native.Nat.{◌-◌, ◌≤◌}
 use lib.ListN.{length}
-use Rattle.dependencies.specs.Users.{UsersBelow, users_none, users_more}
-use borrow.Author.Rules.{rules}
+use Rattle.dependencies.specs.Users.{users_none, users_more}
 use Rattle.dependencies.proofs.find_users.Goals as goal
 
 pub loop-e-init : goal.loop-e-init

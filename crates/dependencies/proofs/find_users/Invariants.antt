@@ -1,10 +1,7 @@
 -- the entries below e are entered
-use mathlib.Core.Path.{◌≡◌, refl, sym, ◌∙◌}
-use native.Mathlib.Omega.{arith}
 use Prim.Native.Nat.{◌-◌, ◌≤◌}
 use lib.ListN.{length}
-use Rattle.dependencies.specs.Users.{UsersBelow, users_none, users_more}
-use borrow.Author.Rules.{rules}
+use Rattle.dependencies.specs.Users.{UsersBelow}
 use Rattle.dependencies.proofs.find_users.Given as goal
 
 abbrev pub invariant-loop-e : goal.invariant-loop-e

@@ -1,11 +1,10 @@
 -- by its kind, and by its body
-use mathlib.Core.Path.{refl, sym, ap, ◌∙◌}
+use mathlib.Core.Path.{sym, ap, ◌∙◌}
 use native.Mathlib.Omega.{arith}
 use mathlib.Core.Bool.{false≢true}
 use Prim.Native.Nat.{ℕ}
 use lib.ListN.{get_or}
 use Rattle.dependencies.specs.Operands.{not-zero}
-use borrow.Author.Rules.{rules}
 use Rattle.dependencies.proofs.needs_rounds.Goals as goal
 
 pub returns-then-kind-lt-MU : goal.returns-then-kind-lt-MU

@@ -2,7 +2,6 @@
 use native.Mathlib.Omega.{arith}
 use Rattle.forming.specs.Claim.{a_entry, b_below}
 use Rattle.dependencies.specs.Tops.{top_leaf, top_name, top_two, top_step, top_fix, top_closed}
-use borrow.Author.Rules.{rules}
 use Rattle.dependencies.proofs.top_of.Goals as goal
 
 pub returns-then-kind-lt-OR : goal.returns-then-kind-lt-OR

@@ -1,9 +1,7 @@
 use mathlib.Core.Path.{◌≡◌}
-use Prim.Native.Nat.{◌-◌, ◌≤◌}
 use native.Mathlib.Omega.{arith}
 use lib.ListN.{length}
-use borrow.Author.Rules.{rules}
-use Rattle.dependencies.specs.Actions.{UsedActions, used_none, used_more}
+use Rattle.dependencies.specs.Actions.{used_none, used_more}
 use Rattle.dependencies.proofs.used_actions.Goals as goal
 
 pub loop-e-init : goal.loop-e-init

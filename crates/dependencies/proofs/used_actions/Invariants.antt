@@ -1,10 +1,7 @@
 -- the map has the actions of the entries below e
-use mathlib.Core.Path.{◌≡◌}
 use Prim.Native.Nat.{◌-◌, ◌≤◌}
-use native.Mathlib.Omega.{arith}
 use lib.ListN.{length}
-use borrow.Author.Rules.{rules}
-use Rattle.dependencies.specs.Actions.{UsedActions, used_none, used_more}
+use Rattle.dependencies.specs.Actions.{UsedActions}
 use Rattle.dependencies.proofs.used_actions.Given as goal
 
 abbrev pub invariant-loop-e : goal.invariant-loop-e

@@ -4,7 +4,6 @@ use native.Mathlib.Omega.{arith}
 use Rattle.formula.specs.Shape.{step, diamond, box}
 use Rattle.forming.specs.Claim.{diamond_at, box_at, a_entry, b_below, letter_small, action_small}
 use Rattle.forming.specs.Ready.{formed_leaf, formed_or, formed_and, formed_diamond, formed_box, formed_above, action_room, action_long, action_inside}
-use borrow.Author.Rules.{rules}
 use Rattle.forming.proofs.formed.Goals as goal
 
 pub leaf_word-requires : goal.leaf_word-requires

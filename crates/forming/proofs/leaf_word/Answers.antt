@@ -1,7 +1,6 @@
 -- each kind below 4 has its own word
 use native.Mathlib.Omega.{arith}
 use Rattle.forming.specs.Ready.{word_false, word_true, word_letter, word_negated}
-use borrow.Author.Rules.{rules}
 use Rattle.forming.proofs.leaf_word.Goals as goal
 
 pub returns-then-kind-eq-FALSE : goal.returns-then-kind-eq-FALSE
