@@ -1,6 +1,4 @@
-use Rattle.std.proofs.Common.{arith, ◌≡◌, ◌≤◌, ◌+◌, ◌-◌, sym, subst, ap, List, [], ◌∷◌, ◌++◌, ℕ, length, take, replicate}
-use Rattle.verdict.specs.Lists.{written}
-use Rattle.joining.specs.Joined.{in_focus}
+use Rattle.std.proofs.Common.{arith, ◌≡◌}
 use Rattle.joined_proofs.specs.Focusing.{none_focused, more_focused, member_small}
 use Rattle.joined_proofs.proofs.put_focused.Goals as goal
 

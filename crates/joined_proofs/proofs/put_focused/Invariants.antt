@@ -1,8 +1,7 @@
 -- After i turns the first i members stand there as codes in focus.
-use Rattle.std.proofs.Common.{arith, ◌≡◌, ◌≤◌, ◌+◌, ◌-◌, sym, subst, ap, List, [], ◌∷◌, ◌++◌, ℕ, length, take, replicate}
+use Rattle.std.proofs.Common.{◌≡◌, ◌≤◌, ◌-◌, take}
 use Rattle.verdict.specs.Lists.{written}
 use Rattle.joining.specs.Joined.{in_focus}
-use Rattle.joined_proofs.specs.Focusing.{none_focused, more_focused, member_small}
 use Rattle.joined_proofs.proofs.put_focused.Given as goal
 
 abbrev pub invariant-loop-i : goal.invariant-loop-i

@@ -1,5 +1,5 @@
 -- The links and the codes are those of the new root.
-use Rattle.std.proofs.Common.{arith, ◌≡◌, ◌≤◌, ◌+◌, ◌-◌, sym, subst, ap, List, [], ◌∷◌, ◌++◌, ℕ, length, take, replicate}
+use Rattle.std.proofs.Common.{arith, ◌≡◌, ◌+◌, sym, subst, ap, List, [], ◌∷◌, ℕ, length, take, replicate}
 use Rattle.std.proofs.Math.ListN.{length-replicate}
 use Rattle.formula.specs.Rule
 use Rattle.formula.specs.Nodes.{Node}
