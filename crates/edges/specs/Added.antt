@@ -1,5 +1,5 @@
 -- words that get bits, one by one or many at a time
-use Rattle.std.specs.Prelude.{◌≡◌, refl, ◌⊎◌, List, true, ◌||◌, ℕ, ◌-◌, ◌<◌, ◌≤◌, eqb, length, get_or, set}
+use Rattle.std.specs.Prelude.{◌≡◌, refl, ◌⊎◌, List, true, ◌||◌, ℕ, ◌<◌, ◌≤◌, eqb, length, get_or, set}
 use Rattle.std.proofs.Common.{ap, ◌∙◌, inl, inr, arith, length-set, get_or-set_same, get_or-set_other}
 use Rattle.std.proofs.Math.Decide.{ℕ_discrete}
 use Rattle.verdict.specs.Tells.{Tells, tells_as, tells_self, or_tells, eqb_tells}

@@ -1,11 +1,6 @@
-use mathlib.Core.Path.{◌≡◌, refl, ◌∙◌}
+use mathlib.Core.Path.{◌∙◌}
 use native.Mathlib.Omega.{arith}
-use lib.ListN.{length}
-use Rattle.bits.specs.WordSet.{in_set}
-use Rattle.entry_sets.specs.Sets.{Lowest}
-use Rattle.entry_sets.specs.Counting.{count}
-use Rattle.blocks.specs.Turn.{Beginning, begin_first, begin_next, begin_nearer, begin_last}
-use borrow.Author.Rules.{rules}
+use Rattle.blocks.specs.Turn.{begin_first, begin_next, begin_nearer, begin_last}
 use Rattle.blocks.proofs.begin.Goals as goal
 
 pub lowest-e-requires : goal.lowest-e-requires

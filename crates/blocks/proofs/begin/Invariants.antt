@@ -1,12 +1,10 @@
 -- those that are left wait for the start
-use mathlib.Core.Path.{◌≡◌, refl, ◌∙◌}
-use native.Mathlib.Omega.{arith}
+use mathlib.Core.Path.{◌≡◌}
 use lib.ListN.{length}
 use Rattle.bits.specs.WordSet.{in_set}
 use Rattle.entry_sets.specs.Sets.{Lowest}
 use Rattle.entry_sets.specs.Counting.{count}
-use Rattle.blocks.specs.Turn.{Beginning, begin_first, begin_next, begin_nearer, begin_last}
-use borrow.Author.Rules.{rules}
+use Rattle.blocks.specs.Turn.{Beginning}
 use Rattle.blocks.proofs.begin.Given as goal
 
 abbrev pub invariant-loop-e : goal.invariant-loop-e

@@ -1,10 +1,9 @@
 -- by the kind: its operands are met
-use mathlib.Core.Path.{refl, ◌∙◌}
+use mathlib.Core.Path.{◌∙◌}
 use native.Mathlib.Omega.{arith}
 use Rattle.forming.specs.Claim.{a_entry, b_below}
 use Rattle.dependencies.specs.Operands.{few_kinds}
 use Rattle.blocks.specs.Growing.{grown_name, grown_one, grown_two}
-use borrow.Author.Rules.{rules}
 use Rattle.blocks.proofs.grow.Goals as goal
 
 pub returns-then-kind-eq-NAME : goal.returns-then-kind-eq-NAME

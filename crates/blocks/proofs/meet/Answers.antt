@@ -1,8 +1,6 @@
 -- settled, in the block, or new
-use mathlib.Core.Path.{refl, sym, ◌∙◌}
-use native.Mathlib.Omega.{arith}
+use mathlib.Core.Path.{sym, ◌∙◌}
 use Rattle.blocks.specs.Growing.{meets_settled, meets_in, meets_new}
-use borrow.Author.Rules.{rules}
 use Rattle.blocks.proofs.meet.Goals as goal
 
 pub returns-then-has : goal.returns-then-has

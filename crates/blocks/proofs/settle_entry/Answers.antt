@@ -1,8 +1,6 @@
 -- the word is formed of the words as they stand
-use mathlib.Core.Path.{refl, ap}
-use native.Mathlib.Omega.{arith}
+use mathlib.Core.Path.{ap}
 use lib.ListN.{set}
-use borrow.Author.Rules.{rules}
 use Rattle.blocks.proofs.settle_entry.Goals as goal
 
 pub returns : goal.returns

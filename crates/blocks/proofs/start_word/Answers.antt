@@ -1,6 +1,5 @@
 -- no state or all
 use Rattle.blocks.specs.Turn.{start_mu, start_nu}
-use borrow.Author.Rules.{rules}
 use Rattle.blocks.proofs.start_word.Goals as goal
 
 pub returns-then-kind-eq-MU : goal.returns-then-kind-eq-MU

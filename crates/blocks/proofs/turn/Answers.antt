@@ -1,8 +1,6 @@
 -- the word stays, or its readers wait
-use mathlib.Core.Path.{refl}
 use native.Mathlib.Omega.{arith}
 use Rattle.blocks.specs.Turn.{turned_quiet, turned_loud}
-use borrow.Author.Rules.{rules}
 use Rattle.blocks.proofs.turn.Goals as goal
 
 pub returns-then-w-words : goal.returns-then-w-words

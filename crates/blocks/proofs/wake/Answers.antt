@@ -1,9 +1,7 @@
-use mathlib.Core.Path.{◌≡◌, refl}
+use mathlib.Core.Path.{◌≡◌}
 use native.Mathlib.Omega.{arith}
-use Prim.Native.Nat.{◌-◌, ◌≤◌}
-use Rattle.states.specs.Fill.{Filled, filled_none, filled_set}
-use Rattle.blocks.specs.Waking.{woken_word, woken_word_lem, woken}
-use borrow.Author.Rules.{rules}
+use Rattle.states.specs.Fill.{filled_none, filled_set}
+use Rattle.blocks.specs.Waking.{woken_word_lem, woken}
 use Rattle.blocks.proofs.wake.Goals as goal
 
 pub loop-i-init : goal.loop-i-init

@@ -1,10 +1,7 @@
 -- word by word
-use mathlib.Core.Path.{◌≡◌, refl}
-use native.Mathlib.Omega.{arith}
 use Prim.Native.Nat.{◌-◌, ◌≤◌}
-use Rattle.states.specs.Fill.{Filled, filled_none, filled_set}
-use Rattle.blocks.specs.Waking.{woken_word, woken_word_lem, woken}
-use borrow.Author.Rules.{rules}
+use Rattle.states.specs.Fill.{Filled}
+use Rattle.blocks.specs.Waking.{woken_word}
 use Rattle.blocks.proofs.wake.Given as goal
 
 abbrev pub invariant-loop-i : goal.invariant-loop-i

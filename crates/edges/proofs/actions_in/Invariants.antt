@@ -1,8 +1,5 @@
 -- at most one for each place
 use Prim.Native.Nat.{◌-◌, ◌≤◌}
-use mathlib.Core.Logic.{⊎_elim}
-use native.Mathlib.Omega.{arith}
-use borrow.Author.Rules.{rules}
 use Rattle.edges.proofs.actions_in.Given as goal
 
 abbrev pub invariant-loop-a : goal.invariant-loop-a

@@ -1,10 +1,8 @@
 use mathlib.Core.Path.{◌≡◌, ◌∙◌, ap}
-use Prim.Native.Nat.{ℕ, ◌-◌, ◌≤◌}
+use Prim.Native.Nat.{ℕ}
 use native.Mathlib.Omega.{arith}
 use lib.ListN.{length, length-replicate}
-use borrow.Author.Rules.{rules}
-use Rattle.edges.specs.Added.{Added}
-use Rattle.edges.specs.Edges.{FromBelow, states_none, states_more, states_all}
+use Rattle.edges.specs.Edges.{states_none, states_more, states_all}
 use Rattle.edges.proofs.edge_rows.Goals as goal
 
 pub loop-s-init : goal.loop-s-init

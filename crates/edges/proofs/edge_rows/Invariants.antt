@@ -1,11 +1,7 @@
 -- the edges from the states below s are there
-use mathlib.Core.Path.{◌≡◌, ◌∙◌, ap}
-use Prim.Native.Nat.{ℕ, ◌-◌, ◌≤◌}
-use native.Mathlib.Omega.{arith}
-use lib.ListN.{length, length-replicate}
-use borrow.Author.Rules.{rules}
+use Prim.Native.Nat.{◌-◌, ◌≤◌}
 use Rattle.edges.specs.Added.{Added}
-use Rattle.edges.specs.Edges.{FromBelow, states_none, states_more, states_all}
+use Rattle.edges.specs.Edges.{FromBelow}
 use Rattle.edges.proofs.edge_rows.Given as goal
 
 abbrev pub invariant-loop-s : goal.invariant-loop-s

@@ -1,9 +1,6 @@
 use mathlib.Core.Path.{◌∙◌}
 use native.Mathlib.Omega.{arith}
-use borrow.Author.Rules.{rules}
-use Rattle.bits.specs.Bits.{bit}
-use Rattle.entry_sets.specs.Counting.{count}
-use Rattle.edges.specs.Edges.{Putting, putting_begins, putting_ends, putting_steps, fewer_left}
+use Rattle.edges.specs.Edges.{putting_begins, putting_ends, putting_steps, fewer_left}
 use Rattle.edges.proofs.put_four.Goals as goal
 
 pub loop-rest-init : goal.loop-rest-init

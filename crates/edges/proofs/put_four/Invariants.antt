@@ -1,10 +1,7 @@
 -- the bits that are not left are put
-use mathlib.Core.Path.{◌∙◌}
-use native.Mathlib.Omega.{arith}
-use borrow.Author.Rules.{rules}
 use Rattle.bits.specs.Bits.{bit}
 use Rattle.entry_sets.specs.Counting.{count}
-use Rattle.edges.specs.Edges.{Putting, putting_begins, putting_ends, putting_steps, fewer_left}
+use Rattle.edges.specs.Edges.{Putting}
 use Rattle.edges.proofs.put_four.Given as goal
 
 abbrev pub invariant-loop-rest : goal.invariant-loop-rest

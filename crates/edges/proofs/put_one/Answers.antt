@@ -1,6 +1,5 @@
 -- the bit is put, or lies past the last state
 use native.Mathlib.Omega.{arith}
-use borrow.Author.Rules.{rules}
 use Rattle.edges.specs.Added.{past_at, put_at}
 use Rattle.edges.proofs.put_one.Goals as goal
 

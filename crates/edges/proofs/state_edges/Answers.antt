@@ -1,9 +1,6 @@
-use mathlib.Core.Path.{◌≡◌, ◌∙◌}
-use Prim.Native.Nat.{◌-◌, ◌%◌, ◌≤◌}
+use mathlib.Core.Path.{◌∙◌}
 use native.Mathlib.Omega.{arith}
-use borrow.Author.Rules.{rules}
-use Rattle.edges.specs.Added.{Added}
-use Rattle.edges.specs.Edges.{FromTo, four_none, four_more, four_all}
+use Rattle.edges.specs.Edges.{four_none, four_more, four_all}
 use Rattle.edges.proofs.state_edges.Goals as goal
 
 pub loop-u-init : goal.loop-u-init

@@ -1,10 +1,8 @@
 -- the edges to the states below u are there
-use mathlib.Core.Path.{◌≡◌, ◌∙◌}
+use mathlib.Core.Path.{◌≡◌}
 use Prim.Native.Nat.{◌-◌, ◌%◌, ◌≤◌}
-use native.Mathlib.Omega.{arith}
-use borrow.Author.Rules.{rules}
 use Rattle.edges.specs.Added.{Added}
-use Rattle.edges.specs.Edges.{FromTo, four_none, four_more, four_all}
+use Rattle.edges.specs.Edges.{FromTo}
 use Rattle.edges.proofs.state_edges.Given as goal
 
 abbrev pub invariant-loop-u : goal.invariant-loop-u

@@ -1,9 +1,6 @@
-use mathlib.Core.Path.{◌≡◌, refl}
+use mathlib.Core.Path.{◌≡◌}
 use native.Mathlib.Omega.{arith}
-use Prim.Native.Nat.{◌≤◌}
-use lib.ListN.{length}
-use Rattle.evaluator.specs.Swept.{Swept, swept_none, swept_known, swept_next}
-use borrow.Author.Rules.{rules}
+use Rattle.evaluator.specs.Swept.{swept_none, swept_known, swept_next}
 use Rattle.evaluator.proofs.eval_all.Goals as goal
 
 pub loop-e-init : goal.loop-e-init

@@ -1,10 +1,7 @@
 -- the entries from e on have been evaluated
-use mathlib.Core.Path.{◌≡◌, refl}
-use native.Mathlib.Omega.{arith}
 use Prim.Native.Nat.{◌≤◌}
 use lib.ListN.{length}
-use Rattle.evaluator.specs.Swept.{Swept, swept_none, swept_known, swept_next}
-use borrow.Author.Rules.{rules}
+use Rattle.evaluator.specs.Swept.{Swept}
 use Rattle.evaluator.proofs.eval_all.Given as goal
 
 abbrev pub invariant-loop-e : goal.invariant-loop-e

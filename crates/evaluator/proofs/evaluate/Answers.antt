@@ -3,7 +3,6 @@ use mathlib.Core.Path.{sym, ◌∙◌}
 use lib.Seq.{length-take-le}
 use Rattle.forming.specs.Claim.{first_claim}
 use Rattle.evaluator.specs.Swept.{first_written}
-use borrow.Author.Rules.{rules}
 use Rattle.evaluator.proofs.evaluate.Goals as goal
 
 pub slice_bounds-fill_all-end : goal.slice_bounds-fill_all-end

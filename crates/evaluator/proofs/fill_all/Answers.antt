@@ -1,5 +1,4 @@
 -- a claim has no action past 15
-use borrow.Author.Rules.{rules}
 use Rattle.dependencies.specs.Actions.{near_actions}
 use Rattle.evaluator.proofs.fill_all.Goals as goal
 

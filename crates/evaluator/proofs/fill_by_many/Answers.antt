@@ -1,5 +1,4 @@
 -- the rows are made from nothing
-use borrow.Author.Rules.{rules}
 use mathlib.Core.Path.{refl, ◌∙◌}
 use Rattle.evaluator.specs.Swept.{row_room, made_rows, made_words}
 use Rattle.evaluator.proofs.fill_by_many.Goals as goal

@@ -1,5 +1,4 @@
 -- what is settled is right from the first call to the last, and in the end every entry is
-use borrow.Author.Rules.{rules}
 use native.Mathlib.Omega.{arith}
 use Prim.Native.Nat.{ℕ}
 use lib.ListN.{length-replicate}

@@ -1,9 +1,7 @@
 use mathlib.Core.Path.{◌≡◌, refl}
 use native.Mathlib.Omega.{arith}
-use Prim.Native.Nat.{◌-◌, ◌≤◌}
-use lib.ListN.{length, get_or}
-use Rattle.states.specs.Fill.{Filled, filled_none, filled_set}
-use borrow.Author.Rules.{rules}
+use lib.ListN.{length}
+use Rattle.states.specs.Fill.{filled_none, filled_set}
 use Rattle.evaluator.proofs.hand_over.Goals as goal
 
 pub loop-e-init : goal.loop-e-init

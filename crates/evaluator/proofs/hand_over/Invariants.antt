@@ -1,10 +1,7 @@
 -- the words below e are handed over
-use mathlib.Core.Path.{◌≡◌, refl}
-use native.Mathlib.Omega.{arith}
 use Prim.Native.Nat.{◌-◌, ◌≤◌}
 use lib.ListN.{length, get_or}
-use Rattle.states.specs.Fill.{Filled, filled_none, filled_set}
-use borrow.Author.Rules.{rules}
+use Rattle.states.specs.Fill.{Filled}
 use Rattle.evaluator.proofs.hand_over.Given as goal
 
 abbrev pub invariant-loop-e : goal.invariant-loop-e
