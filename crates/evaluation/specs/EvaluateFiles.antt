@@ -1,5 +1,5 @@
 -- an evaluation in plain numbers: how many entries' records are to be stored, what is answered, and the lent words
-use Rattle.std.specs.Prelude.{◌≡◌, refl, List, ℕ, ◌<◌, ◌≤◌, length}
+use Rattle.std.specs.Prelude.{◌≡◌, List, ℕ, ◌<◌, ◌≤◌, length}
 use Rattle.verdict.specs.Verdict as verdicts
 use Rattle.verdict.specs.Verdict.{accepted, packed_wide, Within}
 use Rattle.verdict.specs.Lists.{written}
