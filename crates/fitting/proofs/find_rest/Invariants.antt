@@ -16,7 +16,7 @@ use Rattle.fitting.proofs.find_rest.Given as goal
 abbrev pub invariant-loop-i : goal.invariant-loop-i
 invariant-loop-i l =
     (l.from ≤ l.i) × (l.i ≤ l.to) × (l.found + l.from ≤ l.i) × (length l.rest ≡ 24)
-    × ((l : List ℕ) → Holds l.second l → Sifting (λ e. member l (in_focus l.canon e)) (part l.members l.from l.to) (part l.members l.i l.to) l.initial.rest l.found l.rest)
+    × ((m : List ℕ) → Holds l.second m → Sifting (λ e. member m (in_focus l.canon e)) (part l.members l.from l.to) (part l.members l.i l.to) l.initial.rest l.found l.rest)
 
 abbrev pub decreases-loop-i : goal.decreases-loop-i
 decreases-loop-i l = l.to - l.i
