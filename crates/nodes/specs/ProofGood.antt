@@ -22,7 +22,7 @@ use Rattle.encoding.specs.Places.{word_at}
 use Rattle.encoding.specs.Opening.{opens}
 use Rattle.encoding.specs.Walk.{Reached}
 use Rattle.proof_files.specs.ProofFile.{proof_opening}
-use Rattle.proof_files.specs.ReadProof.{rule_fits, is_code_lem, is_node, sequent, made, node, roots, read_proof}
+use Rattle.proof_files.specs.ReadProof.{rule_fits, is_code_lem, is_node, sequent, made, node, read_proof}
 use Rattle.proof_files.specs.ProofParts.{heading, number_from, after_number, numbers_of, roots_of, nodes_of}
 use Rattle.proofs.specs.ProofHead.{head_cut, head_unfit, head_short, head_whole}
 use Rattle.proofs.specs.ProofLaws.{number_cut, number_unfit, number_fits, roots_known, roots_written, sequent_cut, sequent_unfit, sequent_codes, node_stops, node_empty, node_codes, node_codes_stop}

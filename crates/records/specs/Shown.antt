@@ -1,7 +1,7 @@
 -- what lent records show: columns that are stored show the table and the proof that stand in them, and columns that are loaded hold what the records show
 use Rattle.std.specs.Prelude.{◌≡◌, length, take, drop}
 use Rattle.std.proofs.Math.Path.{refl, sym, ap}
-use Rattle.std.proofs.Common.{◌∙◌, le_of_suc-le-suc, length-append, length-take, length-drop, take_at, drop_at, length-take-le}
+use Rattle.std.proofs.Common.{◌∙◌, le_of_suc-le-suc, length-append, length-drop, take_at, drop_at, length-take-le}
 use mathlib.Core.List.{List, [], ◌∷◌, ◌++◌, map, map-append, append_assoc}
 use Prim.Native.Nat.{ℕ, zero, suc, ◌+◌, ◌*◌, ◌-◌, ◌<◌, ◌≤◌}
 use native.Mathlib.Omega.{arith}

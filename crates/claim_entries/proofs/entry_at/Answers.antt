@@ -1,7 +1,5 @@
 -- One step law for each way to end: map and kind first, then A, then B.
 use native.Mathlib.Omega.{arith}
-use borrow.Author.Rules.{rules}
-use Rattle.file_parts.specs.Numbers.{number_read, number_refused}
 use Rattle.claim_entries.specs.ClaimEntry.{entry_cut, entry_unfit, entry_a_cut, entry_b_cut, entry_whole}
 use Rattle.std.proofs.Common.{ap}
 use Rattle.std.specs.Prelude.{not}

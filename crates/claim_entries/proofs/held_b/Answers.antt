@@ -1,5 +1,4 @@
 -- Only a box or diamond whose B stands and is 0 is held otherwise.
-use borrow.Author.Rules.{rules}
 use Rattle.claim_entries.specs.ClaimEntry.{held_other, held_absent, held_kind}
 use Rattle.std.proofs.Common.{ap}
 use Rattle.std.specs.Prelude.{not}

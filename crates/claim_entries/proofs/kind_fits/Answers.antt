@@ -1,6 +1,5 @@
 -- A kind above the last is refused, then the map is compared, then what a box or diamond may have too.
 use mathlib.Core.Path.{◌∙◌}
-use borrow.Author.Rules.{rules}
 use Rattle.claim_entries.specs.ClaimEntry.{kind_unknown, kind_known, kind_acting}
 use Rattle.claim_entries.proofs.kind_fits.Goals as goal
 

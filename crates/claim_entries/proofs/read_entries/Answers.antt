@@ -1,6 +1,4 @@
 -- The count is read, then as many entries are walked over.
-use borrow.Author.Rules.{rules}
-use Rattle.file_parts.specs.Numbers.{number_read, number_refused}
 use Rattle.claim_entries.specs.ClaimEntries.{entries_cut, entries_place, entries_tell}
 use Rattle.claim_entries.proofs.read_entries.Goals as goal
 

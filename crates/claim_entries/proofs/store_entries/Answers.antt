@@ -1,8 +1,5 @@
-use Prim.Native.Nat.{◌≤◌, ◌-◌}
 use native.Mathlib.Omega.{arith}
-use borrow.Author.Rules.{rules}
-use Rattle.claim_entries.specs.ClaimEntry.{entry_read, entry_refused}
-use Rattle.claim_entries.specs.ClaimEntries.{Entered, none_entered, entering_stops, one_entered, all_entered}
+use Rattle.claim_entries.specs.ClaimEntries.{none_entered, entering_stops, one_entered, all_entered}
 use Rattle.claim_entries.proofs.store_entries.Goals as goal
 
 pub loop-i-init : goal.loop-i-init

@@ -1,9 +1,6 @@
 -- The invariant: so many entries are read and their columns stored, and the rest is read from the present place on.
 use Prim.Native.Nat.{◌≤◌, ◌-◌}
-use native.Mathlib.Omega.{arith}
-use borrow.Author.Rules.{rules}
-use Rattle.claim_entries.specs.ClaimEntry.{entry_read, entry_refused}
-use Rattle.claim_entries.specs.ClaimEntries.{Entered, none_entered, entering_stops, one_entered, all_entered}
+use Rattle.claim_entries.specs.ClaimEntries.{Entered}
 use Rattle.claim_entries.proofs.store_entries.Given as goal
 
 abbrev pub invariant-loop-i : goal.invariant-loop-i

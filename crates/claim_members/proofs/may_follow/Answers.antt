@@ -1,5 +1,4 @@
 -- The three tests of a member, one after the other.
-use borrow.Author.Rules.{rules}
 use Rattle.claim_members.specs.ClaimMembers.{below_floor, out_of_range, by_kind}
 use Rattle.claim_members.proofs.may_follow.Goals as goal
 

@@ -1,6 +1,4 @@
 -- A number is read, then tested as a member.
-use borrow.Author.Rules.{rules}
-use Rattle.file_parts.specs.Numbers.{number_read, number_refused}
 use Rattle.claim_members.specs.ClaimMembers.{member_cut, member_unfit, member_whole}
 use Rattle.std.proofs.Common.{ap}
 use Rattle.std.specs.Prelude.{not}

@@ -1,6 +1,4 @@
 -- The count is read, then as many members are walked over.
-use borrow.Author.Rules.{rules}
-use Rattle.file_parts.specs.Numbers.{number_read, number_refused}
 use Rattle.claim_members.specs.ClaimMembers.{members_cut, members_place, members_tell}
 use Rattle.claim_members.proofs.read_members.Goals as goal
 

@@ -1,8 +1,5 @@
-use Prim.Native.Nat.{◌≤◌, ◌-◌}
 use native.Mathlib.Omega.{arith}
-use borrow.Author.Rules.{rules}
-use Rattle.file_parts.specs.Numbers.{number_read, number_refused}
-use Rattle.claim_members.specs.ClaimMembers.{Listed, none_listed, listing_stops, one_listed, all_listed}
+use Rattle.claim_members.specs.ClaimMembers.{none_listed, listing_stops, one_listed, all_listed}
 use Rattle.claim_members.proofs.store_members.Goals as goal
 
 pub loop-i-init : goal.loop-i-init

@@ -1,9 +1,6 @@
 -- The invariant: so many members are read and stored, and the next is at least the floor.
 use Prim.Native.Nat.{◌≤◌, ◌-◌}
-use native.Mathlib.Omega.{arith}
-use borrow.Author.Rules.{rules}
-use Rattle.file_parts.specs.Numbers.{number_read, number_refused}
-use Rattle.claim_members.specs.ClaimMembers.{Listed, none_listed, listing_stops, one_listed, all_listed}
+use Rattle.claim_members.specs.ClaimMembers.{Listed}
 use Rattle.claim_members.proofs.store_members.Given as goal
 
 abbrev pub invariant-loop-i : goal.invariant-loop-i

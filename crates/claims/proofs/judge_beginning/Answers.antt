@@ -1,8 +1,5 @@
 -- One law for each way to be refused: opening, count, first entry.
 use native.Mathlib.Omega.{arith}
-use borrow.Author.Rules.{rules}
-use Rattle.file_parts.specs.Numbers.{number_read, number_refused}
-use Rattle.claim_entries.specs.ClaimEntry.{entry_refused, entry_read}
 use Rattle.claims.specs.ClaimWalk.{claim_opened, claim_long}
 use Rattle.claims.specs.ClaimBeginning.{first_place, begun_closed, begun_uncounted, begun_empty, begun_cut, begun_passed}
 use Rattle.claims.proofs.judge_beginning.Goals as goal

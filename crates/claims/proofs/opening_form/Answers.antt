@@ -1,5 +1,4 @@
 -- One law for each return.
-use borrow.Author.Rules.{rules}
 use Rattle.claims.specs.ClaimWalk.{opens_one, opens_several, opens_none}
 use Rattle.claims.proofs.opening_form.Goals as goal
 

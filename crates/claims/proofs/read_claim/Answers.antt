@@ -1,8 +1,6 @@
 -- One law for each way to end: opening, entries, goals, bytes that follow, acceptance.
 use native.Mathlib.Omega.{arith}
-use borrow.Author.Rules.{rules}
-use Rattle.file_parts.specs.Parts.{part_read, part_refused}
-use Rattle.claims.specs.ClaimWalk.{Opened, claim_refused, claim_closed, claim_opened, claim_long, claim_no_entries, claim_no_goals, claim_follows, claim_got}
+use Rattle.claims.specs.ClaimWalk.{claim_refused, claim_closed, claim_opened, claim_long, claim_no_entries, claim_no_goals, claim_follows, claim_got}
 use Rattle.claims.proofs.read_claim.Goals as goal
 
 pub returns-then-form-eq0 : goal.returns-then-form-eq0

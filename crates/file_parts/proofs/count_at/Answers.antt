@@ -1,7 +1,6 @@
 -- The number that stands there is tested against both ends of its range.
 use native.Mathlib.Omega.{arith}
-use borrow.Author.Rules.{rules}
-use Rattle.file_parts.specs.Numbers.{number_read, number_refused, count_cut, count_read, count_unfit}
+use Rattle.file_parts.specs.Numbers.{count_cut, count_read, count_unfit}
 use Rattle.file_parts.proofs.count_at.Goals as goal
 
 pub returns-then-value-least : goal.returns-then-value-least

@@ -1,5 +1,4 @@
 -- A field that stands is a number; one that does not takes no bytes.
-use borrow.Author.Rules.{rules}
 use Rattle.file_parts.specs.Numbers.{field_stands, field_skipped}
 use Rattle.file_parts.proofs.field_at.Goals as goal
 

@@ -1,5 +1,4 @@
 -- Two bytes stand at the place, or the file ends before them: the step laws of a number.
-use borrow.Author.Rules.{rules}
 use Rattle.file_parts.specs.Numbers.{two_cut, two_read}
 use Rattle.file_parts.proofs.two_at.Goals as goal
 

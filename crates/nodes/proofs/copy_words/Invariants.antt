@@ -1,14 +1,8 @@
 -- After i turns the first i numbers stand in the array, one store each.
-use borrow.Author.Rules.{rules}
-use native.Mathlib.Omega.{arith}
-use mathlib.Core.Path.{◌≡◌, refl, ap, ◌∙◌}
-use mathlib.Core.List.{List}
-use Prim.Native.Nat.{ℕ, ◌+◌, ◌*◌, ◌-◌, ◌≤◌}
-use lib.ListN.{length}
-use lib.Seq.{sets, length-sets}
-use Rattle.encoding.specs.Places.{word_at}
-use Rattle.verdict.specs.WrittenLaws.{sets_more}
-use Rattle.nodes.specs.ProofDecode.{words_at, words_at_length, words_at_more}
+use mathlib.Core.Path.{◌≡◌}
+use Prim.Native.Nat.{◌-◌, ◌≤◌}
+use lib.Seq.{sets}
+use Rattle.nodes.specs.ProofDecode.{words_at}
 use Rattle.nodes.proofs.copy_words.Given as goal
 
 abbrev pub invariant-loop-i : goal.invariant-loop-i

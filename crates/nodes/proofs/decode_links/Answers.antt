@@ -6,7 +6,6 @@ use Prim.Native.Nat.{ℕ}
 use lib.ListN.{length-set}
 use Rattle.bits.specs.IfSet.{if_set_lem}
 use Rattle.formula.specs.Fields.{has_principal_lem, has_first_lem, has_second_lem, has_back_lem}
-use borrow.Author.Rules.{rules}
 use Rattle.nodes.proofs.decode_links.Goals as goal
 use Rattle.nodes.proofs.decode_links.Goals.{After-has_back-has_back}
 

@@ -6,8 +6,7 @@ use Prim.Native.Nat.{ℕ, ◌+◌}
 use lib.Seq.{sets}
 use lib.ListN.{get_or}
 use Prim.Native.Nat.{◌≤◌}
-use Rattle.nodes.specs.ProofDecode.{codes_place, node_at, NodeFits, WithCodes, with_codes, no_codes}
-use borrow.Author.Rules.{rules}
+use Rattle.nodes.specs.ProofDecode.{node_at, WithCodes, with_codes, no_codes}
 use Rattle.nodes.proofs.decode_node.Goals as goal
 use Rattle.formula.specs.Fields.{link_width_lem}
 

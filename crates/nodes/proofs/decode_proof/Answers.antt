@@ -1,12 +1,11 @@
-use borrow.Author.Rules.{rules}
 use native.Mathlib.Omega.{arith}
 use mathlib.Core.Path.{◌≡◌, refl, subst, ◌∙◌}
-use Prim.Native.Nat.{ℕ, ◌-◌, ◌<◌, ◌≤◌}
+use Prim.Native.Nat.{ℕ, ◌<◌}
 use lib.ListN.{set, length-set}
 use Rattle.formula.specs.NodeColumns.{Columns}
 use Rattle.encoding.specs.Places.{word_at}
 use Rattle.nodes.specs.ProofDecode.{proof_in, nodes_at_length}
-use Rattle.nodes.specs.ProofStored.{Storing, storing_begins, storing_steps, node_fits, room, node_room, SameLengths, stored_long, NodesStored, stored_nodes}
+use Rattle.nodes.specs.ProofStored.{storing_begins, storing_steps, node_fits, room, node_room, SameLengths, stored_long, NodesStored, stored_nodes}
 use Rattle.nodes.proofs.decode_proof.Goals as goal
 use Rattle.nodes.proofs.decode_proof.Goals.{At-loop-i, In-loop-i}
 

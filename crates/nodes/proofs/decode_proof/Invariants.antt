@@ -1,13 +1,8 @@
 -- After i turns the first i nodes are stored, and the others stand from the place reached on.
-use borrow.Author.Rules.{rules}
-use native.Mathlib.Omega.{arith}
-use mathlib.Core.Path.{◌≡◌, refl, subst, ◌∙◌}
-use Prim.Native.Nat.{ℕ, ◌-◌, ◌<◌, ◌≤◌}
-use lib.ListN.{set, length-set}
-use Rattle.formula.specs.NodeColumns.{Columns}
+use mathlib.Core.Path.{◌≡◌}
+use Prim.Native.Nat.{◌-◌, ◌≤◌}
 use Rattle.encoding.specs.Places.{word_at}
-use Rattle.nodes.specs.ProofDecode.{proof_in, nodes_at_length}
-use Rattle.nodes.specs.ProofStored.{Storing, storing_begins, storing_steps, node_fits, room, node_room, SameLengths, stored_long, NodesStored, stored_nodes}
+use Rattle.nodes.specs.ProofStored.{Storing}
 use Rattle.nodes.proofs.decode_proof.Given as goal
 
 abbrev pub invariant-loop-i : goal.invariant-loop-i

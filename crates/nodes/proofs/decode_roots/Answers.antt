@@ -1,5 +1,4 @@
 -- The number of CLM2 has the roots copied, and any other has the only root stored, which is 0.
-use borrow.Author.Rules.{rules}
 use native.Mathlib.Omega.{arith}
 use mathlib.Core.Path.{refl}
 use Rattle.formula.specs.NamedForm.{names_several, names_one, for_named}

@@ -1,6 +1,5 @@
 -- A field that stands is the number at its place.
 use native.Mathlib.Omega.{arith}
-use borrow.Author.Rules.{rules}
 use Rattle.nodes.proofs.field_at.Goals as goal
 
 pub word_at-requires : goal.word_at-requires

@@ -1,6 +1,5 @@
 -- As many nodes are read as the two bytes say.
 use mathlib.Core.Path.{sym, ◌∙◌}
-use borrow.Author.Rules.{rules}
 use Rattle.encoding.specs.Places.{word_at}
 use Rattle.nodes.specs.ProofDecode.{nodes_at_length}
 use Rattle.nodes.proofs.node_count.Goals as goal

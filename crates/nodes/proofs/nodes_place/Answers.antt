@@ -1,5 +1,4 @@
 -- The number of CLM2 has the roots passed over, two bytes each.
-use borrow.Author.Rules.{rules}
 use native.Mathlib.Omega.{arith}
 use mathlib.Core.Path.{◌≡◌, refl}
 use Prim.Native.Nat.{◌+◌, ◌*◌}

@@ -1,7 +1,6 @@
 -- A field that stands takes two bytes.
 use native.Mathlib.Omega.{arith}
 use mathlib.Core.Path.{refl}
-use borrow.Author.Rules.{rules}
 use Rattle.nodes.proofs.past_field.Goals as goal
 
 pub returns-then-stands : goal.returns-then-stands

@@ -1,12 +1,8 @@
-use borrow.Author.Rules.{rules}
 use borrow.Author.Tests.{ne_eqb}
 use native.Mathlib.Omega.{arith}
-use mathlib.Core.Path.{◌≡◌, refl, ap, ◌∙◌}
+use mathlib.Core.Path.{◌≡◌, ap, ◌∙◌}
 use mathlib.Core.Bool.{not, false≢true}
-use Prim.Native.Nat.{◌+◌, ◌*◌, ◌≤◌}
-use lib.ListN.{length}
-use Rattle.proof_files.specs.ProofParts.{kind_table}
-use Rattle.proofs.specs.ProofLaws.{CodesFrom, code_known, codes_none, codes_more, codes_all}
+use Rattle.proofs.specs.ProofLaws.{code_known, codes_none, codes_more, codes_all}
 use Rattle.proofs.proofs.codes_fit.Goals as goal
 
 pub returns-then-bytes-start : goal.returns-then-bytes-start

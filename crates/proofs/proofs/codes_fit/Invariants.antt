@@ -1,13 +1,8 @@
 -- The codes passed are read whatever stands in front of them, if it is below the lowest of them: each turn puts one in front.
-use borrow.Author.Rules.{rules}
-use borrow.Author.Tests.{ne_eqb}
-use native.Mathlib.Omega.{arith}
-use mathlib.Core.Path.{◌≡◌, refl, ap, ◌∙◌}
-use mathlib.Core.Bool.{not, false≢true}
 use Prim.Native.Nat.{◌+◌, ◌*◌, ◌≤◌}
 use lib.ListN.{length}
 use Rattle.proof_files.specs.ProofParts.{kind_table}
-use Rattle.proofs.specs.ProofLaws.{CodesFrom, code_known, codes_none, codes_more, codes_all}
+use Rattle.proofs.specs.ProofLaws.{CodesFrom}
 use Rattle.proofs.proofs.codes_fit.Given as goal
 
 abbrev pub invariant-loop-i : goal.invariant-loop-i

@@ -1,17 +1,15 @@
-use borrow.Author.Rules.{rules}
 use native.Mathlib.Omega.{arith}
-use mathlib.Core.Path.{◌≡◌, refl, sym, ap, ◌∙◌}
-use mathlib.Core.List.{List, []}
+use mathlib.Core.Path.{◌≡◌, sym, ap, ◌∙◌}
+use mathlib.Core.List.{[]}
 use mathlib.Core.Bool.{Bool}
-use Prim.Native.Nat.{ℕ, suc, ◌+◌, ◌*◌, ◌-◌, ◌≤◌}
-use lib.ListN.{length, drop}
+use Prim.Native.Nat.{ℕ, suc, ◌+◌, ◌≤◌}
 use borrow.Author.Tests.{le-leb}
 use Rattle.formula.specs.Table.{Table}
-use Rattle.encoding.specs.Parse.{fault, fits_from}
+use Rattle.encoding.specs.Parse.{fits_from}
 use Rattle.encoding.specs.Places.{word_at}
-use Rattle.encoding.specs.Walk.{Walking, walk_begins, walk_steps, walk_stops, walk_ends}
+use Rattle.encoding.specs.Walk.{walk_begins, walk_steps, walk_stops, walk_ends}
 use Rattle.proof_files.specs.ReadProof.{is_code_lem}
-use Rattle.proof_files.specs.ProofParts.{kind_table, number_from, after_number, numbers_of, codes_of}
+use Rattle.proof_files.specs.ProofParts.{kind_table, number_from, after_number, numbers_of}
 use Rattle.proofs.specs.ProofLaws.{number_cut, number_unfit, number_fits, number_low}
 use Rattle.proofs.proofs.codes_walk.Goals as goal
 

@@ -1,18 +1,11 @@
 -- The codes read so far are a walk of the parser of codes: each turn is one of its steps, and each refusal one of its stops.
-use borrow.Author.Rules.{rules}
-use native.Mathlib.Omega.{arith}
-use mathlib.Core.Path.{◌≡◌, refl, sym, ap, ◌∙◌}
-use mathlib.Core.List.{List, []}
-use Prim.Native.Nat.{ℕ, suc, ◌+◌, ◌*◌, ◌-◌, ◌≤◌}
+use mathlib.Core.Path.{◌≡◌}
+use mathlib.Core.List.{List}
+use Prim.Native.Nat.{ℕ, ◌+◌, ◌*◌, ◌-◌, ◌≤◌}
 use lib.ListN.{length, drop}
-use borrow.Author.Tests.{le-leb, not-true, not-false}
-use Rattle.formula.specs.Table.{Table}
-use Rattle.encoding.specs.Parse.{fault, fits_from}
-use Rattle.encoding.specs.Places.{word_at}
-use Rattle.encoding.specs.Walk.{Walking, walk_begins, walk_steps, walk_stops, walk_ends}
+use Rattle.encoding.specs.Walk.{Walking}
 use Rattle.proof_files.specs.ReadProof.{is_code_lem}
-use Rattle.proof_files.specs.ProofParts.{kind_table, number_from, after_number, numbers_of, codes_of}
-use Rattle.proofs.specs.ProofLaws.{number_cut, number_unfit, number_fits, number_low}
+use Rattle.proof_files.specs.ProofParts.{kind_table, number_from, after_number, codes_of}
 use Rattle.proofs.proofs.codes_walk.Given as goal
 
 abbrev pub invariant-loop-i : goal.invariant-loop-i

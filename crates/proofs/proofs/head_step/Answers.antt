@@ -1,16 +1,11 @@
 -- The four returns are the four cases of the law of a node's head.
 use mathlib.Core.Path.{◌≡◌, sym, ◌∙◌}
-use mathlib.Core.List.{List}
-use mathlib.Core.Bool.{true}
 use Prim.Native.Nat.{ℕ, ◌+◌, ◌<◌}
 use lib.ListN.{length, get_or}
-use borrow.Author.Tests.{not-true, not-false}
 use Rattle.formula.specs.Fields.{link_width_lem}
 use native.Mathlib.Omega.{arith}
-use Rattle.proof_files.specs.ReadProof.{rule_fits}
 use Rattle.proof_files.specs.ProofParts.{links_at}
 use Rattle.proofs.specs.ProofHead.{head_cut, head_unfit, head_short, head_whole}
-use borrow.Author.Rules.{rules}
 use Rattle.proofs.proofs.head_step.Goals as goal
 
 pub returns-then-bytes-at : goal.returns-then-bytes-at

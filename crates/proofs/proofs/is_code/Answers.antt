@@ -1,7 +1,6 @@
 -- The table of the kinds has the entry's kind where it is in range.
 use mathlib.Core.Path.{sym}
 use Rattle.proofs.specs.ProofLaws.{code_known, code_outside}
-use borrow.Author.Rules.{rules}
 use Rattle.proofs.proofs.is_code.Goals as goal
 
 pub returns-then-entry-count : goal.returns-then-entry-count

@@ -1,19 +1,12 @@
 -- The walk's outcome decides, and after it whether bytes follow.
-use borrow.Author.Rules.{rules}
 use native.Mathlib.Omega.{arith}
-use mathlib.Core.Path.{◌≡◌, sym, subst, ap, ◌∙◌}
-use mathlib.Core.List.{List}
-use Prim.Native.Nat.{ℕ}
+use mathlib.Core.Path.{sym, ap, ◌∙◌}
 use Rattle.formula.specs.Nodes.{Proof}
 use Rattle.encoding.specs.File.{ending}
 use Rattle.encoding.specs.Outcome.{verdict_of}
 use Rattle.encoding.specs.Parse.{Got}
 use Rattle.encoding.specs.Walk.{bytes_follow, none_follow}
 use Rattle.proof_files.specs.ReadProof.{early}
-use Rattle.proof_files.specs.ProofParts.{kind_table, nodes_of}
-use Rattle.proofs.specs.ProofSteps.{Finds}
-use Rattle.proofs.specs.declared.Step.{Step}
-use Rattle.proofs.specs.declared.Step.TheVariants.{Next, Stop}
 use Rattle.proofs.proofs.judge_nodes.Goals as goal
 
 pub overflow_cast-result : goal.overflow_cast-result

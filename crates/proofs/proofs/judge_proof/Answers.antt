@@ -5,7 +5,6 @@ use mathlib.Core.List.{List, []}
 use mathlib.Core.Bool.{true}
 use Prim.Native.Nat.{ℕ, ◌≤◌}
 use lib.ListN.{length, length-replicate}
-use borrow.Author.Tests.{not-true, not-false}
 use Rattle.verdict.specs.Verdict.{Verdict, refused}
 use Rattle.verdict.specs.Shown.{shown}
 use Rattle.formula.specs.Claim.{Form, form_number, fewest, Claim, Derivation}
@@ -22,7 +21,6 @@ use Rattle.proofs.specs.ProofSteps.{Finds}
 use Rattle.proofs.specs.ProofWhole.{not_opened, no_count, count_unfit, roots_stop, nodes_decide}
 use Rattle.proofs.specs.declared.Step.{Step}
 use Rattle.proofs.specs.declared.Step.TheVariants.{Next, Stop}
-use borrow.Author.Rules.{rules}
 use Rattle.proofs.proofs.judge_proof.Goals as goal
 
 module _ (form count goals : ℕ) (kinds file : List ℕ) where

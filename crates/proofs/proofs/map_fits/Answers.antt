@@ -3,7 +3,6 @@ use mathlib.Core.Path.{◌≡◌, refl, sym, ◌∙◌}
 use native.Mathlib.Omega.{arith}
 use Rattle.formula.specs.Fields.{low_map_lem}
 use borrow.Author.Tests.{le-leb, lt-leb, eq-eqb, ne_eqb}
-use borrow.Author.Rules.{rules}
 use Rattle.proofs.proofs.map_fits.Goals as goal
 
 pub returns-then-rule-gt-BACK : goal.returns-then-rule-gt-BACK

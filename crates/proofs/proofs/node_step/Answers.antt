@@ -1,15 +1,9 @@
 -- The head's outcome decides, and after it the empty sequent or the outcome of the codes.
 use native.Mathlib.Omega.{arith}
-use mathlib.Core.Path.{subst}
-use mathlib.Core.List.{List}
-use Prim.Native.Nat.{ℕ}
 use lib.ListN.{drop}
-use Rattle.formula.specs.Table.{Table}
 use Rattle.proof_files.specs.ProofParts.{kind_table}
 use Rattle.proofs.specs.ProofLaws.{node_stops}
-use Rattle.proofs.specs.ProofSteps.{Head, FindsHead, finds_empty, finds_codes}
-use Rattle.proofs.specs.declared.Step.{Step}
-use borrow.Author.Rules.{rules}
+use Rattle.proofs.specs.ProofSteps.{finds_empty, finds_codes}
 use Rattle.proofs.proofs.node_step.Goals as goal
 
 pub bounds-bytes-at : goal.bounds-bytes-at

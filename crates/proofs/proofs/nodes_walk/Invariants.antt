@@ -1,18 +1,10 @@
 -- The nodes read so far are a walk of the parser of nodes, each at most 57 bytes long.
-use borrow.Author.Rules.{rules}
-use native.Mathlib.Omega.{arith}
-use mathlib.Core.Path.{◌≡◌, subst}
-use mathlib.Core.List.{List, []}
-use Prim.Native.Nat.{ℕ, ◌+◌, ◌*◌, ◌-◌, ◌≤◌}
+use Prim.Native.Nat.{◌+◌, ◌*◌, ◌-◌, ◌≤◌}
 use lib.ListN.{length, drop}
-use Rattle.formula.specs.Table.{Table}
 use Rattle.formula.specs.Nodes.{Proof}
 use Rattle.proof_files.specs.ReadProof.{node}
-use Rattle.encoding.specs.Walk.{Walking, walk_begins, walk_steps, walk_stops, walk_ends}
+use Rattle.encoding.specs.Walk.{Walking}
 use Rattle.proof_files.specs.ProofParts.{kind_table, nodes_of}
-use Rattle.proofs.specs.ProofSteps.{Finds}
-use Rattle.proofs.specs.declared.Step.{Step}
-use Rattle.proofs.specs.declared.Step.TheVariants.{Next, Stop}
 use Rattle.proofs.proofs.nodes_walk.Given as goal
 
 abbrev pub invariant-loop-i : goal.invariant-loop-i

@@ -1,5 +1,4 @@
 -- The number of CLM2 asks for the letters PRF2, and any other for PRF1.
-use borrow.Author.Rules.{rules}
 use Rattle.formula.specs.NamedForm.{names_several, names_one}
 use Rattle.proofs.proofs.opens_proof.Goals as goal
 

@@ -1,7 +1,5 @@
 -- The number of CLM2 has the roots walked over, and any other has them known.
-use borrow.Author.Rules.{rules}
 use native.Mathlib.Omega.{arith}
-use mathlib.Core.Path.{refl}
 use Rattle.formula.specs.NamedForm.{names_several, names_one}
 use Rattle.proofs.specs.ProofLaws.{roots_known, roots_written}
 use Rattle.proofs.specs.ProofSteps.{finds_as}

@@ -1,14 +1,12 @@
-use borrow.Author.Rules.{rules}
 use native.Mathlib.Omega.{arith}
-use mathlib.Core.Path.{◌≡◌, refl}
-use mathlib.Core.List.{List, []}
+use mathlib.Core.Path.{◌≡◌}
+use mathlib.Core.List.{[]}
 use mathlib.Core.Bool.{true, false}
-use Prim.Native.Nat.{ℕ, suc, ◌+◌, ◌*◌, ◌-◌, ◌<◌, ◌≤◌}
-use lib.ListN.{length, drop}
+use Prim.Native.Nat.{ℕ, suc, ◌+◌, ◌<◌, ◌≤◌}
 use borrow.Author.Tests.{le-leb, lt-ltb, le-ltb}
-use Rattle.encoding.specs.Parse.{fault, fits_from}
+use Rattle.encoding.specs.Parse.{fits_from}
 use Rattle.encoding.specs.Places.{word_at}
-use Rattle.encoding.specs.Walk.{Walking, walk_begins, walk_steps, walk_stops, walk_ends}
+use Rattle.encoding.specs.Walk.{walk_begins, walk_steps, walk_stops, walk_ends}
 use Rattle.proof_files.specs.ReadProof.{is_node}
 use Rattle.proof_files.specs.ProofParts.{number_from, after_number, numbers_of}
 use Rattle.proofs.specs.ProofLaws.{number_cut, number_unfit, number_fits, number_low}

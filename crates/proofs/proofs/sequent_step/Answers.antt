@@ -15,7 +15,6 @@ use Rattle.proofs.specs.ProofSteps.{Finds, finds_as}
 use Rattle.proofs.specs.ProofLaws.{sequent_cut, sequent_unfit, sequent_codes}
 use Rattle.proofs.specs.declared.Step.{Step}
 use Rattle.proofs.specs.declared.Step.TheVariants.{Next}
-use borrow.Author.Rules.{rules}
 use Rattle.proofs.proofs.sequent_step.Goals as goal
 
 -- a count out of range

@@ -1,7 +1,6 @@
 -- Each store leaves the slice as long as it was.
 use native.Mathlib.Omega.{arith}
 use lib.ListN.{length-set}
-use borrow.Author.Rules.{rules}
 use Rattle.records.proofs.set_links.Goals as goal
 
 pub bounds-links-v-2 : goal.bounds-links-v-2

@@ -1,5 +1,4 @@
 -- The count is read where the form has one, and else there is one goal.
-use borrow.Author.Rules.{rules}
 use Rattle.claim_members.specs.ClaimGoals.{several_counted, one_known}
 use Rattle.claim_members.proofs.goal_lists.goal_count.Goals as goal
 

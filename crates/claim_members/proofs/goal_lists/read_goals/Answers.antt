@@ -1,6 +1,4 @@
 -- The count is read, then as many goals are walked over.
-use borrow.Author.Rules.{rules}
-use Rattle.file_parts.specs.Numbers.{number_read, number_refused}
 use Rattle.claim_members.specs.ClaimGoals.{goals_cut, goals_place, goals_tell}
 use Rattle.claim_members.proofs.goal_lists.read_goals.Goals as goal
 

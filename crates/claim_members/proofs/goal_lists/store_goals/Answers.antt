@@ -1,9 +1,7 @@
-use Prim.Native.Nat.{◌+◌, ◌≤◌, ◌-◌}
+use Prim.Native.Nat.{◌+◌, ◌≤◌}
 use native.Mathlib.Omega.{arith}
 use lib.ListN.{length-set}
-use borrow.Author.Rules.{rules}
-use Rattle.file_parts.specs.Parts.{part_read, part_refused}
-use Rattle.claim_members.specs.ClaimGoals.{Gathered, none_gathered, members_long, gathering_stops, one_gathered, all_gathered}
+use Rattle.claim_members.specs.ClaimGoals.{none_gathered, members_long, gathering_stops, one_gathered, all_gathered}
 use Rattle.claim_members.proofs.goal_lists.store_goals.Goals as goal
 use Rattle.claim_members.proofs.goal_lists.store_goals.Goals.{In-Read}
 

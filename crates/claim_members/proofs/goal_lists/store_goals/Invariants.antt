@@ -1,10 +1,6 @@
 -- The invariant: so many goals are read and stored, each after the one before, and the starts of those and of the next are written.
-use Prim.Native.Nat.{◌+◌, ◌≤◌, ◌-◌}
-use native.Mathlib.Omega.{arith}
-use lib.ListN.{length-set}
-use borrow.Author.Rules.{rules}
-use Rattle.file_parts.specs.Parts.{part_read, part_refused}
-use Rattle.claim_members.specs.ClaimGoals.{Gathered, none_gathered, members_long, gathering_stops, one_gathered, all_gathered}
+use Prim.Native.Nat.{◌≤◌, ◌-◌}
+use Rattle.claim_members.specs.ClaimGoals.{Gathered}
 use Rattle.claim_members.proofs.goal_lists.store_goals.Given as goal
 
 abbrev pub invariant-loop-i : goal.invariant-loop-i
