@@ -15,8 +15,8 @@ loop-i-preserved c =
     let room : c.args.count < length c.args.members.now = omega (arith, c.requires.0) in
     let l = c.loop-i in
     elim c.if-held-next.branch [
-      then-held-next w ↦ rw (w.members-is, w.held-is) (omega arith, length-set l.members l.i l.held ∙ l.invariant.1, passing_swaps room l.invariant.2 (omega arith) w.if-held-next.true)
-    | else-held-next w ↦ rw (w.members-is, w.held-is) (omega arith, l.invariant.1, passing_passes room l.invariant.2 (omega arith) (λ k. omega (arith, w.if-held-next.false)))
+      | then-held-next w ↦ rw (w.members-is, w.held-is) (omega arith, length-set l.members l.i l.held ∙ l.invariant.1, passing_swaps room l.invariant.2 (omega arith) w.if-held-next.true)
+      | else-held-next w ↦ rw (w.members-is, w.held-is) (omega arith, l.invariant.1, passing_passes room l.invariant.2 (omega arith) (λ k. omega (arith, w.if-held-next.false)))
     ]
 
 pub returns : goal.returns

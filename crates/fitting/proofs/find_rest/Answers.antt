@@ -37,14 +37,14 @@ loop-i-preserved c =
     let passes : (m : List ℕ) → Holds c.args.second.now m → c.has.result ≡ member m (in_focus c.args.canon.now (get_or c.args.members.now l.i 0)) =
     λ m h. c.has.ensures m h ∙ ap (member m) (c.key.ensures.1 ∙ ap (in_focus c.args.canon.now) c.wide.ensures) in
     elim c.if-has.branch [
-      then-has w ↦ rw (w.rest-is, w.found-is) (
+      | then-has w ↦ rw (w.rest-is, w.found-is) (
         omega arith,
         omega arith,
         omega arith,
         length-set l.rest l.found _ ∙ l.invariant.3,
         λ m h. sifting_keeps (left m h) (omega (arith, c.requires.3)) (sym (passes m h) ∙ w.if-has.true),
       )
-    | else-has w ↦ rw (w.rest-is, w.found-is) (omega arith, omega arith, omega arith, l.invariant.3, λ m h. sifting_drops (left m h) (sym (passes m h) ∙ w.if-has.false))
+      | else-has w ↦ rw (w.rest-is, w.found-is) (omega arith, omega arith, omega arith, l.invariant.3, λ m h. sifting_drops (left m h) (sym (passes m h) ∙ w.if-has.false))
     ]
 
 pub returns : goal.returns

@@ -70,12 +70,11 @@ pub overflow_add-v : goal.overflow_add-v
 overflow_add-v c = omega (arith, c.requires.1.given.most)
 
 pub loop-v-preserved : goal.loop-v-preserved
-loop-v-preserved c =
-    (
-      omega arith,
-      omega (arith, few (goal.at.loop-v-preserved c).After-wide-count, c.loop-v.invariant.1),
-      less_left (encode_node (this (goal.at.loop-v-preserved c).After-wide-count)) (after (goal.at.loop-v-preserved c).After-wide-count) (this_left (goal.at.loop-v-preserved c).After-wide-count) c.put_node-at.ensures,
-    )
+loop-v-preserved c = (
+  omega arith,
+  omega (arith, few (goal.at.loop-v-preserved c).After-wide-count, c.loop-v.invariant.1),
+  less_left (encode_node (this (goal.at.loop-v-preserved c).After-wide-count)) (after (goal.at.loop-v-preserved c).After-wide-count) (this_left (goal.at.loop-v-preserved c).After-wide-count) c.put_node-at.ensures,
+)
 
 pub shape_of-out : goal.shape_of-out
 shape_of-out c = c.loop-v.invariant.2.long

@@ -28,12 +28,11 @@ overflow_add-start c =
     omega (arith, lists_room c.loop-i.invariant.1 c.loop-i-test.true c.wide-listed.result c.wide-listed.ensures)
 
 pub loop-i-preserved : goal.loop-i-preserved
-loop-i-preserved c =
-    (
-      omega arith,
-      lists_on c.loop-i.invariant.1 c.loop-i-test.true c.wide-listed.result c.wide-listed.ensures
-          (found_next c.in-Next.ensures refl) (c.in-Next.ensures.near _ refl),
-    )
+loop-i-preserved c = (
+  omega arith,
+  lists_on c.loop-i.invariant.1 c.loop-i-test.true c.wide-listed.result c.wide-listed.ensures
+      (found_next c.in-Next.ensures refl) (c.in-Next.ensures.near _ refl),
+)
 
 pub returns : goal.returns
 returns c = finds_next (lists_end_lem c.loop-i.invariant.1 (omega arith)) (omega (arith, c.loop-i.invariant.1.near))

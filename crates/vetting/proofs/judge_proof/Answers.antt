@@ -61,7 +61,7 @@ returns-in-Stop c f named = finds_stop (Stop _ _) (stops_there _ (found_stop (wa
 -- what the judge of the trees says of the columns, it says of the nodes
 tree-told : (s : Start) (f : Form) → s.args.form ≡ form_number f → {at : ℕ} → Finds (ends s f) 58406 (Next at) → (v : Verdict)
     → ((f : Form) → GoalCount f s.args.goals → roots_fit f s.args.goals s.args.roots.now ≡ true → (ss cs : List ℕ)
-        → shown v ≡ tree_judged (roots_of f s.args.roots.now) (proof_of s.args.rules.now s.args.links.now ss cs s.args.nodes))
+    → shown v ≡ tree_judged (roots_of f s.args.roots.now) (proof_of s.args.rules.now s.args.links.now ss cs s.args.nodes))
     → tree_judged (roots_of f s.args.roots.now) (nodes_over (records s) s.args.codes.now) ≡ shown v
 tree-told s f named w v told =
     ap (λ (p : Proof). tree_judged (roots_of f s.args.roots.now) p)

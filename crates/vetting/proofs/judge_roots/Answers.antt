@@ -41,12 +41,11 @@ pub overflow_add-least : goal.overflow_add-least
 overflow_add-least c = omega (arith, c.type_inv.roots c.loop-i.i, c.wide-root.ensures)
 
 pub loop-i-preserved : goal.loop-i-preserved
-loop-i-preserved c =
-    (
-      omega arith,
-      rising_on c.loop-i.invariant.1 c.loop-i-test.true c.wide-root.result c.wide-root.ensures
-          (rw (le-leb (floor (goal.at.loop-i-preserved c).After-wide-root) c.wide-root.result c.if-root-least.false, lt-ltb c.wide-root.result (nodes (goal.at.loop-i-preserved c).After-wide-root) c.if-nodes-root.false) refl),
-    )
+loop-i-preserved c = (
+  omega arith,
+  rising_on c.loop-i.invariant.1 c.loop-i-test.true c.wide-root.result c.wide-root.ensures
+      (rw (le-leb (floor (goal.at.loop-i-preserved c).After-wide-root) c.wide-root.result c.if-root-least.false, lt-ltb c.wide-root.result (nodes (goal.at.loop-i-preserved c).After-wide-root) c.if-nodes-root.false) refl),
+)
 
 pub returns : goal.returns
 returns c =
