@@ -22,8 +22,8 @@ module _ (s : Start) where
   abbrev table : Table
   table = table_of s.args.kinds.now s.args.a.now s.args.b.now s.args.entries
 
-  abbrev goal : List ℕ
-  goal = take s.args.members s.args.goal.now
+  abbrev own : List ℕ
+  own = take s.args.members s.args.goal.now
 
   abbrev first : Proof
   first = proof_in s.args.first.now 6
@@ -32,15 +32,15 @@ module _ (s : Start) where
   second = proof_in s.args.second.now 6
 
 -- how many nodes there are
-counted : (c : After-node_count-2) → (c.node_count.result ≡ length (first c.before-LEFT-Start)) × (c.node_count-2.result ≡ length (second c.before-LEFT-Start))
+counted : (c : After-node_count-2) → (c.node_count.result ≡ length (proof_in c.args.first.now 6)) × (c.node_count-2.result ≡ length (proof_in c.args.second.now 6))
 counted c = (c.node_count.ensures 6, c.node_count-2.ensures 6)
 
 most : {t : List ℕ} → HalfProof t → length (proof_in t 6) ≤ 1024
 most {t} h = omega (arith, nodes_at_length t 6 (word_at t 4), h.tree.decodes.few)
 
 -- not too many
-few : (c : Else-node_count-gt1024) → length (first c.before-LEFT-Start) + length (second c.before-LEFT-Start) + 1 ≤ 1024
-few c = omega (arith, c.if-node_count-gt1024.false, (counted c.before-LEFT-After-node_count-2).0, (counted c.before-LEFT-After-node_count-2).1)
+few : (c : Else-node_count-gt1024) → length (proof_in c.args.first.now 6) + length (proof_in c.args.second.now 6) + 1 ≤ 1024
+few c = omega (arith, c.if-node_count-gt1024.false, c.node_count.ensures 6, c.node_count-2.ensures 6)
 
 pub node_count-requires : goal.node_count-requires
 node_count-requires c = c.requires.first_proof.tree.decodes.counted
@@ -49,18 +49,18 @@ pub node_count-requires-2 : goal.node_count-requires-2
 node_count-requires-2 c = c.requires.second_proof.tree.decodes.counted
 
 pub overflow_add-node_count : goal.overflow_add-node_count
-overflow_add-node_count c = let p = c.requires in omega (arith, (counted c).0, (counted c).1, most p.first_proof, most p.second_proof)
+overflow_add-node_count c = let p = c.requires in let k = counted (goal.at.overflow_add-node_count c).After-node_count-2 in omega (arith, k.0, k.1, most p.first_proof, most p.second_proof)
 
 pub overflow_add-node_count-2 : goal.overflow_add-node_count-2
-overflow_add-node_count-2 c = let p = c.requires in omega (arith, (counted c).0, (counted c).1, most p.first_proof, most p.second_proof)
+overflow_add-node_count-2 c = let p = c.requires in let k = counted (goal.at.overflow_add-node_count-2 c).After-node_count-2 in omega (arith, k.0, k.1, most p.first_proof, most p.second_proof)
 
 pub returns-then-node_count-gt1024 : goal.returns-then-node_count-gt1024
 returns-then-node_count-gt1024 c =
-    wholly_refused (too_many (table (goal.at.returns-then-node_count-gt1024 c).Start) (goal (goal.at.returns-then-node_count-gt1024 c).Start) (first (goal.at.returns-then-node_count-gt1024 c).Start) (second (goal.at.returns-then-node_count-gt1024 c).Start) c.args.entry _ _ (omega (arith, c.if-node_count-gt1024.true, (counted (goal.at.returns-then-node_count-gt1024 c).After-node_count-2).0, (counted (goal.at.returns-then-node_count-gt1024 c).After-node_count-2).1))) c.refuse.ensures
+    wholly_refused (too_many (table (goal.at.returns-then-node_count-gt1024 c).Start) (own (goal.at.returns-then-node_count-gt1024 c).Start) (first (goal.at.returns-then-node_count-gt1024 c).Start) (second (goal.at.returns-then-node_count-gt1024 c).Start) c.args.entry _ _ (omega (arith, c.if-node_count-gt1024.true, (counted (goal.at.returns-then-node_count-gt1024 c).After-node_count-2).0, (counted (goal.at.returns-then-node_count-gt1024 c).After-node_count-2).1))) c.refuse.ensures
 
 pub returns-then-claim-claim_length : goal.returns-then-claim-claim_length
 returns-then-claim-claim_length c =
-    wholly_refused (claim_short (table (goal.at.returns-then-claim-claim_length c).Start) (goal (goal.at.returns-then-claim-claim_length c).Start) (first (goal.at.returns-then-claim-claim_length c).Start) (second (goal.at.returns-then-claim-claim_length c).Start) c.args.entry _ _ (few (goal.at.returns-then-claim-claim_length c).Else-node_count-gt1024) (omega (arith, c.if-claim-claim_length.true, c.requires.long))) c.refuse-then-claim-claim_length.ensures
+    wholly_refused (claim_short (table (goal.at.returns-then-claim-claim_length c).Start) (own (goal.at.returns-then-claim-claim_length c).Start) (first (goal.at.returns-then-claim-claim_length c).Start) (second (goal.at.returns-then-claim-claim_length c).Start) c.args.entry _ _ (few (goal.at.returns-then-claim-claim_length c).Else-node_count-gt1024) (omega (arith, c.if-claim-claim_length.true, c.requires.long))) c.refuse-then-claim-claim_length.ensures
 
 pub overflow_mul-proof_length : goal.overflow_mul-proof_length
 overflow_mul-proof_length c = omega (arith, c.requires.members.few)
@@ -74,7 +74,7 @@ overflow_add-proof_length-3 c = omega (arith, c.requires.members.few, c.requires
 pub returns-then-proof-proof_length : goal.returns-then-proof-proof_length
 returns-then-proof-proof_length c =
     wholly_refused
-    (proof_short (table (goal.at.returns-then-proof-proof_length c).Start) (goal (goal.at.returns-then-proof-proof_length c).Start) (first (goal.at.returns-then-proof-proof_length c).Start) (second (goal.at.returns-then-proof-proof_length c).Start) c.args.entry _ _ (few (goal.at.returns-then-proof-proof_length c).Else-node_count-gt1024) (omega (arith, c.if-claim-claim_length.false, c.requires.long)) (omega (arith, c.if-proof-proof_length.true, proof_long c.requires)))
+    (proof_short (table (goal.at.returns-then-proof-proof_length c).Start) (own (goal.at.returns-then-proof-proof_length c).Start) (first (goal.at.returns-then-proof-proof_length c).Start) (second (goal.at.returns-then-proof-proof_length c).Start) c.args.entry _ _ (few (goal.at.returns-then-proof-proof_length c).Else-node_count-gt1024) (omega (arith, c.if-claim-claim_length.false, c.requires.long)) (omega (arith, c.if-proof-proof_length.true, proof_long c.requires)))
     c.refuse-then-proof-proof_length.ensures
 
 pub overflow_cast-counts : goal.overflow_cast-counts
@@ -98,7 +98,7 @@ overflow_add-result c = let p = c.requires in omega (arith, p.near, p.members.fe
 
 pub returns : goal.returns
 returns c =
-    let fits = both_fit (table (goal.at.returns c).Start) (goal (goal.at.returns c).Start) (first (goal.at.returns c).Start) (second (goal.at.returns c).Start) c.args.entry (length c.args.claim.now) (length c.args.proof.now) (few (goal.at.returns c).Else-node_count-gt1024) (omega (arith, c.requires.long, c.if-claim-claim_length.false)) (omega (arith, proof_long c.requires, c.if-proof-proof_length.false)) in
+    let fits = both_fit (table (goal.at.returns c).Start) (own (goal.at.returns c).Start) (first (goal.at.returns c).Start) (second (goal.at.returns c).Start) c.args.entry (length c.args.claim.now) (length c.args.proof.now) (few (goal.at.returns c).Else-node_count-gt1024) (omega (arith, c.requires.long, c.if-claim-claim_length.false)) (omega (arith, proof_long c.requires, c.if-proof-proof_length.false)) in
     wholly_good fits (omega (arith, c.requires.long, proof_long c.requires))
     (c.put_claim.ensures clm1 refl ∙ ap (λ (b : List ℕ). written b c.args.claim.now) (claim_is c.requires _ refl))
     c.put_joined.ensures

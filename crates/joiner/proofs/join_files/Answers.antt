@@ -29,17 +29,17 @@ module _ (e : ℕ) (claim proof other-claim other-proof : List ℕ) (claim-room 
 
 pub join_accepted-requires : goal.join_accepted-requires
 join_accepted-requires c =
-    (sym c.judge_half.ensures ∙ ap shown c.enum_told-1.given.1, sym c.judge_half-in-Accepted.ensures ∙ ap shown c.enum_told-in-Accepted-judge_half-1.given.1)
+    (sym c.in-Accepted.ensures, sym c.in-Accepted-judge_half.ensures)
 
 pub returns-in-Refused : goal.returns-in-Refused
-returns-in-Refused c = wholly_refused (by_first _ _ _ _ _ _ _ (sym c.judge_half.ensures ∙ ap shown c.number-1.given.1)) c.refuse.ensures
+returns-in-Refused c = wholly_refused (by_first _ _ _ _ _ _ _ (sym c.in-Refused.ensures)) c.refuse.ensures
 
 pub returns-in-Refused-judge_half : goal.returns-in-Refused-judge_half
 returns-in-Refused-judge_half c = wholly_refused
-    (by_second _ _ _ _ _ _ _ (sym c.judge_half.ensures ∙ ap shown c.enum_told-1.given.1) (sym c.judge_half-in-Accepted.ensures ∙ ap shown c.number-in-Refused-judge_half-2-1.given.1))
+    (by_second _ _ _ _ _ _ _ (sym c.in-Accepted.ensures) (sym c.in-Refused-judge_half.ensures))
     c.refuse-in-Refused-judge_half.ensures
 
 pub returns-in-Accepted-judge_half : goal.returns-in-Accepted-judge_half
 returns-in-Accepted-judge_half c = wholly_as
-    (by_both _ _ _ _ _ _ _ (sym c.judge_half.ensures ∙ ap shown c.enum_told-1.given.1) (sym c.judge_half-in-Accepted.ensures ∙ ap shown c.enum_told-in-Accepted-judge_half-1.given.1))
+    (by_both _ _ _ _ _ _ _ (sym c.in-Accepted.ensures) (sym c.in-Accepted-judge_half.ensures))
     c.join_accepted.ensures

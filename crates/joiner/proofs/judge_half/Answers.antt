@@ -25,7 +25,7 @@ module _ (claim proof : List ℕ) where
   opened h = rw h refl
 
 pub returns-then-not-opens : goal.returns-then-not-opens
-returns-then-not-opens c = closed _ _ (sym c.opens.ensures ∙ not-true c.opens.result (ap not c.if-not-opens.true))
+returns-then-not-opens c = closed _ _ (sym c.opens.ensures ∙ c.if-not-opens.true)
 
 pub returns : goal.returns
-returns c = c.judge_files.ensures ∙ opened _ _ (sym c.opens.ensures ∙ not-false c.opens.result (ap not c.if-not-opens.false))
+returns c = c.judge_files.ensures ∙ opened _ _ (sym c.opens.ensures ∙ c.if-not-opens.false)

@@ -1,14 +1,13 @@
 -- `read_half` meets its contract: a well-formed claim is read, and never refused.
 use borrow.Author.Rules.{rules}
 use Rattle.encoding.specs.ByteLaws.{lent_bytes}
-use Rattle.claims.specs.ClaimWalk.{claim_as_read, claim_as_refused}
 use Rattle.joiner.specs.Reading.{half_held, half_not_refused}
 use Rattle.joiner.proofs.read_half.Goals as goal
 
 pub returns-in-Read : goal.returns-in-Read
 returns-in-Read c k F one =
-    half_held _ (lent_bytes _ c.shared_slice_known-1.given) F one (claim_as_read _ _ _ _ _ c.read_formed.ensures c.entries-1.given.1)
+    half_held _ (lent_bytes _ c.type_inv.claim) F one c.in-Read.ensures
 
 pub returns-in-Refused : goal.returns-in-Refused
 returns-in-Refused c k F one =
-    absurd (half_not_refused _ (lent_bytes _ c.shared_slice_known-1.given) F one (claim_as_refused _ _ _ _ _ c.read_formed.ensures c.enum_told-1.given.1))
+    absurd (half_not_refused _ (lent_bytes _ c.type_inv.claim) F one c.in-Refused.ensures)
