@@ -1,15 +1,11 @@
 -- `join_accepted` meets its contract: both claims are held, 73 where their tables differ, and else what goals over one table get.
 use mathlib.Core.Path.{sym, ◌∙◌}
-use borrow.Author.Rules.{rules}
-use borrow.Author.Tests.{not-true, not-false}
 use lib.ListN.{length}
 use Rattle.encoding.specs.Encode.{Bytes}
 use Rattle.encoding.specs.ByteLaws.{lent_bytes}
 use Rattle.demands.specs.JoinExact.{CorrectHalf, half_accepts}
 use Rattle.joined_files.specs.Wholly.{wholly_refused, wholly_as}
 use Rattle.joiner.specs.Reading.{both_read, paired, other_entries, one_table, one_fitted}
-use Rattle.std.proofs.Common.{ap}
-use Rattle.std.specs.Prelude.{not}
 use Rattle.joiner.proofs.join_accepted.Goals as goal
 use Rattle.joiner.proofs.join_accepted.Goals.{After-read_half-entries}
 

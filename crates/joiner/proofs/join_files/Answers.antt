@@ -1,11 +1,9 @@
 -- `join_files` meets its contract: the first input's refusal, the second's, and else what two accepted inputs get.
-use mathlib.Core.Path.{◌≡◌, refl, sym, ap, ◌∙◌}
+use mathlib.Core.Path.{◌≡◌, refl, sym}
 use mathlib.Core.List.{List}
 use Prim.Native.Nat.{ℕ}
-use borrow.Author.Rules.{rules}
 use Rattle.verdict.specs.Verdict as verdicts
 use Rattle.verdict.specs.Verdict.{accepted}
-use Rattle.verdict.specs.Shown.{shown}
 use Rattle.encoding.specs.File.{refused}
 use Rattle.demands.specs.Join.{half_verdict, join_files_lem}
 use Rattle.joined_files.specs.Wholly.{wholly_refused, wholly_as}

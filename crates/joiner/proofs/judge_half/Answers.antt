@@ -3,16 +3,12 @@ use mathlib.Core.Path.{◌≡◌, refl, sym, ◌∙◌}
 use mathlib.Core.Bool.{true, false}
 use mathlib.Core.List.{List}
 use Prim.Native.Nat.{ℕ}
-use borrow.Author.Rules.{rules}
-use borrow.Author.Tests.{not-true, not-false}
 use Rattle.encoding.specs.Opening.{opens}
 use Rattle.formula.specs.Claim.{clm1}
 use Rattle.claim_files.specs.ClaimFile.{claim_opening}
 use Rattle.verdict.specs.Verdict.{refused}
 use Rattle.demands.specs.Check.{verdict}
 use Rattle.demands.specs.Join.{half_verdict}
-use Rattle.std.proofs.Common.{ap}
-use Rattle.std.specs.Prelude.{not}
 use Rattle.joiner.proofs.judge_half.Goals as goal
 
 module _ (claim proof : List ℕ) where

@@ -1,5 +1,4 @@
 -- `read_half` meets its contract: a well-formed claim is read, and never refused.
-use borrow.Author.Rules.{rules}
 use Rattle.encoding.specs.ByteLaws.{lent_bytes}
 use Rattle.joiner.specs.Reading.{half_held, half_not_refused}
 use Rattle.joiner.proofs.read_half.Goals as goal
