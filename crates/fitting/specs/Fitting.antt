@@ -1,7 +1,6 @@
 -- two goals over one table: what is asked of them, and what is told of the joined goal
 use Rattle.std.specs.Prelude.{◌≡◌, Bool, true, false, not, ◌&&◌, List, ◌∷◌, ℕ, ◌+◌, ◌<◌, ◌≤◌, length, get_or, take}
 use Rattle.std.proofs.Math.Path.{refl}
-use Rattle.std.proofs.Common.{arith}
 use borrow.Author.Tests.{eq-eqb, ne_eqb, lt-ltb, le-ltb}
 use Rattle.verdict.specs.Lists.{Rising}
 use Rattle.verdict.specs.Tells.{tells_self, eqb_tells, ltb_tells, and_tells}

@@ -1,9 +1,8 @@
-use mathlib.Core.Path.{◌≡◌, refl, ◌∙◌}
-use Prim.Native.Nat.{◌-◌, ◌<◌, ◌≤◌}
+use mathlib.Core.Path.{◌∙◌}
+use Prim.Native.Nat.{◌<◌}
 use native.Mathlib.Omega.{arith}
-use borrow.Author.Rules.{rules}
 use lib.ListN.{length, length-set}
-use Rattle.fitting.specs.Entering.{Passing, entering_begins, passing_swaps, passing_passes, passing_ends}
+use Rattle.fitting.specs.Entering.{entering_begins, passing_swaps, passing_passes, passing_ends}
 use Rattle.fitting.proofs.enter.Goals as goal
 use Rattle.fitting.proofs.enter.Goals.{then-held-next, else-held-next}
 

@@ -1,11 +1,8 @@
 -- `enter` meets its contract. The invariant: up to i the members are in their places, and the number held is still to enter those from i on.
-use mathlib.Core.Path.{◌≡◌, refl, ◌∙◌}
-use mathlib.Core.Logic.{⊎_elim}
-use Prim.Native.Nat.{◌-◌, ◌<◌, ◌≤◌}
-use native.Mathlib.Omega.{arith}
-use borrow.Author.Rules.{rules}
-use lib.ListN.{length, length-set}
-use Rattle.fitting.specs.Entering.{Passing, entering_begins, passing_swaps, passing_passes, passing_ends}
+use mathlib.Core.Path.{◌≡◌}
+use Prim.Native.Nat.{◌-◌, ◌≤◌}
+use lib.ListN.{length}
+use Rattle.fitting.specs.Entering.{Passing}
 use Rattle.fitting.proofs.enter.Given as goal
 
 abbrev pub invariant-loop-i : goal.invariant-loop-i

@@ -1,16 +1,13 @@
 -- `find_rest` meets its contract. The invariant: of the members before i those that pass are stored.
-use mathlib.Core.Path.{◌≡◌, sym, ap, ◌∙◌}
-use mathlib.Core.Logic.{⊎_elim}
-use mathlib.Core.List.{List, ◌∷◌}
+use mathlib.Core.Path.{◌≡◌}
+use mathlib.Core.List.{List}
 use Prim.Native.Nat.{ℕ, ◌+◌, ◌-◌, ◌≤◌}
-use native.Mathlib.Omega.{arith}
-use borrow.Author.Rules.{rules}
-use lib.ListN.{length, length-set, get_or}
+use lib.ListN.{length}
 use Rattle.verdict.specs.Tests.{member}
 use Rattle.sequents.specs.CodeSet.{Holds}
 use Rattle.sequents.specs.Keys.{in_focus}
-use Rattle.sequents.specs.Part.{part, part_none, part-more, part_member}
-use Rattle.fitting.specs.Sifting.{Sifting, sifting_begins, sifting_keeps, sifting_drops, sifting_ends}
+use Rattle.sequents.specs.Part.{part}
+use Rattle.fitting.specs.Sifting.{Sifting}
 use Rattle.fitting.proofs.find_rest.Given as goal
 
 abbrev pub invariant-loop-i : goal.invariant-loop-i

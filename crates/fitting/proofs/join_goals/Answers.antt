@@ -1,10 +1,8 @@
 -- `join_goals` meets its contract, test by test: the entry, its kind, the size of the rest, and that the rest fits.
-use mathlib.Core.Path.{◌≡◌, refl, sym, ap, ◌∙◌}
+use mathlib.Core.Path.{◌≡◌, sym, ap, ◌∙◌}
 use mathlib.Core.List.{List}
 use Prim.Native.Nat.{ℕ, ◌<◌, ◌≤◌}
 use native.Mathlib.Omega.{arith}
-use borrow.Author.Rules.{rules}
-use borrow.Author.Tests.{not-true, not-false}
 use lib.ListN.{get_or}
 use Rattle.verdict.specs.Tests.{each}
 use Rattle.formula.specs.Kind
@@ -18,7 +16,6 @@ use Rattle.sequents.specs.Placed.{Members}
 use Rattle.joining.specs.FitTest.{fits}
 use Rattle.fitting.specs.Fitting.{rest_fits_lem, other_entry, many_left, few_left}
 use Rattle.fitting.specs.GoalsJoined.{goals_held, rest_many, rest_long, rest_stands, rest_inside, rest_rising, goal_joined}
-use Rattle.std.specs.Prelude.{not}
 use Rattle.fitting.proofs.join_goals.Goals as goal
 use Rattle.fitting.proofs.join_goals.Goals.{After-find_rest-found, After-rest_fits, After-wide-2, Start}
 

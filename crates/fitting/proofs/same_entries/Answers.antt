@@ -1,9 +1,7 @@
 use mathlib.Core.Path.{◌≡◌, ap}
-use Prim.Native.Nat.{◌-◌, ◌≤◌}
 use native.Mathlib.Omega.{arith}
-use borrow.Author.Rules.{rules}
 use Rattle.formula.specs.Table.{Entry}
-use Rattle.fitting.specs.SameEntries.{RowsSame, row_same, counts_differ, row_differs, rows_all}
+use Rattle.fitting.specs.SameEntries.{row_same, counts_differ, row_differs, rows_all}
 use Rattle.fitting.proofs.same_entries.Goals as goal
 
 pub returns-then-count-other_count : goal.returns-then-count-other_count

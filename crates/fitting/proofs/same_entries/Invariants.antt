@@ -1,10 +1,6 @@
 -- `same_entries` meets its contract. The invariant: the rows before i are the same.
-use mathlib.Core.Path.{◌≡◌, ap}
 use Prim.Native.Nat.{◌-◌, ◌≤◌}
-use native.Mathlib.Omega.{arith}
-use borrow.Author.Rules.{rules}
-use Rattle.formula.specs.Table.{Entry}
-use Rattle.fitting.specs.SameEntries.{RowsSame, row_same, counts_differ, row_differs, rows_all}
+use Rattle.fitting.specs.SameEntries.{RowsSame}
 use Rattle.fitting.proofs.same_entries.Given as goal
 
 abbrev pub invariant-loop-i : goal.invariant-loop-i

@@ -1,35 +1,14 @@
 -- `write_joined` meets its contract: 74, 70 for either slice, and then both files.
-use mathlib.Core.Path.{◌≡◌, refl, ap, ◌∙◌}
-use mathlib.Core.List.{List}
-use Prim.Native.Nat.{ℕ, ◌+◌, ◌≤◌}
-use native.Mathlib.Omega.{arith}
-use borrow.Author.Rules.{rules}
-use lib.ListN.{length, take}
+use Rattle.std.proofs.Common.{◌≡◌, refl, ap, ◌∙◌, arith, List, ℕ, ◌+◌, ◌≤◌, length, take}
 use Rattle.verdict.specs.Lists.{written}
 use Rattle.formula.specs.Claim.{clm1}
-use Rattle.formula.specs.Nodes.{Proof}
-use Rattle.formula.specs.Table.{Table}
 use Rattle.formula.specs.Plain.{table_of}
 use Rattle.encoding.specs.Places.{word_at}
 use Rattle.nodes.specs.ProofDecode.{proof_in, nodes_at_length}
 use Rattle.joined_files.specs.Wholly.{wholly_refused, wholly_good}
 use Rattle.joined_files.specs.Ready.{HalfProof, too_many, claim_short, proof_short, both_fit, proof_long, claim_is, one_goal_room}
 use Rattle.joined_files.proofs.write_joined.Goals as goal
-use Rattle.joined_files.proofs.write_joined.Goals.{After-node_count-2, Else-node_count-gt1024, Start}
-
--- the table, the joined goal, and the nodes of the two proofs
-module _ (s : Start) where
-  abbrev table : Table
-  table = table_of s.args.kinds.now s.args.a.now s.args.b.now s.args.entries
-
-  abbrev own : List ℕ
-  own = take s.args.members s.args.goal.now
-
-  abbrev first : Proof
-  first = proof_in s.args.first.now 6
-
-  abbrev second : Proof
-  second = proof_in s.args.second.now 6
+use Rattle.joined_files.proofs.write_joined.Goals.{After-node_count-2, Else-node_count-gt1024}
 
 -- how many nodes there are
 counted : (c : After-node_count-2) → (c.node_count.result ≡ length (proof_in c.args.first.now 6)) × (c.node_count-2.result ≡ length (proof_in c.args.second.now 6))
@@ -49,18 +28,18 @@ pub node_count-requires-2 : goal.node_count-requires-2
 node_count-requires-2 c = c.requires.second_proof.tree.decodes.counted
 
 pub overflow_add-node_count : goal.overflow_add-node_count
-overflow_add-node_count c = let p = c.requires in let k = counted (goal.at.overflow_add-node_count c).After-node_count-2 in omega (arith, k.0, k.1, most p.first_proof, most p.second_proof)
+overflow_add-node_count c = let p = c.requires in omega (arith, (counted (goal.at.overflow_add-node_count c).After-node_count-2).0, (counted (goal.at.overflow_add-node_count c).After-node_count-2).1, most p.first_proof, most p.second_proof)
 
 pub overflow_add-node_count-2 : goal.overflow_add-node_count-2
-overflow_add-node_count-2 c = let p = c.requires in let k = counted (goal.at.overflow_add-node_count-2 c).After-node_count-2 in omega (arith, k.0, k.1, most p.first_proof, most p.second_proof)
+overflow_add-node_count-2 c = let p = c.requires in omega (arith, (counted (goal.at.overflow_add-node_count-2 c).After-node_count-2).0, (counted (goal.at.overflow_add-node_count-2 c).After-node_count-2).1, most p.first_proof, most p.second_proof)
 
 pub returns-then-node_count-gt1024 : goal.returns-then-node_count-gt1024
 returns-then-node_count-gt1024 c =
-    wholly_refused (too_many (table (goal.at.returns-then-node_count-gt1024 c).Start) (own (goal.at.returns-then-node_count-gt1024 c).Start) (first (goal.at.returns-then-node_count-gt1024 c).Start) (second (goal.at.returns-then-node_count-gt1024 c).Start) c.args.entry _ _ (omega (arith, c.if-node_count-gt1024.true, (counted (goal.at.returns-then-node_count-gt1024 c).After-node_count-2).0, (counted (goal.at.returns-then-node_count-gt1024 c).After-node_count-2).1))) c.refuse.ensures
+    wholly_refused (too_many (table_of c.args.kinds.now c.args.a.now c.args.b.now c.args.entries) (take c.args.members c.args.goal.now) (proof_in c.args.first.now 6) (proof_in c.args.second.now 6) c.args.entry _ _ (omega (arith, c.if-node_count-gt1024.true, (counted (goal.at.returns-then-node_count-gt1024 c).After-node_count-2).0, (counted (goal.at.returns-then-node_count-gt1024 c).After-node_count-2).1))) c.refuse.ensures
 
 pub returns-then-claim-claim_length : goal.returns-then-claim-claim_length
 returns-then-claim-claim_length c =
-    wholly_refused (claim_short (table (goal.at.returns-then-claim-claim_length c).Start) (own (goal.at.returns-then-claim-claim_length c).Start) (first (goal.at.returns-then-claim-claim_length c).Start) (second (goal.at.returns-then-claim-claim_length c).Start) c.args.entry _ _ (few (goal.at.returns-then-claim-claim_length c).Else-node_count-gt1024) (omega (arith, c.if-claim-claim_length.true, c.requires.long))) c.refuse-then-claim-claim_length.ensures
+    wholly_refused (claim_short (table_of c.args.kinds.now c.args.a.now c.args.b.now c.args.entries) (take c.args.members c.args.goal.now) (proof_in c.args.first.now 6) (proof_in c.args.second.now 6) c.args.entry _ _ (few (goal.at.returns-then-claim-claim_length c).Else-node_count-gt1024) (omega (arith, c.if-claim-claim_length.true, c.requires.long))) c.refuse-then-claim-claim_length.ensures
 
 pub overflow_mul-proof_length : goal.overflow_mul-proof_length
 overflow_mul-proof_length c = omega (arith, c.requires.members.few)
@@ -74,7 +53,7 @@ overflow_add-proof_length-3 c = omega (arith, c.requires.members.few, c.requires
 pub returns-then-proof-proof_length : goal.returns-then-proof-proof_length
 returns-then-proof-proof_length c =
     wholly_refused
-    (proof_short (table (goal.at.returns-then-proof-proof_length c).Start) (own (goal.at.returns-then-proof-proof_length c).Start) (first (goal.at.returns-then-proof-proof_length c).Start) (second (goal.at.returns-then-proof-proof_length c).Start) c.args.entry _ _ (few (goal.at.returns-then-proof-proof_length c).Else-node_count-gt1024) (omega (arith, c.if-claim-claim_length.false, c.requires.long)) (omega (arith, c.if-proof-proof_length.true, proof_long c.requires)))
+    (proof_short (table_of c.args.kinds.now c.args.a.now c.args.b.now c.args.entries) (take c.args.members c.args.goal.now) (proof_in c.args.first.now 6) (proof_in c.args.second.now 6) c.args.entry _ _ (few (goal.at.returns-then-proof-proof_length c).Else-node_count-gt1024) (omega (arith, c.if-claim-claim_length.false, c.requires.long)) (omega (arith, c.if-proof-proof_length.true, proof_long c.requires)))
     c.refuse-then-proof-proof_length.ensures
 
 pub overflow_cast-counts : goal.overflow_cast-counts
@@ -98,7 +77,7 @@ overflow_add-result c = let p = c.requires in omega (arith, p.near, p.members.fe
 
 pub returns : goal.returns
 returns c =
-    let fits = both_fit (table (goal.at.returns c).Start) (own (goal.at.returns c).Start) (first (goal.at.returns c).Start) (second (goal.at.returns c).Start) c.args.entry (length c.args.claim.now) (length c.args.proof.now) (few (goal.at.returns c).Else-node_count-gt1024) (omega (arith, c.requires.long, c.if-claim-claim_length.false)) (omega (arith, proof_long c.requires, c.if-proof-proof_length.false)) in
+    let fits = both_fit (table_of c.args.kinds.now c.args.a.now c.args.b.now c.args.entries) (take c.args.members c.args.goal.now) (proof_in c.args.first.now 6) (proof_in c.args.second.now 6) c.args.entry (length c.args.claim.now) (length c.args.proof.now) (few (goal.at.returns c).Else-node_count-gt1024) (omega (arith, c.requires.long, c.if-claim-claim_length.false)) (omega (arith, proof_long c.requires, c.if-proof-proof_length.false)) in
     wholly_good fits (omega (arith, c.requires.long, proof_long c.requires))
     (c.put_claim.ensures clm1 refl ∙ ap (λ (b : List ℕ). written b c.args.claim.now) (claim_is c.requires _ refl))
     c.put_joined.ensures
