@@ -23,7 +23,7 @@ case "${1:-}" in
         echo "$figures" | grep 'lines in'
         for set in meaning contracts; do
             lines=$(sed -n "s/^$set: \([0-9]*\) lines.*/\1/p" <<<"$figures")
-            for file in docs/ARCHITECTURE.md crates/demands/specs/Demands.antt; do
+            for file in docs/ARCHITECTURE.md crates/demands/proofs/Demands.antt; do
                 grep -q "\b$lines lines" "$file" || { echo "believed: $file does not say $lines lines for $set" >&2; exit 1; }
             done
         done
@@ -32,17 +32,14 @@ case "${1:-}" in
 esac
 roots='crates/demands/specs/Correct.antt:Correct crates/demands/specs/Correct.antt:Irrefutable crates/demands/specs/Earned.antt:Earned'
 
-find crates -path '*/specs/*.antt' -o -path '*/src/*.rt' | sort | xargs awk -f tests/definitions.awk |
+{ find crates -path '*/specs/*.antt' -o -path '*/src/*.rt'; ls crates/*/proofs/*.antt; } | sort | xargs awk -f tests/definitions.awk |
     awk -F '\t' -v list="$list" -v roots="$roots" '
-# Rattle.CRATE.specs.A.B is crates/CRATE/specs/A/B.antt.
-function file_of(path,    crate) {
-    if (path !~ /^Rattle\.[a-z_0-9]+\.specs\./) return ""
+# Rattle.CRATE.specs.A.B is crates/CRATE/specs/A/B.antt, and with proofs in place of specs likewise.
+function file_of(path) {
+    if (path !~ /^Rattle\.[a-z_0-9]+\.(specs|proofs)\./) return ""
     sub(/^Rattle\./, "", path)
-    crate = path
-    sub(/\..*/, "", crate)
-    sub(/^[^.]*\.specs\./, "", path)
     gsub(/\./, "/", path)
-    return "crates/" crate "/specs/" path ".antt"
+    return "crates/" path ".antt"
 }
 
 function imports(file, text,    path, names, n, i, w, from) {

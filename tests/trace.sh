@@ -1,6 +1,6 @@
 #!/usr/bin/env bash
 # Every definition that docs/TRACE.md names is defined in the file that it names; one that the file only imports is not.
-#   crate/File: `name`, `Type.constructor`          of crates/crate/specs/File.antt
+#   crate/File: `name`, `Type.constructor`          of crates/crate/specs/File.antt, or of crates/crate/proofs/File.antt
 #   crates/crate/src/file.rt: `item`, or `item` in crates/crate/src/file.rt
 set -euo pipefail
 export LC_ALL=C
@@ -13,22 +13,23 @@ names='`[^`]+`((, |; |, proved [a-z ]*by )`[^`]+`)*'
 # FILE, a tab and NAME, or FILE alone, for each mention
 mentions() {
     grep -oE "(^|[^A-Za-z/])(${crates%|})(/[A-Z][A-Za-z]*)+(: $names)?" "$trace" |
-        sed -E 's#^[^a-z]*([a-z_]+)/([A-Za-z/]+)#crates/\1/specs/\2.antt#'
+        sed -E 's#^[^a-z]*([a-z_]+)/([A-Za-z/]+)#crates/\1/\2.antt#'
     grep -oE "crates/[a-z_]+/src/[a-z_/]+\.rt(:? $names)?" "$trace"
     grep -oE '`[^`]+` in crates/[a-z_]+/src/[a-z_/]+\.rt' "$trace" | sed -E 's/^(`.*`) in (.*)/\2: \1/'
 }
 
 defined=$(mktemp)
 trap 'rm -f "$defined"' EXIT
-find crates -path '*/specs/*.antt' -o -path '*/src/*.rt' | xargs awk -f tests/definitions.awk |
-    awk -F '\t' '$1 == "name" || $1 == "field" { print $2 "\t" $4 }' >"$defined"
+# the definitions, with the laws beside them, and the theorems that stand in proofs/ (not the answers to what the code asks for)
+{ find crates -path '*/specs/*.antt' -o -path '*/src/*.rt'; ls crates/*/proofs/*.antt; } | xargs awk -f tests/definitions.awk |
+    awk -F '\t' '$1 == "name" || $1 == "field" { split($2, at, "/"); if (at[3] != "src") sub(at[2] "/" at[3], at[2], $2); print $2 "\t" $4 }' >"$defined"
 
 checked=0
 missing=0
 while IFS= read -r mention; do
     file=${mention%%[: ]*}
     checked=$((checked + 1))
-    if [ ! -f "$file" ]; then
+    if ! grep -Fq -- "$file"$'\t' "$defined"; then
         echo "$trace names $file, which is not there"
         missing=$((missing + 1))
         continue

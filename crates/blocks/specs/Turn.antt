@@ -20,7 +20,8 @@ use Rattle.bits.specs.Bits.{bit, no_bit}
 use Rattle.states.specs.Words.{word}
 use Rattle.states.specs.WordLaws.{word_inside, word_past}
 use Rattle.states.specs.BitLaws.{bits_same}
-use Rattle.states.specs.StateWords.{sets_of, by_bits}
+use Rattle.states.specs.StateWords.{sets_of}
+use Rattle.states.proofs.StateWords.{by_bits}
 use Rattle.states.specs.Rows.{row_model}
 use Rattle.forming.specs.Settled.{formed}
 use Rattle.blocks.specs.Iteration.{Block, Moving, Rests, left, left_most, moving_begin, moving_formed, onward, rests_woken, rests_same, moving_end, left_down, left_less}

@@ -9,7 +9,7 @@ use Rattle.formula.specs.Members.{kind_formula}
 use Rattle.conditions.specs.WellFormed.{WellFormed}
 use Rattle.written.specs.Written.{SameFormula}
 use Rattle.written.specs.Canon.{key}
-use Rattle.written.specs.SameKind.{true_like, letter_like, negated_like}
+use Rattle.written.proofs.SameKind.{true_like, letter_like, negated_like}
 use Rattle.calculus.specs.Sequents.{Member, read}
 use Rattle.calculus.specs.Judge.{opposite, clash, truth}
 use Rattle.verdict.specs.Tells.{Tells, tells_as, eqb_tells, and_tells, or_tells}

@@ -23,7 +23,7 @@ pub record Passes (t : Table) (m : Model) (Here Next : Family) : Type 0 where
 abbrev pub OneLess : (ℕ → Family) → ℕ → Family
 OneLess Refuted j e s = (i : ℕ) × (j ≡ suc i) × Refuted i e s
 
--- laws of false-at (an entry by itself is false at a state) and of Refuted (so many modal steps refute it there)
+-- laws of false_at (an entry by itself is false at a state) and of Refuted (so many modal steps refute it there)
 pub record Falsity (t : Table) (m : Model) : Type 1 where
   pub false_at : Family
   pub Refuted : ℕ → Family

@@ -6,12 +6,14 @@ use Rattle.verdict.specs.Sets.{Set, Same, ◌⊆◌, elements, without, image, �
 use Rattle.verdict.specs.Tests.{same, remove, each}
 use Rattle.verdict.specs.Tests as tests
 use Rattle.verdict.specs.Tells.{Tells, tells_as}
-use Rattle.verdict.specs.SetTells.{member_tells, same_tells, lists_self, lists_remove, lists_each}
+use Rattle.verdict.specs.SetTells.{member_tells, lists_self, lists_remove, lists_each}
+use Rattle.verdict.proofs.SetTells.{same_tells}
 use Rattle.formula.specs.Table.{Table}
 use Rattle.formula.specs.Codes.{Formula, code, entry_of_lem, focus_of, code_entry, code_focus}
 use Rattle.written.specs.Written.{written}
 use Rattle.written.specs.Canon.{canon, key}
-use Rattle.written.specs.CanonLaws.{canon_formula, canon_written, canon_holds}
+use Rattle.written.specs.CanonLaws.{canon_holds}
+use Rattle.written.proofs.CanonLaws.{canon_formula, canon_written}
 use Rattle.calculus.specs.Sequents.{Member, read}
 
 module _ (t : Table) where

@@ -4,7 +4,6 @@ use Rattle.std.proofs.Math.Path.{refl}
 use Rattle.std.proofs.Common.{sym, ◌∙◌}
 use Rattle.std.proofs.Math.Bool.{true≢false}
 use borrow.Author.Tests.{not-false}
-use Rattle.formula.specs.Kind
 use Rattle.formula.specs.Table.{Table, entry}
 use Rattle.formula.specs.Shape.{Shape, shape, or, and, diamond, box}
 use Rattle.formula.specs.ShapeLaws.{true_shape, letter_shape, negated_shape, or_shape, and_shape, diamond_shape, box_shape, mu_shape, nu_shape, target_other}
@@ -13,12 +12,13 @@ use Rattle.conditions.specs.WellFormed.{WellFormed}
 use Rattle.meaning.specs.States.{Model, leaf_set}
 use Rattle.rank.specs.FalseSets.{two_false, step_false}
 use Rattle.meaning.specs.Meaning.{own}
-use Rattle.meaning.specs.OwnLaws.{closed, own_law}
+use Rattle.meaning.specs.OwnLaws.{closed}
+use Rattle.meaning.proofs.OwnLaws.{own_law}
 use Rattle.rank.specs.Rank.{Refuted, refuted_as, refuted_more, refuted_false, or_refuted, and_refuted, diamond_refuted, box_refuted, nu_refuted}
 use Rattle.rank.specs.Stages.{rank}
-use Rattle.rank.specs.Complete.{false_refuted}
-use Rattle.written.specs.SameRank.{refuted_like, false_like}
-use Rattle.written.specs.SameKind.{box_like}
+use Rattle.rank.proofs.Complete.{false_refuted}
+use Rattle.written.proofs.SameRank.{refuted_like, false_like}
+use Rattle.written.proofs.SameKind.{box_like}
 use Rattle.calculus.specs.Falsity.{Falsity, Family, Passes, OneLess}
 
 module _ (t : Table) (wf : WellFormed t) (M : Model) where

@@ -23,11 +23,9 @@ pub mod ClimbLaws
 pub mod AxiomLaws
 pub mod PrincipalLaws
 pub mod BoxLaws
-pub mod RuleLaws
 pub mod LoopLaws
 pub mod GoalLaws
 pub mod JudgeExact
-pub mod FaultLaws
 pub mod RuleSamples
 pub mod GoalSamples
 -- soundness
@@ -35,5 +33,4 @@ pub mod Falsity
 pub mod Refutes
 pub mod NodeStep
 pub mod Reached
-pub mod Sound
 pub mod Kripke

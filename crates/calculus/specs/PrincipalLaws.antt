@@ -1,9 +1,8 @@
--- the keys of a node's sequent, of its side and of its principal's targets stand for these; the tests of the principal are exact
+-- the keys of a node's sequent and of its principal's targets stand for these
 use Rattle.std.specs.Prelude.{◌≡◌, List, ◌∷◌, ℕ, ◌<◌, length}
 use Rattle.std.proofs.Common.{ap, ap₂, subst, arith}
-use Rattle.formula.specs.Kind
 use Rattle.verdict.specs.Sets.{Set, ◌plus◌}
-use Rattle.formula.specs.Table.{Table, entry, kind}
+use Rattle.formula.specs.Table.{Table, entry}
 use Rattle.formula.specs.Shape.{Shape, shape, Operand}
 use Rattle.formula.specs.ShapeLaws.{name_shape}
 use Rattle.formula.specs.TableLaws.{target_by}
@@ -15,13 +14,12 @@ use Rattle.conditions.specs.WellFormed.{WellFormed}
 use Rattle.conditions.specs.WellFormedLaws.{operand_below}
 use Rattle.written.specs.Written.{written}
 use Rattle.written.specs.Canon.{key}
-use Rattle.calculus.specs.Sequents.{Member, member, read, sequent, principal, formula, side, Belongs}
-use Rattle.calculus.specs.Rules.{A, B, Principal}
+use Rattle.calculus.specs.Sequents.{Member, member, read, sequent, formula, Belongs}
+use Rattle.calculus.specs.Rules.{A, B}
 use Rattle.calculus.specs.View.{plain}
-use Rattle.calculus.specs.Judge.{codes, keys, sides, belongs, of_kind}
+use Rattle.calculus.specs.Judge.{codes, keys}
 use Rattle.calculus.specs.Given.{Given}
-use Rattle.verdict.specs.Tells.{Tells, tells_as, eqb_tells, ltb_tells, and_tells, not_tells, and_tells_given}
-use Rattle.calculus.specs.KeyLaws.{Good, Keys, member_key, keys_plus, keys_remove, keys_image}
+use Rattle.calculus.specs.KeyLaws.{Good, Keys, keys_plus, keys_image}
 
 module _ (t : Table) where
   pub code_good : (e f : ℕ) → f < 2 → Formula t e → Good t (code e f)
@@ -57,25 +55,6 @@ module _ (c : Claim) (d : Derivation) (G : Given c d) where
   sequent_keys v real = keys_image t (λ x. x) (codes (plain p) v) (λ x n. G.members v x real n)
 
   module _ (v : ℕ) (real : v < length p) where
-    pub belongs_tells : Tells (belongs t (plain p) v) (Belongs t p v)
-    unfolding belongs
-    belongs_tells = tells_as
-        (λ ((l, n), s). record { formula = record { inside = l; no_name = n }; inside = s })
-        (λ z. ((z.formula.inside, z.formula.no_name), z.inside))
-        (and_tells_given (and_tells (ltb_tells (formula p v) (length t)) (not_tells (eqb_tells (kind t (formula p v)) Kind.NAME)))
-        (λ (l, n). member_key t (sequent_keys v real) (principal p v) (record { inside = l; no_name = n })))
-
-    pub principal_tells : (k : ℕ) → Tells (of_kind t (plain p) k v) (Principal c d v k)
-    unfolding of_kind
-    principal_tells k = tells_as
-        (λ (b, e). record { belongs = b; of_kind = e })
-        (λ z. (z.belongs, z.of_kind))
-        (and_tells belongs_tells (eqb_tells (kind t (formula p v)) k))
-
-    pub side_keys : Belongs t p v → Keys t (sides t (plain p) v) (side t p v)
-    unfolding sides
-    side_keys b = keys_remove t (sequent_keys v real) (principal p v) b.formula
-
     -- the principal's targets, by its shape
     pub a_formula : {s : Shape} → Belongs t p v → shape t (formula p v) ≡ s → Operand s (entry t (formula p v)).a → Formula t (A c d v)
     a_formula b q o = operand_formula t G.well (formula p v) (entry t (formula p v)).a b.formula q o

@@ -1,20 +1,20 @@
--- going up: a refuted node reaches a refuted back leaf whose companion lies above the node
-use Rattle.std.specs.Prelude.{◌≡◌, ◌⊎◌, ℕ, zero, suc, ◌+◌, ◌<◌, ◌≤◌, length}
-use Rattle.std.proofs.Common.{ap, subst, sym, ◌∙◌, inl, inr, ⊎_elim, arith}
+-- what going up from a refuted node means: a refuted back leaf below it, and the way to its companion
+use Rattle.std.specs.Prelude.{◌≡◌, ℕ, ◌<◌, ◌≤◌, length}
+use Rattle.std.proofs.Common.{subst}
 use Rattle.formula.specs.Rule
 use Rattle.verdict.specs.Sets.{⊆-trans}
 use Rattle.formula.specs.Table.{Table}
 use Rattle.formula.specs.Nodes.{Proof, node}
 use Rattle.formula.specs.Claim.{Claim, Derivation}
 use Rattle.calculus.specs.Sequents.{rule, sequent}
-use Rattle.calculus.specs.Paths.{Path, stop, down, On, join, on_start, on_middle, on_join, ends, Ancestor}
-use Rattle.calculus.specs.Rules.{BackLeaf, Keeps, back, by_children, by_tree}
-use Rattle.calculus.specs.Loops.{OnLoop, GoodLoop}
+use Rattle.calculus.specs.Paths.{Path, stop, down, On, join, Ancestor}
+use Rattle.calculus.specs.Rules.{BackLeaf}
+use Rattle.calculus.specs.Loops.{GoodLoop}
 use Rattle.calculus.specs.CorrectNodes.{CorrectNodes}
 use Rattle.meaning.specs.States.{Model}
 use Rattle.calculus.specs.Falsity.{Falsity}
 use Rattle.calculus.specs.Refutes.{RefutesWithin}
-use Rattle.calculus.specs.NodeStep.{Stepped, node_step}
+use Rattle.calculus.specs.NodeStep.{Stepped}
 
 -- a back leaf that some state refutes
 pub record RefutedLeaf (c : Claim) {m : Model} (M : Falsity c.entries m) (d : Derivation) : Type 0 where
@@ -51,24 +51,6 @@ module _ (c : Claim) {m : Model} (M : Falsity c.entries m) (d : Derivation) wher
   abbrev p : Proof
   p = d.nodes
 
-  leaf_reached : {v j s : ℕ} → v < length p → rule p v ≡ Rule.BACK → BackLeaf c d v → RefutesWithin M j s (sequent t p v) → Reached c M d v j
-  leaf_reached {v} {j} {s} real e k r = record {
-    to = record { leaf = v; inside = real; is_back = e; keeps = k; state = s; rank = j; refuted = r };
-    above = k.companion;
-    path = stop;
-    bound = omega arith;
-    box_falls = λ x q b. absurd (omega (arith, ap (rule p) q));
-  }
-
-  more : {v i j : ℕ} → i ≤ j → Reached c M d v i → Reached c M d v j
-  more h ρ = record {
-    to = ρ.to;
-    above = ρ.above;
-    path = ρ.path;
-    bound = omega (arith, ρ.bound);
-    box_falls = λ x o b. omega (arith, ρ.box_falls x o b);
-  }
-
   -- with a leaf its companion is refuted
   pub companion_refuted : (l : RefutedLeaf c M d) → RefutesWithin M l.rank l.state (sequent t p (companion l))
   companion_refuted l = record { inside = l.refuted.inside; all = ⊆-trans l.keeps.same.from l.refuted.all }
@@ -78,7 +60,7 @@ module _ (c : Claim) {m : Model} (M : Falsity c.entries m) (d : Derivation) wher
     abbrev l : RefutedLeaf c M d
     l = ρ.to
 
-    up : Path p (companion l) v
+    pub up : Path p (companion l) v
     up = subst (Path p (companion l)) (ok.tree.forest.one_parent ρ.above.edge σ.edge).0 ρ.above.above
 
     abbrev edge : Path p v σ.child
@@ -87,64 +69,10 @@ module _ (c : Claim) {m : Model} (M : Falsity c.entries m) (d : Derivation) wher
     abbrev whole : Path p v l.leaf
     whole = join edge ρ.path
 
-    loop : GoodLoop p (companion l) l.leaf (join up whole)
+    pub loop : GoodLoop p (companion l) l.leaf (join up whole)
     loop = ok.loops l.leaf l.inside l.is_back (join up whole)
-
-    on_loop : OnLoop p v
-    on_loop = loop.each v (on_middle up whole)
-
-    path_falls : (x : ℕ) → On ρ.path x → rule p x ≡ Rule.BOX → l.rank < j
-    path_falls x o b = omega (arith, ρ.box_falls x o b, σ.keeps_rank on_loop)
-
-    edge_falls : (x : ℕ) → On edge x → rule p x ≡ Rule.BOX → l.rank < j
-    edge_falls x (inl q) b = omega (arith, ρ.bound, σ.box_falls on_loop (ap (rule p) (sym q) ∙ b))
-    edge_falls x (inr q) b = path_falls σ.child (on_start ρ.path) (ap (rule p) (sym q) ∙ b)
-
-    whole_falls : (x : ℕ) → On whole x → rule p x ≡ Rule.BOX → l.rank < j
-    whole_falls x o b = ⊎_elim (λ n. edge_falls x n b) (λ n. path_falls x n b) (on_join edge ρ.path x o)
-
-    -- the companion is v itself: the loop path has a box
-    again : ((x : ℕ) → On up x → x ≡ v) → Again M p v j
-    again at_v =
-        let (x, o, b) = loop.some_box in
-        record {
-          state = l.state;
-          rank = l.rank;
-          refuted = subst (λ (c : ℕ). RefutesWithin M l.rank l.state (sequent t p c)) (at_v (companion l) (on_start up)) (companion_refuted l);
-          fewer = ⊎_elim (λ n. whole_falls v (on_start whole) (ap (rule p) (sym (at_v x n)) ∙ b)) (λ n. whole_falls x n b) (on_join up whole x o);
-        }
-
-    reached : Ancestor p (companion l) v → Reached c M d v j
-    reached a = record { to = l; above = a; path = whole; bound = omega (arith, ρ.bound, σ.keeps_rank on_loop); box_falls = whole_falls }
-
-    from_child : Again M p v j ⊎ Reached c M d v j
-    from_child = ⊎_elim (λ n. inl (again n)) (λ a. inr (reached a)) (ends up)
 
   module _ (ok : CorrectNodes c d) where
     -- for every node, from the last one down
     abbrev pub Statement : ℕ → Type 0
     Statement v = (j s : ℕ) → RefutesWithin M j s (sequent t p v) → Reached c M d v j
-
-    child_leaf : {v j : ℕ} → ((w : ℕ) → v < w → w < length p → Statement w) → Stepped M p v j → Again M p v j ⊎ Reached c M d v j
-    child_leaf below σ =
-        from_child ok σ (below σ.child (ok.tree.forest.above σ.edge) (ok.tree.forest.inside σ.edge) σ.rank σ.state σ.refuted)
-
-    module _ (v : ℕ) (real : v < length p) (below : (w : ℕ) → v < w → w < length p → Statement w) where
-      -- induction on the rank at one node
-      at_node : (b j s : ℕ) → j < b → RefutesWithin M j s (sequent t p v) → Reached c M d v j
-      at_node zero j s h r = absurd (omega arith)
-      at_node (suc b) j s h r =
-          let lower : Again M p v j → Reached c M d v j = λ a. more (omega (arith, a.fewer)) (at_node b a.rank a.state (omega (arith, a.fewer)) a.refuted) in
-          let by_rule : Keeps c d v → Reached c M d v j = elim [
-            | by_children k ↦ ⊎_elim lower (λ ρ. ρ) (child_leaf below (node_step c M d v real (λ x n. ok.members v x real n) r k))
-            | by_tree (back e k) ↦ leaf_reached real e k r
-          ] in
-          by_rule (ok.keeps v real)
-
-    -- induction on the node number, from the last node down
-    from_last : (n v : ℕ) → length p ≤ v + n → v < length p → Statement v
-    from_last zero v h real j s r = absurd (omega arith)
-    from_last (suc n) v h real j s r = at_node v real (λ w up real'. from_last n w (omega arith) real') (suc j) j s (omega arith) r
-
-    pub every_node : (v : ℕ) → v < length p → Statement v
-    every_node v real = from_last (length p) v (omega arith) real

@@ -1,5 +1,5 @@
--- what is read as a claim is a claim file of what was decoded, and a claim file is read so
-use Rattle.std.specs.Prelude.{◌≡◌, ◌↔◌, List, ◌++◌, ℕ, ◌<◌, ◌≤◌, get_or}
+-- the parts of a claim file up to its goals: each is read as it was encoded, and encoded as it was read
+use Rattle.std.specs.Prelude.{◌≡◌, List, ◌++◌, ℕ, ◌<◌, ◌≤◌, get_or}
 use Rattle.std.proofs.Math.Path.{refl}
 use Rattle.std.proofs.Common.{sym, ap, ◌∙◌, inl, inr, arith}
 use Rattle.verdict.specs.Tells.{Tells, tells_as, and_tells, or_tells, leb_tells, eqb_tells, fails_holds}
@@ -9,20 +9,19 @@ use Rattle.formula.specs.Claim.{Form, clm1, clm2, fewest, SpelledClaim}
 use Rattle.formula.specs.NamedForm.{form_by}
 use Rattle.bits.specs.IfSet.{if_set_le}
 use Rattle.formula.specs.Fields.{has_a_lem, has_b, is_modal_lem, map_of}
-use Rattle.encoding.specs.Encode.{FitField, Bytes, PairOfBytes, encode_pair}
-use Rattle.encoding.specs.File.{good}
+use Rattle.encoding.specs.Encode.{FitField, PairOfBytes, encode_pair}
 use Rattle.encoding.specs.ParseLaws.{Exact, exact_as, seq_exact, via_exact, guard_exact, bytes_exact, two_exact}
 use Rattle.encoding.specs.ChainLaws.{each_as}
-use Rattle.encoding.specs.ListLaws.{count_exact, listed_exact, rising_exact}
-use Rattle.encoding.specs.FileLaws as File
+use Rattle.encoding.specs.ListLaws.{count_exact, listed_exact}
+use Rattle.encoding.proofs.ListLaws.{rising_exact}
 use Rattle.encoding.specs.FileLaws.{Opens}
 use Rattle.encoding.specs.Opening.{opens_tells}
 use Rattle.encoding.specs.Known.{known_exact}
 use Rattle.formula.specs.Members.{formula_tells}
-use Rattle.encoding.specs.FieldLaws.{field_exact}
-use Rattle.claim_files.specs.ClaimFile.{claim_opening, encode_fields, encode_entry, encode_entries, encode_members, encode_goal_count, encode_goals, encode_body, encode_claim}
-use Rattle.claim_files.specs.ClaimFile.{FitMap, FitKind, FitEntry, FitEntries, FitMembers, GoalCount, FitGoals, FitClaim, FitIn, FormFile, ClaimFile}
-use Rattle.claim_files.specs.ReadClaim.{early, kind_fits, map_and_kind, fields, made, entry, entries, members, goal_count, goals, claim_of, body, read_form, form_of, read_claim_lem}
+use Rattle.encoding.proofs.FieldLaws.{field_exact}
+use Rattle.claim_files.specs.ClaimFile.{claim_opening, encode_fields, encode_entry, encode_entries, encode_members, encode_goal_count, encode_body}
+use Rattle.claim_files.specs.ClaimFile.{FitMap, FitKind, FitEntry, FitEntries, FitMembers, GoalCount, FormFile, ClaimFile}
+use Rattle.claim_files.specs.ReadClaim.{early, kind_fits, map_and_kind, fields, made, entry, entries, members, goal_count, read_form, form_of, read_claim_lem}
 
 pub map_byte : (k : ℕ) → map_of k < 256
 map_byte k = omega (arith, if_set_le (has_a_lem k) 1, if_set_le (has_b k) 2)
@@ -71,28 +70,6 @@ pub goal_count_exact : (f : Form) → Exact (goal_count f) (encode_goal_count f)
 goal_count_exact clm1 = known_exact 1
 goal_count_exact clm2 = exact_as (λ n h. h.1) (λ n h. (omega arith, h)) (count_exact 0 16 72 (two_exact early))
 
-pub goals_exact : (f : Form) (es : List Spelled) → FitEntries f es → Exact (goals f es) (encode_goals f) (FitGoals f es)
-unfolding goals
-goals_exact f es h =
-    exact_as (λ gs k. record { count = k.0; each = k.1 }) (λ gs k. (k.count, k.each)) (listed_exact (goal_count_exact f) (members_exact f es h))
-
-module _ (f : Form) where
-  pub body_exact : Exact (body f) encode_body (FitIn f)
-  unfolding body
-  body_exact =
-      via_exact (seq_exact (entries_exact f) (goals_exact f)) (claim_of f) (λ c. (c.spelling, c.goals))
-      (λ c (e, k). ((rw (← e) k.entries, rw (← e) k.goals), rw (← e) refl, rw (← e) refl))
-      (λ p h. ((refl, record { entries = h.0; goals = h.1 }), refl))
-
-  -- a file of one form
-  pub form_good : {bytes : List ℕ} {c : SpelledClaim} → FormFile f bytes c → read_form f bytes ≡ good c
-  unfolding read_form
-  form_good k = File.file_good (claim_opening f) 10 early (body f) body_exact k
-
-  pub good_form : {bytes : List ℕ} {c : SpelledClaim} → Bytes bytes → read_form f bytes ≡ good c → FormFile f bytes c
-  unfolding read_form
-  good_form b h = File.good_file (claim_opening f) 10 early (body f) body_exact b h
-
 -- the two openings differ in their last letter
 one_opening : {bytes : List ℕ} → Opens (claim_opening clm1) bytes → Opens (claim_opening clm2) bytes → ⊥
 one_opening (r, e) (t, i) =
@@ -113,27 +90,3 @@ claim_form {f} {bytes} {c} k = record { encoded = k.encoded ∙ ap (λ (g : Form
 
 pub form_claim : {bytes : List ℕ} {c : SpelledClaim} → ClaimFile bytes c → FormFile c.form bytes c
 form_claim k = record { encoded = k.encoded; fits = (refl, k.fits) }
-
--- a claim file is read, and decoded
-pub claim_good : {bytes : List ℕ} {c : SpelledClaim} → ClaimFile bytes c → read_claim_lem bytes ≡ good c
-claim_good {bytes} {c} k = read_in c.form bytes (form_opens c.form bytes (_, k.encoded)) ∙ form_good c.form (form_claim k)
-
--- what is read is a claim file, of what was decoded
-pub good_claim : {bytes : List ℕ} {c : SpelledClaim} → Bytes bytes → read_claim_lem bytes ≡ good c → ClaimFile bytes c
-unfolding read_claim_lem
-good_claim {bytes} b h = claim_form (good_form (form_of bytes) b h)
-
-pub claim_exact : {bytes : List ℕ} {c : SpelledClaim} → Bytes bytes → ClaimFile bytes c ↔ (read_claim_lem bytes ≡ good c)
-claim_exact b = (claim_good, good_claim b)
-
--- one file, one decoding
-pub one_claim : {bytes : List ℕ} {c d : SpelledClaim} → ClaimFile bytes c → ClaimFile bytes d → c ≡ d
-one_claim f g = File.good_same (sym (claim_good f) ∙ claim_good g)
-
--- decoding what was encoded gives the records back
-pub claim_decodes : (c : SpelledClaim) → FitClaim c → read_claim_lem (encode_claim c) ≡ good c
-claim_decodes c f = claim_good (record { encoded = refl; fits = f })
-
--- encoding what was decoded gives the bytes back
-pub claim_encodes : {bytes : List ℕ} {c : SpelledClaim} → Bytes bytes → read_claim_lem bytes ≡ good c → encode_claim c ≡ bytes
-claim_encodes b h = sym (good_claim b h).encoded

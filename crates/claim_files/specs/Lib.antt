@@ -2,6 +2,5 @@ pub mod ClaimFile
 pub mod ReadClaim
 pub mod ClaimExact
 pub mod ClaimDocument
-pub mod ClaimParts
 pub mod ClaimFaults
 pub mod ClaimRecords

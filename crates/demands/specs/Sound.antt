@@ -10,13 +10,13 @@ use Rattle.formula.specs.Nodes.{node}
 use Rattle.meaning.specs.States.{Model}
 use Rattle.meaning.specs.Meaning.{own}
 use Rattle.claim_files.specs.ClaimFile.{ClaimFile}
-use Rattle.claim_files.specs.ClaimExact.{one_claim}
+use Rattle.claim_files.proofs.ClaimExact.{one_claim}
 use Rattle.calculus.specs.Sequents.{listed}
 use Rattle.calculus.specs.Goals.{goal}
 use Rattle.calculus.specs.CorrectNodes.{CorrectNodes}
 use Rattle.calculus.specs.Falsity.{Falsity}
 use Rattle.calculus.specs.Kripke.{kripke}
-use Rattle.calculus.specs.Sound.{goal_not_refuted, no_node_refuted}
+use Rattle.calculus.proofs.Sound.{goal_not_refuted, no_node_refuted}
 use Rattle.demands.specs.Correct.{Correct, Refutes, Irrefutable}
 use Rattle.demands.specs.CheckExact.{given}
 

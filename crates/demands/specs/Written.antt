@@ -14,7 +14,8 @@ use Rattle.formula.specs.Claim.{Form, clm1, clm2, form_number, Claim, SpelledCla
 use Rattle.claim_files.specs.ReadClaim.{read_claim_lem}
 use Rattle.proof_files.specs.ReadProof.{read_proof}
 use Rattle.reader.specs.Files.{Files, firstly, and_then, files, read_formed_lem}
-use Rattle.reader.specs.FilesExact.{files_exactly, formed_exactly}
+use Rattle.reader.specs.FilesExact.{formed_exactly}
+use Rattle.reader.proofs.FilesExact.{files_exactly}
 use Rattle.calculus.specs.Tree.{Trees}
 use Rattle.calculus.specs.View.{plain}
 use Rattle.calculus.specs.Judge.{children_fit, adopted}
@@ -26,8 +27,10 @@ use Rattle.writing.specs.Writing.{ClaimRecords, ProofRecords, claim_file, proof_
 use Rattle.writing.specs.Writing.{claim_reading, proof_reading, both_reading, writing_claim, writing_proof, laid_into}
 use Rattle.writing.specs.ClaimEnds.{longest_claim}
 use Rattle.writing.specs.ProofEnds.{longest_proof}
-use Rattle.writing.specs.ClaimTrips.{claim_of, form_named, claim_laid, ClaimGiven, claim_writes_again}
-use Rattle.writing.specs.ProofTrips.{derivation_of, ProofGiven, LongProof, both_read, proof_laid, proof_writes_again}
+use Rattle.writing.specs.ClaimTrips.{claim_of, form_named, ClaimGiven}
+use Rattle.writing.proofs.ClaimTrips.{claim_laid, claim_writes_again}
+use Rattle.writing.specs.ProofTrips.{derivation_of, ProofGiven, LongProof, both_read}
+use Rattle.writing.proofs.ProofTrips.{proof_laid, proof_writes_again}
 use Rattle.demands.specs.Correct.{Correct}
 
 -- what the output slice holds

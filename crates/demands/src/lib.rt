@@ -1,2 +1,3 @@
-// What is asked of the gate: the verdict on two files, what presenting and evaluating leave, and the demands over them, in specs/. No code.
+// What is asked of the gate: the verdict on two files, what presenting and evaluating leave, in specs/, and the demands over
+// them, in proofs/Demands.antt. No code.
 #![tactic(auto)]

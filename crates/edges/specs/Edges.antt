@@ -13,7 +13,7 @@ use Rattle.bits.specs.LowestBit.{LowestBit}
 use Rattle.model_files.specs.DescribedLaws.{cell}
 use Rattle.bits.specs.WordSet.{zeros_at}
 use Rattle.states.specs.BitLaws.{bits_same}
-use Rattle.states.specs.StateWords.{by_bits}
+use Rattle.states.proofs.StateWords.{by_bits}
 use Rattle.states.specs.Rows.{row_word_lem, RowWords}
 use Rattle.marks.specs.Lanes.{FourMarks, four_bit, lanes_bit}
 use Rattle.entry_sets.specs.Counting.{count, count_less}

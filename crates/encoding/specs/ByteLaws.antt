@@ -1,5 +1,5 @@
 -- encodings are of bytes
-use Rattle.std.specs.Prelude.{refl, List, [], ◌∷◌, ◌++◌, ℕ, suc, ◌/◌, ◌%◌, ◌<◌, length, get_or}
+use Rattle.std.specs.Prelude.{List, [], ◌∷◌, ◌++◌, ℕ, suc, ◌/◌, ◌%◌, ◌<◌, length, get_or}
 use Rattle.std.proofs.Common.{arith, Fits}
 use Rattle.std.specs.Int.{w8}
 use Rattle.verdict.specs.Lists.{Each, none, more}

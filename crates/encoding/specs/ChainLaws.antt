@@ -42,15 +42,6 @@ module _ {P Q : ℕ → Type 0} where
   chain_members ends = none
   chain_members (goes h k) = more (h.0, h.1.1) (chain_members k)
 
-  from_above : (c : ℕ) (l : List ℕ) → Above c l → Rising l → Each (λ x. P x × Q x) l → Numbers P Q c l
-  from_above c [] a r none = ends
-  from_above c (x ∷ l) a r (more f k) =
-      let i : c ≤ x = a (omega arith) in
-      goes {x = x} (f.0, (i, f.1)) (from_above (suc x) l (λ i. r 0 (omega arith)) (λ j i. r (suc j) (omega arith)) k)
-
-  pub rising_chain : {l : List ℕ} → Rising l → Each (λ x. P x × Q x) l → Numbers P Q 0 l
-  rising_chain {l} r k = from_above 0 l (λ i. omega arith) r k
-
 -- a number that rises above those before it
 rises_from : (c : ℕ) (l : List ℕ) (x : ℕ) → (length l ≡ 0 → c ≤ x) → Rising (l ++ (x ∷ [])) → last (λ _ x. suc x) c l ≤ x
 unfolding last

@@ -1,20 +1,18 @@
--- a file is decoded just when it is an encoding, and refused with a number at a place just when it earns that
-use Rattle.std.specs.Prelude.{◌≡◌, ◌↔◌, ◌⊎◌, Bool, eqb, get_or, drop}
+-- a file by its opening and its body: what is read, and which refusal is earned
+use Rattle.std.specs.Prelude.{◌≡◌, Bool, eqb}
 use Rattle.std.proofs.Math.Path.{refl, ap}
-use Rattle.std.proofs.Common.{sym, subst, ◌∙◌, inl, inr, length-append}
+use Rattle.std.proofs.Common.{sym, ◌∙◌, length-append}
 use mathlib.Core.List.{List, [], ◌∷◌, ◌++◌, append-nil}
 use Rattle.std.proofs.Math.Bool.{true, false}
 use Prim.Native.Nat.{ℕ, suc, ◌+◌}
 use native.Mathlib.Omega.{arith}
 use Rattle.std.proofs.Math.ListN.{length}
-use Rattle.verdict.specs.Lists.{more}
-use Rattle.verdict.specs.Tells.{Tells, fails, eqb_tells}
-use Rattle.encoding.specs.Encode.{Bytes}
+use Rattle.verdict.specs.Tells.{Tells, eqb_tells}
 use Rattle.encoding.specs.Parse.{Got, fault, got, Parser, pick, bind, letters}
 use Rattle.encoding.specs.Stages as Stages
-use Rattle.encoding.specs.Stages.{Stages, Stopped}
+use Rattle.encoding.specs.Stages.{Stages}
 use Rattle.encoding.specs.File.{Reading, refused, good, ending, read_file, Encodes, Earned, no_opening, ends_early, wrong, bytes_follow}
-use Rattle.encoding.specs.ParseLaws.{Exact, left_off}
+use Rattle.encoding.specs.ParseLaws.{Exact}
 use Rattle.encoding.specs.FaultLaws.{Refuses}
 
 value_of : {A : Type 0} → A → Reading A → A
@@ -67,45 +65,19 @@ module _ (n from : ℕ) where
       go true t ih = ih (λ (r, e). f (r, rw (t.says refl, e) refl))
       go false t ih = refl
 
--- the letters stand in front or not
-opens_or_not : (l s : List ℕ) → Opens l s ⊎ (Opens l s → ⊥)
-opens_or_not [] s = inl (s, refl)
-opens_or_not (c ∷ l) [] = inr (λ (r, e). let z : ◌≡◌ {A = ℕ} 0 (suc (length (l ++ r))) = ap length e in omega arith)
-opens_or_not (c ∷ l) (x ∷ s) = go (eqb x c) (eqb_tells x c) (opens_or_not l s)
-  where
-    go : (b : Bool) → Tells b (x ≡ c) → Opens l s ⊎ (Opens l s → ⊥) → Opens (c ∷ l) (x ∷ s) ⊎ (Opens (c ∷ l) (x ∷ s) → ⊥)
-    go false t o = inr (λ (r, e). fails t refl (ap (λ (u : List ℕ). get_or u 0 0) e))
-    go true t (inl (r, e)) = inl (r, rw (t.says refl, e) refl)
-    go true t (inr f) = inr (λ (r, e). f (r, ap (λ (u : List ℕ). drop 1 u) e))
-
-bytes_after : (l : List ℕ) {r : List ℕ} → Bytes (l ++ r) → Bytes r
-bytes_after [] b = b
-bytes_after (x ∷ l) (more h b) = bytes_after l b
-
 module _ {A : Type 0} (opening : List ℕ) (number early : ℕ) (body : Parser A) where
   abbrev read : List ℕ → Reading A
   read bytes = read_file opening number early body bytes
 
-  opened : (r : List ℕ) → read (opening ++ r) ≡ ending early (body r (length opening))
+  pub opened : (r : List ℕ) → read (opening ++ r) ≡ ending early (body r (length opening))
   unfolding read_file letters
   opened r =
       let i : 0 + length opening ≡ length opening = omega arith in
       ap (λ (g : Got Unit). ending early (bind g (λ _ r o. body r o))) (letters_read number 0 opening r 0) ∙ ap (λ (o : ℕ). ending early (body r o)) i
 
-  closed : (s : List ℕ) → (Opens opening s → ⊥) → read s ≡ refused number 0
+  pub closed : (s : List ℕ) → (Opens opening s → ⊥) → read s ≡ refused number 0
   unfolding read_file letters
   closed s f = rw (letters_fault number 0 opening s 0 f) refl
-
-  ending_good : (g : Got A) {x : A} → ending early g ≡ good x → (o : ℕ) × (g ≡ got x [] o)
-  ending_good (fault n q) h = absurd (refused_not_good h)
-  ending_good (got y [] o) h = (o, rw (good_same h) refl)
-  ending_good (got y (z ∷ r) o) h = absurd (refused_not_good h)
-
-  ending_refused : (g : Got A) {n q : ℕ} → ending early g ≡ refused n q
-      → (g ≡ fault n q) ⊎ ((x : A) × (y : ℕ) × (r : List ℕ) × (g ≡ got x (y ∷ r) q) × (early ≡ n))
-  ending_refused (fault m r) h = let (i, j) = refused_same h in inl (rw (i, j) refl)
-  ending_refused (got x [] o) h = absurd (refused_not_good (sym h))
-  ending_refused (got x (y ∷ r) o) h = let (i, j) = refused_same h in inr (x, y, r, rw j refl, i)
 
   module _ {enc : A → List ℕ} {Ok : A → Type 0} (E : Exact body enc Ok) where
     -- an encoding is decoded
@@ -115,20 +87,6 @@ module _ {A : Type 0} (opening : List ℕ) (number early : ℕ) (body : Parser A
         let v : body (enc x) (length opening) ≡ got x [] o = ap (λ (t : List ℕ). body t (length opening)) (sym (append-nil (enc x))) ∙ E.reads x f.fits [] (length opening) in
         ap read f.encoded ∙ opened (enc x) ∙ ap (ending early) v
 
-    -- what is decoded is an encoding, of what was decoded
-    pub good_file : {bytes : List ℕ} {x : A} → Bytes bytes → read bytes ≡ good x → Encodes opening enc Ok bytes x
-    good_file {bytes} {x} b h = go (opens_or_not opening bytes)
-      where
-        go : Opens opening bytes ⊎ (Opens opening bytes → ⊥) → Encodes opening enc Ok bytes x
-        go (inr f) = absurd (refused_not_good (sym (closed bytes f) ∙ h))
-        go (inl (r, e)) =
-            let (o, g) = ending_good (body r (length opening)) (sym (opened r) ∙ ap read (sym e) ∙ h) in
-            let W = E.wrote r (length opening) x [] o (bytes_after opening (subst Bytes e b)) g in
-            record { encoded = e ∙ ap (λ (t : List ℕ). opening ++ t) (W.split ∙ append-nil (enc x)); fits = W.fits }
-
-    pub file_exact : {bytes : List ℕ} {x : A} → Bytes bytes → Encodes opening enc Ok bytes x ↔ (read bytes ≡ good x)
-    file_exact b = (file_good, good_file b)
-
     -- one file, one decoding
     pub one_decoding : {bytes : List ℕ} {x y : A} → Encodes opening enc Ok bytes x → Encodes opening enc Ok bytes y → x ≡ y
     one_decoding f g = good_same (sym (file_good f) ∙ file_good g)
@@ -136,31 +94,6 @@ module _ {A : Type 0} (opening : List ℕ) (number early : ℕ) (body : Parser A
     module _ {X : Stages} (R : Refuses early body X) where
       abbrev Fault : List ℕ → ℕ → ℕ → Type 0
       Fault bytes n q = Earned opening number early enc Ok X bytes n q
-
-      -- no number lies
-      pub refused_earned : {bytes : List ℕ} {n q : ℕ} → Bytes bytes → read bytes ≡ refused n q → Fault bytes n q
-      refused_earned {bytes} {n} {q} b h = go (opens_or_not opening bytes)
-        where
-          move : {m o k r : ℕ} → m ≡ k → o ≡ r → Fault bytes m o → Fault bytes k r
-          move {o = o} {k = k} i j f = subst (λ r. Fault bytes k r) j (subst (λ m. Fault bytes m o) i f)
-
-          place : (r : List ℕ) → bytes ≡ opening ++ r → length bytes ≡ length opening + length r
-          place r e = ap length e ∙ length-append opening r
-
-          stopped : (r : List ℕ) → bytes ≡ opening ++ r → {n q : ℕ} → Stopped early X r (length opening) n q → Fault bytes n q
-          stopped r e (Stages.ends_early σ t u i l) = move refl (place r e) (ends_early σ t u (e ∙ ap (λ (t : List ℕ). opening ++ t) i) l)
-          stopped r e (Stages.wrong σ w t u i k) = wrong σ w t u (e ∙ ap (λ (t : List ℕ). opening ++ t) i) k
-
-          inside : (r : List ℕ) → bytes ≡ opening ++ r → (body r (length opening) ≡ fault n q) ⊎ ((x : A) × (y : ℕ) × (t : List ℕ) × (body r (length opening) ≡ got x (y ∷ t) q) × (early ≡ n)) → Fault bytes n q
-          inside r e (inl f) = stopped r e (R.says r (length opening) n q (bytes_after opening (subst Bytes e b)) f)
-          inside r e (inr (x, y, t, g, i)) =
-              let c = bytes_after opening (subst Bytes e b) in
-              let W = E.wrote r (length opening) x (y ∷ t) q c g in
-              move i (sym (left_off E r (length opening) x (y ∷ t) q c g)) (bytes_follow x y t W.fits (e ∙ ap (λ (t : List ℕ). opening ++ t) W.split))
-
-          go : Opens opening bytes ⊎ (Opens opening bytes → ⊥) → Fault bytes n q
-          go (inr f) = let (i, j) = refused_same (sym (closed bytes f) ∙ h) in move i j (no_opening (λ r e. f (r, e)))
-          go (inl (r, e)) = inside r e (ending_refused (body r (length opening)) (sym (opened r) ∙ ap read (sym e) ∙ h))
 
       -- and each is given where it is earned
       pub earned_refused : {bytes : List ℕ} {n q : ℕ} → Fault bytes n q → read bytes ≡ refused n q
@@ -174,20 +107,3 @@ module _ {A : Type 0} (opening : List ℕ) (number early : ℕ) (body : Parser A
           ap read e ∙ opened _ ∙ ap (ending early) (R.holds (X.done σ ++ (w ++ t)) (length opening) _ _ (Stages.wrong σ w t u refl k))
       earned_refused {bytes} (bytes_follow x y r k e) =
           ap read e ∙ opened (enc x ++ (y ∷ r)) ∙ ap (ending early) (E.reads x k (y ∷ r) (length opening))
-
-      pub refusal_exact : {bytes : List ℕ} {n q : ℕ} → Bytes bytes → (read bytes ≡ refused n q) ↔ Fault bytes n q
-      refusal_exact b = (refused_earned b, earned_refused)
-
-      pub one_refusal : {bytes : List ℕ} {n q m r : ℕ} → Fault bytes n q → Fault bytes m r → (n ≡ m) × (q ≡ r)
-      one_refusal f g = refused_same {A = A} (sym (earned_refused f) ∙ earned_refused g)
-
-      pub not_both : {bytes : List ℕ} {x : A} {n q : ℕ} → Encodes opening enc Ok bytes x → Fault bytes n q → ⊥
-      not_both f g = refused_not_good (sym (earned_refused g) ∙ file_good f)
-
-      -- a file is an encoding or earns a refusal
-      pub outcome : (bytes : List ℕ) → Bytes bytes → ((x : A) × Encodes opening enc Ok bytes x) ⊎ ((n : ℕ) × (q : ℕ) × Fault bytes n q)
-      outcome bytes b = go (read bytes) refl
-        where
-          go : (z : Reading A) → read bytes ≡ z → ((x : A) × Encodes opening enc Ok bytes x) ⊎ ((n : ℕ) × (q : ℕ) × Fault bytes n q)
-          go (good x) h = inl (x, good_file b h)
-          go (refused n q) h = inr (n, q, refused_earned b h)

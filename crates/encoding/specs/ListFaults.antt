@@ -1,21 +1,20 @@
 -- which faults the parsers of lists report
 use Rattle.std.proofs.Math.Path.{◌≡◌, sym}
-use Rattle.std.specs.Prelude.{refl, Bool, length}
+use Rattle.std.specs.Prelude.{refl, length}
 use Rattle.std.proofs.Common.{ap}
 use Rattle.std.proofs.Math.Logic.{inl, inr}
 use mathlib.Core.List.{List, [], ◌∷◌, ◌++◌, append_assoc}
-use Prim.Native.Nat.{ℕ, zero, suc, ◌<◌, ◌≤◌}
+use Prim.Native.Nat.{ℕ, zero, suc, ◌<◌}
 use native.Mathlib.Omega.{arith}
-use Rattle.verdict.specs.Lists.{Each, Rising}
-use Rattle.verdict.specs.Tells.{Tells}
+use Rattle.verdict.specs.Lists.{Each}
 use Rattle.encoding.specs.Encode.{encode_all, Counts}
-use Rattle.encoding.specs.Parse.{Got, fault, got, Parser, via, times, counted, listed, rising, count}
+use Rattle.encoding.specs.Parse.{Got, fault, got, Parser, via, times, counted, listed, count}
 use Rattle.encoding.specs.Chain.{Chain, ends, goes, last}
-use Rattle.encoding.specs.ChainLaws.{From, chain_each, each_chain, chain_rising, chain_members, rising_chain, rises, rises_back}
-use Rattle.encoding.specs.Stages.{Stages, Stopped, ends_early, wrong, Unfit, unfit, tested, after, followed, items, listing, climbing}
+use Rattle.encoding.specs.ChainLaws.{chain_each, each_chain}
+use Rattle.encoding.specs.Stages.{Stages, Stopped, ends_early, wrong, tested, after, followed, items, listing}
 use Rattle.encoding.specs.GotLaws.{fault_not_got}
-use Rattle.encoding.specs.ParseLaws.{Exact, guard_exact}
-use Rattle.encoding.specs.ListLaws.{range_tells, from_tells}
+use Rattle.encoding.specs.ParseLaws.{Exact}
+use Rattle.encoding.specs.ListLaws.{range_tells}
 use Rattle.encoding.specs.Widths.{Takes}
 use Rattle.encoding.specs.FaultLaws.{Refuses, Stands, Renames, renames_each, refuses_as, via_refuses, then_refuses, tested_refuses}
 
@@ -79,7 +78,7 @@ abbrev Counted : {A : Type 0} → (ℕ → List ℕ) → (ℕ → Type 0) → St
 Counted ec C K e P X = followed ec C K (λ m. after (encode_all e) (P m) X)
 
 -- the same stages, with the values before the next in other words
-counted_as : {A : Type 0} (ec : ℕ → List ℕ) (C : ℕ → Type 0) (K : Stages) (e : A → List ℕ) (P Q : ℕ → List A → Type 0) (X Y : List A → Stages)
+pub counted_as : {A : Type 0} (ec : ℕ → List ℕ) (C : ℕ → Type 0) (K : Stages) (e : A → List ℕ) (P Q : ℕ → List A → Type 0) (X Y : List A → Stages)
     → ((m : ℕ) (l : List A) → P m l → Q m l × Stands (X l) (Y l)) → Renames (Counted ec C K e P X) (Counted ec C K e Q Y)
 counted_as {A} ec C K e P Q X Y f = renames_each go
   where
@@ -99,13 +98,6 @@ counted_as {A} ec C K e P Q X Y f = renames_each go
 same_stages : {X : Stages} → Stands X X
 same_stages σ r = record { stage = σ; reached = r; same = refl; wide = refl; wrongs = λ w n u. u }
 
--- what fails a test fails a stronger one
-stronger : (w : ℕ) {e : ℕ → List ℕ} {P Q S : ℕ → Type 0} (k : ℕ) → ((x : ℕ) → S x → Q x) → Stands (tested w e P Q k) (tested w e P S k)
-stronger w {e} {P} {Q} {S} k f σ r = record { stage = tt; reached = tt; same = refl; wide = refl; wrongs = weaken }
-  where
-    weaken : (v : List ℕ) (n : ℕ) → Unfit e P Q k v n → Unfit e P S k v n
-    weaken v n (unfit x h u) = unfit x h (λ z. u (f x z))
-
 module _ {early : ℕ} {number : Parser ℕ} {ec : ℕ → List ℕ} {C : ℕ → Type 0} {K : Stages} (E : Exact number ec C) (R : Refuses early number K) where
   pub listed_refuses : {A : Type 0} {p : Parser A} {e : A → List ℕ} {P : A → Type 0} {X : Stages} → Exact p e P → Refuses early p X
       → Refuses early (listed number p) (listing ec C K e P X)
@@ -121,26 +113,3 @@ module _ {early : ℕ} {number : Parser ℕ} {ec : ℕ → List ℕ} {C : ℕ �
 
       words : ℕ → List A → Type 0
       words m l = (length l < m) × Each P l
-
-  pub rising_refuses : {p : Parser ℕ} {w : ℕ} {e : ℕ → List ℕ} {P Q : ℕ → Type 0} {ok : ℕ → Bool} → Exact p e P → Takes early p w → ((x : ℕ) → Tells (ok x) (Q x)) → (k : ℕ)
-      → Refuses early (rising number ok k p) (climbing ec C K w e P Q k)
-  unfolding times
-  rising_refuses {w = w} {e = e} {P = P} {Q = Q} F T U k =
-      refuses_as
-      (counted_as ec C K e chained words low above
-      (λ m l h. ((h.0, chain_rising h.1, chain_members h.1), stronger w k (λ x (r, q). (rises l x r, q)))))
-      (counted_as ec C K e words chained above low
-      (λ m l h. ((h.0, rising_chain h.1 h.2), stronger w k (λ x (r, q). (rises_back l x h.1 r, q)))))
-      (counted_refuses (λ c. guard_exact F k (from_tells U c)) (λ c. tested_refuses T F k (from_tells U c)) E R)
-    where
-      chained : ℕ → List ℕ → Type 0
-      chained m l = (length l < m) × Chain (From P Q) (λ _ x. suc x) 0 l
-
-      words : ℕ → List ℕ → Type 0
-      words m l = (length l < m) × Rising l × Each (λ x. P x × Q x) l
-
-      low : List ℕ → Stages
-      low l = tested w e P (λ x. (last (λ _ x. suc x) 0 l ≤ x) × Q x) k
-
-      above : List ℕ → Stages
-      above l = tested w e P (λ x. Rising (l ++ (x ∷ [])) × Q x) k

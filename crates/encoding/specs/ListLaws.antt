@@ -1,16 +1,16 @@
--- parsers of lists are exact: values in sight of a number, values that do not look at each other, numbers that rise
+-- parsers of lists are exact: values in sight of a number, and values that do not look at each other
 use Rattle.std.specs.Prelude.{◌≡◌, Bool}
 use Rattle.std.proofs.Math.Path.{refl, sym, subst, ap}
 use Rattle.std.proofs.Common.{◌∙◌, arith}
 use mathlib.Core.List.{List, [], ◌∷◌, ◌++◌, append_assoc}
 use Prim.Native.Nat.{ℕ, zero, suc, ◌+◌, ◌≤◌}
 use Rattle.std.proofs.Math.ListN.{length, length-append}
-use Rattle.verdict.specs.Lists.{Each, Rising}
+use Rattle.verdict.specs.Lists.{Each}
 use Rattle.verdict.specs.Tells.{Tells, leb_tells, and_tells}
 use Rattle.encoding.specs.Encode.{Bytes, encode_all, encode_counted, Counts}
-use Rattle.encoding.specs.Parse.{got, Parser, times, counted, listed, rising, fits_from, in_range, count}
+use Rattle.encoding.specs.Parse.{got, Parser, times, counted, listed, fits_from, in_range, count}
 use Rattle.encoding.specs.Chain.{Chain, ends, goes}
-use Rattle.encoding.specs.ChainLaws.{From, chain_each, each_chain, chain_rising, chain_members, rising_chain}
+use Rattle.encoding.specs.ChainLaws.{chain_each, each_chain}
 use Rattle.encoding.specs.GotLaws.{same_value, same_left, bind_got}
 use Rattle.encoding.specs.ParseLaws.{Exact, Wrote, exact_as, guard_exact}
 
@@ -90,10 +90,3 @@ module _ {number : Parser ℕ} {ec : ℕ → List ℕ} {C : ℕ → Type 0} (K :
       → Exact (listed number p) (encode_counted ec e) (λ l. C (length l) × Each P l)
   unfolding times
   listed_exact X = exact_as (λ l h. (h.0, chain_each h.1)) (λ l h. (h.0, each_chain h.1)) (counted_exact (λ _. X) K)
-
-  pub rising_exact : {p : Parser ℕ} {e : ℕ → List ℕ} {P Q : ℕ → Type 0} {ok : ℕ → Bool} → Exact p e P → ((x : ℕ) → Tells (ok x) (Q x)) → (k : ℕ)
-      → Exact (rising number ok k p) (encode_counted ec e) (λ l. C (length l) × Rising l × Each (λ x. P x × Q x) l)
-  unfolding times
-  rising_exact {P = P} {Q = Q} X T k =
-      exact_as (λ l h. (h.0, chain_rising h.1, chain_members h.1)) (λ l h. (h.0, rising_chain h.1 h.2))
-      (counted_exact {P = From P Q} (λ c. guard_exact X k (from_tells T c)) K)

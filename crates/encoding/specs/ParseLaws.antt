@@ -3,8 +3,8 @@ use Rattle.std.specs.Prelude.{◌≡◌, refl, List, [], ◌∷◌, ◌++◌, Bo
 use Rattle.std.proofs.Common.{sym, subst, ap, ◌∙◌, append_assoc, arith, length-append}
 use Rattle.verdict.specs.Lists.{more}
 use Rattle.verdict.specs.Tells.{Tells}
-use Rattle.encoding.specs.Encode.{Bytes, OneByte, PairOfBytes, TwoBytes, encode_byte, encode_pair, encode_two, encode_four, encode_part}
-use Rattle.encoding.specs.Parse.{got, Parser, seq, guard, via, part, word, double, byte, bytes, two, four}
+use Rattle.encoding.specs.Encode.{Bytes, OneByte, PairOfBytes, TwoBytes, encode_byte, encode_pair, encode_two, encode_part}
+use Rattle.encoding.specs.Parse.{got, Parser, seq, guard, via, part, word, byte, bytes, two}
 use Rattle.encoding.specs.GotLaws.{fault_not_got, same_value, same_left, got_place, bind_got, pick_got}
 
 -- what a parser that got x from s was given
@@ -119,14 +119,4 @@ module _ (early : ℕ) where
       low x y h =
           let i : (x + 256 * y) % 256 ≡ x = omega arith in
           let j : (x + 256 * y) / 256 ≡ y = omega arith in
-          rw (i, j) refl
-
-  pub four_exact : Exact (four early) encode_four (λ n. n < 4294967296)
-  four_exact = via_exact (seq_exact two_exact (λ x h. two_exact)) double (λ n. (n % 65536, n / 65536)) (λ n h. ((omega arith, omega arith), omega arith, refl))
-      (λ w h. let u = h.0 in let v = h.1 in (omega arith, low w.0 w.1 u))
-    where
-      low : (x y : ℕ) → x < 65536 → encode_two x ++ encode_two y ≡ encode_four (x + 65536 * y)
-      low x y h =
-          let i : (x + 65536 * y) % 65536 ≡ x = omega arith in
-          let j : (x + 65536 * y) / 65536 ≡ y = omega arith in
           rw (i, j) refl

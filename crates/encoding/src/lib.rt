@@ -1,5 +1,5 @@
 // What the readers of files share: opening letters, and numbers of two and four bytes, little-endian. The encodings, the parsers
-// and their laws are in specs/.
+// and their laws are in specs/ and proofs/.
 #![tactic(auto)]
 
 ghost use Rattle.std.specs.Prelude.{◌≡◌, [], ◌∷◌, ◌+◌, ◌<◌, length};

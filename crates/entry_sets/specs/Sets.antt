@@ -7,7 +7,8 @@ use Rattle.meaning.specs.Truth.{true-or}
 use Rattle.entry_sets.specs.Counting.{Within}
 use Rattle.bits.specs.Bits.{bit, or_bit, no_bit}
 use Rattle.bits.specs.WordLaws.{without_bit}
-use Rattle.bits.specs.WordSet.{in_set, place, past_words, in_removed}
+use Rattle.bits.specs.WordSet.{in_set, place, past_words}
+use Rattle.bits.proofs.WordSet.{in_removed}
 use Rattle.states.specs.Fill.{Filled}
 
 pub in_below : (w : List ℕ) → length w ≡ 4 → (c : ℕ) → in_set w c ≡ true → c < 256

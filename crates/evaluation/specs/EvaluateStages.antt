@@ -21,7 +21,7 @@ use Rattle.claims.specs.ClaimWalk.{ClaimGot}
 use Rattle.model_files.specs.ModelFile.{State, FitModel}
 use Rattle.model_files.specs.Described.{blank, state, model_of, successor_table}
 use Rattle.model_files.specs.ReadModel.{read_model}
-use Rattle.model_files.specs.ModelExact.{good_model}
+use Rattle.model_files.proofs.ModelExact.{good_model}
 use Rattle.model_files.specs.Decoded.{GoodModel, states_of, good_states, mask_table}
 use Rattle.states.specs.Words.{words}
 use Rattle.states.specs.PlainModel.{plain_model, words_in, plain_described}

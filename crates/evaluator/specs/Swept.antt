@@ -14,9 +14,11 @@ use Rattle.bits.specs.Bits.{bit, no_bit}
 use Rattle.states.specs.BitLaws.{bit_within}
 use Rattle.states.specs.Words.{words}
 use Rattle.states.specs.WordLaws.{words_length, words_at}
-use Rattle.states.specs.StateWords.{Inside, by_bits}
+use Rattle.states.specs.StateWords.{Inside}
+use Rattle.states.proofs.StateWords.{by_bits}
 use Rattle.states.specs.PlainModel.{plain_model, words_in}
-use Rattle.states.specs.Rows.{row_model, RowWords, rows_inside, rows_words}
+use Rattle.states.specs.Rows.{row_model, RowWords}
+use Rattle.states.proofs.Rows.{rows_inside, rows_words}
 use Rattle.states.specs.Fill.{Filled}
 use Rattle.bits.specs.WordSet.{in_set, zeros_at, none_in}
 use Rattle.forming.specs.Claim.{table_from, Claim, Given, first_entries, claim_length}

@@ -6,7 +6,8 @@ use Rattle.std.proofs.Common.{arith}
 use Rattle.verdict.specs.Sets.{◌⊆◌, elements}
 use Rattle.verdict.specs.Tests.{member, same, each}
 use Rattle.verdict.specs.Tells.{tells_as, same_test}
-use Rattle.verdict.specs.SetTells.{member_tells, same_tells, lists_self, lists_each}
+use Rattle.verdict.specs.SetTells.{member_tells, lists_self, lists_each}
+use Rattle.verdict.proofs.SetTells.{same_tells}
 use Rattle.formula.specs.Table.{Table}
 use Rattle.formula.specs.Codes.{code, code_entry, code_focus}
 use Rattle.written.specs.Canon.{canon, key}

@@ -7,7 +7,8 @@ use Rattle.conditions.specs.WellFormed.{WellFormed}
 use Rattle.meaning.specs.States.{Model, StateSet, SameStates, leaf_set}
 use Rattle.meaning.specs.StateLaws.{same_sym, same_trans, two_same, step_same, Toward}
 use Rattle.meaning.specs.Meaning.{own}
-use Rattle.meaning.specs.OwnLaws.{closed, own_law, own_target}
+use Rattle.meaning.specs.OwnLaws.{closed, own_target}
+use Rattle.meaning.proofs.OwnLaws.{own_law}
 use Rattle.forming.specs.TowardLaws.{toward_refl, toward_two, toward_step}
 use Rattle.forming.specs.Settled.{formed}
 

@@ -12,7 +12,8 @@ use Rattle.meaning.specs.States.{leaf_set, two_set, step_set, start}
 use Rattle.bits.specs.Bits.{digit, bit, or_bit, and_bit, no_bit}
 use Rattle.states.specs.Words.{word}
 use Rattle.states.specs.BitLaws.{zero_digit}
-use Rattle.states.specs.StateWords.{Inside, sets_of, by_bits, word_same}
+use Rattle.states.specs.StateWords.{Inside, sets_of}
+use Rattle.states.proofs.StateWords.{by_bits, word_same}
 use Rattle.states.specs.Rows.{row_model}
 use Rattle.forming.specs.Settled.{formed}
 use Rattle.forming.specs.Claim.{table_from, Claim, false_at, true_at, letter_at, negated_at, or_at, and_at, fix_at, name_at, a_entry, b_below}

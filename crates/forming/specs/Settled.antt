@@ -13,10 +13,11 @@ use Rattle.forming.specs.TowardLaws.{toward_refl, toward_trans, same_toward, tow
 use Rattle.formula.specs.Below.{by_smaller, by_larger}
 use Rattle.meaning.specs.Meaning.{Env, put, clause, meaning, owns, own}
 use Rattle.meaning.specs.MeaningLaws.{put_at, meaning_at}
-use Rattle.meaning.specs.FixLaws.{fix_first}
+use Rattle.meaning.proofs.FixSettles.{fix_first}
 use Rattle.formula.specs.TableLaws.{past_end, fix_in}
 use Rattle.conditions.specs.WellFormedLaws.{free_in}
-use Rattle.meaning.specs.OwnLaws.{closed, owns_own, own_law}
+use Rattle.meaning.specs.OwnLaws.{closed, owns_own}
+use Rattle.meaning.proofs.OwnLaws.{own_law}
 
 -- the set of an entry of a shape: names read W, operands f
 unfoldable pub formed : Model → (ℕ → StateSet) → (ℕ → StateSet) → Shape → StateSet

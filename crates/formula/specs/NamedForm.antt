@@ -1,5 +1,5 @@
 -- the form that a test tells, and the form that a number names, as the code asks for it: CLM2 by its own number, and else CLM1
-use Rattle.std.specs.Prelude.{◌≡◌, refl, Bool, true, false, ℕ, eqb}
+use Rattle.std.specs.Prelude.{◌≡◌, Bool, true, false, ℕ, eqb}
 use Rattle.std.proofs.Common.{subst, ap, eq-eqb, ne_eqb}
 use Rattle.formula.specs.Claim.{Form, clm1, clm2, form_number}
 

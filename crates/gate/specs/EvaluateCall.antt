@@ -12,7 +12,7 @@ use Rattle.records.specs.declared.Entry.{Entry}
 use Rattle.demands.specs.Slices.{LentWords}
 use Rattle.demands.specs.Evaluate.{evaluating}
 use Rattle.demands.specs.EvaluationEarned.{EvaluationEarned, Evaluable}
-use Rattle.demands.specs.EvaluateExact as exactly
+use Rattle.demands.proofs.EvaluateExact as exactly
 use Rattle.demands.specs.RefusedAs.{RefusedAs, wide_decoded, refused_as, zero_accepts}
 use Rattle.demands.specs.Numbered.{evaluation_number}
 use Rattle.evaluation.specs.declared.Evaluation.{Evaluation}

@@ -8,7 +8,8 @@ use Prim.Native.Nat.{ℕ, zero, suc, ◌+◌, ◌-◌, ◌<◌, ◌≤◌}
 use Rattle.std.proofs.Math.Decide.{ℕ_discrete, dec_lt}
 use Rattle.verdict.specs.Lists.{Rising}
 use Rattle.verdict.specs.Verdict.{accepted, refused}
-use Rattle.verdict.specs.ScanLaws.{Passed, scan_passes, scan_fails}
+use Rattle.verdict.specs.ScanLaws.{Passed, scan_passes}
+use Rattle.verdict.proofs.ScanLaws.{scan_fails}
 use Rattle.formula.specs.Table.{Table}
 use Rattle.formula.specs.Claim.{Form, Claim}
 use Rattle.formula.specs.Nodes.{Proof}

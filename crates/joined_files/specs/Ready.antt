@@ -1,7 +1,7 @@
 -- goals that fit, ready to be laid down: 74, 70, and the whole
 use Rattle.std.specs.Prelude.{◌≡◌, Bool, true, ◌&&◌, List, [], ◌∷◌, ℕ, ◌+◌, ◌*◌, ◌<◌, ◌≤◌, leb, take, set}
 use Rattle.std.proofs.Math.Path.{refl, ap}
-use Rattle.std.proofs.Common.{ap₂, ◌∙◌, arith, le-leb, length-take, length-take-le}
+use Rattle.std.proofs.Common.{ap₂, ◌∙◌, arith, le-leb, length-take-le}
 use Rattle.std.proofs.lemmas.Bool.{lt-leb}
 use Rattle.std.proofs.Math.ListN.{length}
 use Rattle.verdict.specs.Verdict.{accepted, refused, pick}

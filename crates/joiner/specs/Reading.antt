@@ -14,7 +14,7 @@ use Rattle.formula.specs.Plain.{table_of, table_of_length}
 use Rattle.formula.specs.Held.{ClaimHeld, goals_of_length, goals_of_at}
 use Rattle.claims.specs.ClaimWalk.{ClaimGot}
 use Rattle.proof_files.specs.ProofRecords.{node_fits}
-use Rattle.proof_files.specs.ProofExact.{proof_good}
+use Rattle.proof_files.proofs.ProofExact.{proof_good}
 use Rattle.nodes.specs.ProofDecode.{proof_in, Decodes, nodes_place_lem}
 use Rattle.nodes.specs.ProofGood.{good_decoded}
 use Rattle.calculus.specs.Goals.{goal}

@@ -1,19 +1,15 @@
--- what a join of two accepted inputs answers: 73, 74, 70 in this order, or accepted; exact both ways
-use Rattle.std.specs.Prelude.{◌≡◌, refl, ◌↔◌, List, Bool, ◌&&◌, ℕ, ◌+◌, ◌≤◌}
-use Rattle.std.proofs.Common.{sym, subst}
-use Rattle.std.proofs.Math.Bool.{true, false}
+-- what a join of two accepted inputs answers: 73, 74, 70 in this order, or accepted
+use Rattle.std.specs.Prelude.{◌≡◌, refl, List, Bool, ◌&&◌, ℕ, ◌+◌, ◌≤◌}
 use Rattle.std.proofs.Math.Dec.{leb}
 use Rattle.std.proofs.Math.ListN.{length}
 use Rattle.verdict.specs.Verdict.{Verdict, accepted, refused, pick}
-use Rattle.verdict.specs.VerdictLaws.{accepted_not_refused}
-use Rattle.verdict.specs.Tells.{Tells, leb_tells, and_tells, and_tells_given, fails}
 use Rattle.formula.specs.Table.{Table}
 use Rattle.conditions.specs.WellFormed.{WellFormed}
 use Rattle.formula.specs.Nodes.{Proof}
 use Rattle.encoding.specs.Encode.{encode_all}
 use Rattle.joining.specs.Goals.{Members, joined_goal, Fit}
 use Rattle.joining.specs.Joined.{claim_bytes, proof_bytes, joined_nodes, joined_proof}
-use Rattle.joining.specs.FitTest.{same_entries_lem, same_entries_tells, fits, fits_tells}
+use Rattle.joining.specs.FitTest.{same_entries_lem, fits}
 
 -- of the joined goal g over the table t: 70 for an output slice that is too short, after 74 for more than 1,024 nodes
 module _ (t : Table) (g : List ℕ) (p q : Proof) (e claim_room proof_room : ℕ) where
@@ -58,30 +54,10 @@ module _ (t u : Table) (l r : List ℕ) (p q : Proof) (e claim_room proof_room :
     short : Joins → Few → (Room → ⊥) → Earns 70 0
 
   module _ (wf : WellFormed t) (L : Members t l) (R : Members u r) where
-    joins_tells : Tells (same_entries_lem t u && fits t e l r) Joins
-    joins_tells = and_tells_given (same_entries_tells t u) (λ i. fits_tells t wf e l r L (subst (λ (s : Table). Members s r) (sym i) R))
-
-    few_tells : Tells (leb (length p + length q + 1) 1024) Few
-    few_tells = leb_tells _ _
-
-    room_tells : Tells stored Room
-    unfolding room
-    room_tells = and_tells (leb_tells claim_length claim_room) (leb_tells proof_length proof_room)
-
     -- the answer is one of these
     pub data Outcome : Verdict → Type 0 where
       done : Joins → Few → Room → Outcome accepted
       earned : {n k : ℕ} → Earns n k → Outcome (refused n k)
-
-    pub outcome : Outcome joining
-    unfolding joining sized
-    outcome = go (same_entries_lem t u && fits t e l r) (leb (length p + length q + 1) 1024) stored joins_tells few_tells room_tells
-      where
-        go : (a b c : Bool) → Tells a Joins → Tells b Few → Tells c Room → Outcome (pick a (pick b (pick c accepted (refused 70 0)) (refused 74 0)) (refused 73 e))
-        go false b c x y z = earned (misfit (fails x refl))
-        go true false c x y z = earned (too_many (x.says refl) (fails y refl))
-        go true true false x y z = earned (short (x.says refl) (y.says refl) (fails z refl))
-        go true true true x y z = done (x.says refl) (y.says refl) (z.says refl)
 
     -- at most one refusal is earned, and none where the join is done
     pub one_earned : {n k m i : ℕ} → Earns n k → Earns m i → (n ≡ m) × (k ≡ i)
@@ -94,30 +70,3 @@ module _ (t u : Table) (l r : List ℕ) (p q : Proof) (e claim_room proof_room :
     one_earned (short j f x) (misfit y) = absurd (y j)
     one_earned (short j f x) (too_many k y) = absurd (y f)
     one_earned (short j f x) (short k g y) = (refl, refl)
-
-    none_earned : {n k : ℕ} → Joins → Few → Room → Earns n k → ⊥
-    none_earned j f r (misfit x) = x j
-    none_earned j f r (too_many _ x) = x f
-    none_earned j f r (short _ _ x) = x r
-
-    pub joining_accepts : (joining ≡ accepted) ↔ (Joins × Few × Room)
-    joining_accepts = (into outcome, λ (j, f, r). from j f r outcome)
-      where
-        into : {w : Verdict} → Outcome w → w ≡ accepted → Joins × Few × Room
-        into (done j f r) h = (j, f, r)
-        into (earned x) h = absurd (accepted_not_refused h)
-
-        from : Joins → Few → Room → {w : Verdict} → Outcome w → w ≡ accepted
-        from j f r (done _ _ _) = refl
-        from j f r (earned x) = absurd (none_earned j f r x)
-
-    pub joining_refuses : {n k : ℕ} → (joining ≡ refused n k) ↔ Earns n k
-    joining_refuses {n} {k} = (into outcome, λ x. from x outcome)
-      where
-        into : {w : Verdict} → Outcome w → w ≡ refused n k → Earns n k
-        into (done j f r) h = absurd (accepted_not_refused (sym h))
-        into (earned {n = m} {k = i} x) h = let a : m ≡ n = cc in let b : i ≡ k = cc in rw (← a, ← b) x
-
-        from : Earns n k → {w : Verdict} → Outcome w → w ≡ refused n k
-        from x (done j f r) = absurd (none_earned j f r x)
-        from x (earned y) = let (a, b) = one_earned y x in cc

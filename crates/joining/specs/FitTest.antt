@@ -1,27 +1,21 @@
--- 73 computed: whether two entry tables are the same and two goals fit, exact both ways
+-- 73 computed: whether two entry tables are the same and two goals fit
 use Rattle.std.specs.Prelude.{◌≡◌, refl, List, [], ◌∷◌, Bool, true, false, not, ◌&&◌, ℕ, length}
-use Rattle.std.proofs.Common.{ap, ap₂, ◌∙◌, inl, inr, arith}
-use mathlib.Core.List.Memᴰ
+use Rattle.std.proofs.Common.{ap, ap₂, ◌∙◌, arith}
 use Rattle.std.proofs.lemmas.Bool.{false≢true}
 use Rattle.std.proofs.Math.Dec.{eqb, ltb}
-use Rattle.verdict.specs.Sets.{Same, ◌⊆◌, ◌plus◌, elements}
+use Rattle.verdict.specs.Sets.{Same, ◌⊆◌, elements}
 use Rattle.verdict.specs.Tests.{same, each}
-use Rattle.verdict.specs.Tells.{Tells, tells_as, eqb_tells, ltb_tells, and_tells, and_tells_given, not_tells}
-use Rattle.verdict.specs.SetTells.{lists_each, lists_self, same_tells, same_sym, same_trans}
+use Rattle.verdict.specs.Tells.{Tells, tells_as, eqb_tells, and_tells}
+use Rattle.verdict.specs.SetTells.{lists_each, lists_self}
+use Rattle.verdict.proofs.SetTells.{same_tells}
 use Rattle.formula.specs.Kind
 use Rattle.formula.specs.Table.{Table, Entry, kind}
-use Rattle.formula.specs.Codes.{Formula}
 use Rattle.formula.specs.Target.{target, target_a, target_b}
-use Rattle.formula.specs.ShapeLaws.{and_shape}
-use Rattle.formula.specs.Members.{kind_formula}
-use Rattle.conditions.specs.WellFormed.{WellFormed}
-use Rattle.written.specs.Form.{Form}
 use Rattle.written.specs.Written.{written}
 use Rattle.written.specs.Canon.{canon}
-use Rattle.written.specs.CanonLaws.{canon_says, canon_holds}
-use Rattle.calculus.specs.PrincipalLaws.{operand_formula}
-use Rattle.joining.specs.Goals.{Members, formulas, holds, rest, Fit}
-use Rattle.joining.specs.GoalLaws.{holds-tells, rest_members}
+use Rattle.written.specs.CanonLaws.{canon_holds}
+use Rattle.written.proofs.CanonLaws.{canon_says}
+use Rattle.joining.specs.Goals.{Members, formulas, holds, rest}
 
 unfoldable pub same_entry : Entry → Entry → Bool
 same_entry x y = eqb x.kind y.kind && (eqb x.a y.a && eqb x.b y.b)
@@ -89,40 +83,3 @@ module _ (t : Table) where
       (λ s. record { into = numbers_formulas l r L R s.into; from = numbers_formulas r l R L s.from })
       (λ s. record { into = formulas_numbers l r s.into; from = formulas_numbers r l s.from })
       (same_tells (each (canon t) l) (lists_self (each (canon t) r)))
-
-  formulas_cons : (e : ℕ) (l : List ℕ) → Same (formulas t (e ∷ l)) (formulas t l plus written t e)
-  formulas_cons e l = record { into = into; from = from }
-    where
-      into : (F : Form) → formulas t (e ∷ l) F → (formulas t l plus written t e) F
-      into F (c, Memᴰ.head i, q) = inr (q ∙ ap (written t) i)
-      into F (c, Memᴰ.tail m, q) = inl (c, m, q)
-
-      from : (F : Form) → (formulas t l plus written t e) F → formulas t (e ∷ l) F
-      from F (inl (c, m, q)) = (c, Memᴰ.tail m, q)
-      from F (inr q) = (e, Memᴰ.head refl, q)
-
-  module _ (wf : WellFormed t) (e : ℕ) (l r : List ℕ) (L : Members t l) (R : Members t r) where
-    rest_formulas : Members t (rest t l r)
-    rest_formulas f m = L f (rest_members t l r f m)
-
-    with_formulas : (o : ℕ) → Formula t o → Members t (o ∷ rest t l r)
-    with_formulas o F f (Memᴰ.head i) = rw i F
-    with_formulas o F f (Memᴰ.tail m) = rest_formulas f m
-
-    -- the rest with a target is a goal
-    goal_tells : (g : List ℕ) (o : ℕ) → Members t g → Formula t o → Tells (same_formulas g (o ∷ rest t l r)) (Same (formulas t g) (formulas t (rest t l r) plus written t o))
-    goal_tells g o G F = tells_as
-        (λ s. same_trans s (formulas_cons o (rest t l r)))
-        (λ s. same_trans s (same_sym (formulas_cons o (rest t l r))))
-        (same_formulas_tells g (o ∷ rest t l r) G (with_formulas o F))
-
-    pub fits_tells : Tells (fits e l r) (Fit t e l r)
-    unfolding fits
-    fits_tells = tells_as
-        (λ (k, (a, (b, (n, f)))). record { of_kind = k; first = a; second = b; apart = n; few = f })
-        (λ K. (K.of_kind, (K.first, (K.second, (K.apart, K.few)))))
-        (and_tells_given (eqb_tells (kind t e) Kind.AND) (λ k.
-        let F : Formula t e = kind_formula t e (omega (arith, k)) (omega (arith, k)) in
-        and_tells (goal_tells l (target_a t e) L (operand_formula t wf e _ F (and_shape t e k) (inl refl)))
-        (and_tells (goal_tells r (target_b t e) R (operand_formula t wf e _ F (and_shape t e k) (inr refl)))
-        (and_tells (not_tells (holds-tells t (rest t l r) rest_formulas e F)) (ltb_tells (length (rest t l r)) 24)))))

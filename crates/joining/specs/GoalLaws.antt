@@ -1,6 +1,6 @@
 -- the joined goal: its members are formulas, it rises strictly, and how long it is
 use Rattle.std.specs.Prelude.{◌≡◌, refl, Bool, cond, ℕ, zero, suc, ◌*◌, ◌<◌, ◌≤◌, ltb, length, get_or}
-use Rattle.std.proofs.Common.{sym, ap, inl, inr, arith}
+use Rattle.std.proofs.Common.{ap, inl, inr, arith}
 use Rattle.std.proofs.Math.Path.{subst}
 use mathlib.Core.List.Memᴰ
 use mathlib.Core.List.{List, [], ◌∷◌}
@@ -10,13 +10,13 @@ use Rattle.verdict.specs.Sets.{◌⊆◌, ◌plus◌, elements}
 use Rattle.verdict.specs.Tests.{keep, each}
 use Rattle.verdict.specs.Tells.{Tells, tells_as, ltb_tells, fails}
 use Rattle.verdict.specs.SetTells.{Lists, member_tells, lists_plus, lists_self, lists_each}
-use Rattle.formula.specs.Kind
 use Rattle.formula.specs.Table.{Table}
 use Rattle.formula.specs.Codes.{Formula, code}
 use Rattle.formula.specs.Members.{kind_formula}
 use Rattle.written.specs.Written.{written}
 use Rattle.written.specs.Canon.{canon}
-use Rattle.written.specs.CanonLaws.{canon_says, canon_holds}
+use Rattle.written.specs.CanonLaws.{canon_holds}
+use Rattle.written.proofs.CanonLaws.{canon_says}
 use Rattle.joining.specs.Goals.{sift, enter, Members, formulas, holds, rest, joined_goal, Fit}
 use Rattle.joining.specs.Joined.{in_focus}
 
@@ -120,29 +120,6 @@ module _ (t : Table) where
       go : (b : Bool) → From (suc x) (rest t l r) → From c (keep b x (rest t l r))
       go true g = next a g
       go false g = from_lower (omega arith) g
-
-  -- the members of the first goal whose formula the second holds too
-  pub rest_lists : (l r : List ℕ) → Members t l → Members t r → Lists (rest t l r) (λ e. elements l e × formulas t r (written t e))
-  unfolding rest sift
-  rest_lists [] r L R = record { into = λ c m. absurd (Memᴰ.not-nil m); from = λ c (m, _). m }
-  rest_lists (x ∷ l) r L R = go (holds t r x) (holds-tells r R x (L x (Memᴰ.head refl))) (rest_lists l r (λ e m. L e (Memᴰ.tail m)) R)
-    where
-      go : (b : Bool) → Tells b (formulas t r (written t x)) → Lists (rest t l r) (λ e. elements l e × formulas t r (written t e))
-          → Lists (keep b x (rest t l r)) (λ e. elements (x ∷ l) e × formulas t r (written t e))
-      go true z s = record { into = into; from = from }
-        where
-          into : (c : ℕ) → elements (x ∷ rest t l r) c → elements (x ∷ l) c × formulas t r (written t c)
-          into c (Memᴰ.head i) = (Memᴰ.head i, subst (λ (k : ℕ). formulas t r (written t k)) (sym i) (z.says refl))
-          into c (Memᴰ.tail m) = let (n, h) = s.into c m in (Memᴰ.tail n, h)
-
-          from : (c : ℕ) → elements (x ∷ l) c × formulas t r (written t c) → elements (x ∷ rest t l r) c
-          from c (Memᴰ.head i, h) = Memᴰ.head i
-          from c (Memᴰ.tail m, h) = Memᴰ.tail (s.from c (m, h))
-      go false z s = record { into = λ c m. let (n, h) = s.into c m in (Memᴰ.tail n, h); from = from }
-        where
-          from : (c : ℕ) → elements (x ∷ l) c × formulas t r (written t c) → elements (rest t l r) c
-          from c (Memᴰ.head i, h) = absurd (fails z refl (subst (λ (k : ℕ). formulas t r (written t k)) i h))
-          from c (Memᴰ.tail m, h) = s.from c (m, h)
 
   pub rest_members : (l r : List ℕ) → elements (rest t l r) ⊆ elements l
   unfolding rest sift

@@ -5,7 +5,6 @@ pub mod Joined
 pub mod GoalLaws
 -- one proof inside another, further on
 pub mod Sits
-pub mod SitsKeeps
 -- the joined proof is correct
 pub mod JoinedTree
 pub mod JoinedRoot

@@ -8,12 +8,12 @@ use Rattle.formula.specs.Plain.{table_of, table_of_length, table_of_kind}
 use Rattle.formula.specs.Claim.{Claim}
 use Rattle.formula.specs.Held.{ClaimHeld}
 use Rattle.conditions.specs.Judge.{plainly}
-use Rattle.conditions.specs.JudgeExact.{formed_bounded}
+use Rattle.conditions.proofs.JudgeExact.{formed_bounded}
 use Rattle.conditions.specs.WellFormed.{WellFormed}
 use Rattle.operands.specs.OperandBounds.{out_of}
 use Rattle.reader.specs.WellFormed.{ClaimFormed}
 use Rattle.reader.specs.FormedLaws.{kind_known}
-use Rattle.written.specs.CanonLaws.{canon_inside}
+use Rattle.written.proofs.CanonLaws.{canon_inside}
 use Rattle.numbers.specs.Numbered.{Numberable, Numbered}
 use Rattle.sequents.specs.Keys.{Numbers}
 

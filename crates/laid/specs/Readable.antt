@@ -15,7 +15,7 @@ use Rattle.formula.specs.Records.{all_codes}
 use Rattle.formula.specs.NodeColumns.{Columns, start_stands}
 use Rattle.formula.specs.CodeCounts.{few_codes, more_codes}
 use Rattle.proof_files.specs.ProofFile.{ProofFile}
-use Rattle.proof_files.specs.ProofExact.{proof_good}
+use Rattle.proof_files.proofs.ProofExact.{proof_good}
 use Rattle.proof_files.specs.ProofRecords.{node_count, codes_few, code_formula, rooted}
 use Rattle.nodes.specs.ProofDecode.{nodes_place_lem, proof_in, Decodes}
 use Rattle.nodes.specs.ProofGood.{good_decoded}
@@ -27,7 +27,7 @@ use Rattle.goals.specs.Goals.{Goals}
 use Rattle.numbers.specs.Numbered.{Numberable}
 use Rattle.rules.specs.JudgeStages.{Laid}
 use Rattle.reader.specs.Files.{files}
-use Rattle.reader.specs.FilesExact.{files_exactly}
+use Rattle.reader.proofs.FilesExact.{files_exactly}
 use Rattle.reader.specs.Found.{FilesGot}
 use Rattle.reader.specs.WellFormed as reader
 use Rattle.reader.specs.FormedLaws.{member_formula, one_goal_lem}

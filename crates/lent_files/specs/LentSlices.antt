@@ -1,5 +1,5 @@
 -- the lent slices of records, by what the records in them show
-use Rattle.std.specs.Prelude.{refl, List, ℕ}
+use Rattle.std.specs.Prelude.{List, ℕ}
 use Rattle.records.specs.Records.{shown_entries, shown_nodes}
 use Rattle.records.specs.declared.Entry.{Entry}
 use Rattle.records.specs.declared.Node.{Node}

@@ -4,7 +4,8 @@ use Rattle.std.proofs.Math.Path.{refl}
 use Rattle.std.proofs.Common.{sym, ◌∙◌, arith, below_more}
 use borrow.Author.Tests.{eq-eqb, ne_eqb}
 use Rattle.verdict.specs.Verdict.{accepted, refused}
-use Rattle.verdict.specs.ScanLaws.{Passed, scan_passes, scan_fails}
+use Rattle.verdict.specs.ScanLaws.{Passed, scan_passes}
+use Rattle.verdict.proofs.ScanLaws.{scan_fails}
 use Rattle.formula.specs.Rule
 use Rattle.formula.specs.Nodes.{Proof, node}
 use Rattle.formula.specs.PlainNodes.{proof_of, proof_of_length, proof_of_rule, proof_of_back}

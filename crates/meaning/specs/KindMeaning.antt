@@ -1,4 +1,4 @@
--- the meaning of each kind by its number, and of an entry by itself, as propositions that a reader can check
+-- the meaning of each kind but box, mu and nu by its number, what a box asks of successors, and an entry by itself
 use Rattle.std.specs.Prelude.{◌≡◌, refl, ◌↔◌, ◌⊎◌, Bool, false, not, ◌&&◌, ◌||◌, ℕ, zero, suc, ◌<◌}
 use Rattle.std.proofs.Common.{sym, ap, ◌∙◌, inl, inr, true≢false, arith}
 use Rattle.std.proofs.Math.Bool.{true}
@@ -6,17 +6,16 @@ use Rattle.std.proofs.lemmas.Bool.{false≢true}
 use Rattle.verdict.specs.Tells.{Tells, and_tells, or_tells, if_tells}
 use Rattle.formula.specs.Kind
 use Rattle.formula.specs.Table.{Table, entry, kind, action}
-use Rattle.formula.specs.Shape.{Shape, shape, diamond, box, mu, nu}
-use Rattle.formula.specs.ShapeLaws.{false_shape, true_shape, letter_shape, negated_shape, or_shape, and_shape, diamond_shape, box_shape, mu_shape, nu_shape, name_shape}
+use Rattle.formula.specs.Shape.{Shape, shape, diamond, box}
+use Rattle.formula.specs.ShapeLaws.{false_shape, true_shape, letter_shape, negated_shape, or_shape, and_shape, diamond_shape, name_shape}
 use Rattle.conditions.specs.Free.{Free}
 use Rattle.conditions.specs.WellFormed.{WellFormed}
 use Rattle.conditions.specs.WellFormedLaws.{free_in}
 use Rattle.meaning.specs.Truth.{some, or-true, some_false, every_true, all_every}
-use Rattle.meaning.specs.States.{Model, StateSet, Sub, SameStates, Successor, leaf_set, two_set, step_set}
+use Rattle.meaning.specs.States.{Model, StateSet, SameStates, Successor, leaf_set, two_set, step_set}
 use Rattle.meaning.specs.StateLaws.{same_sym, same_trans}
-use Rattle.meaning.specs.Meaning.{Env, clause, meaning, round, own}
+use Rattle.meaning.specs.Meaning.{Env, clause, meaning, own}
 use Rattle.meaning.specs.MeaningLaws.{meaning_at, meaning_local}
-use Rattle.meaning.specs.FixLaws.{fix_is, mu_least, nu_greatest}
 use Rattle.meaning.specs.OwnLaws.{owns_own}
 
 -- a number that passes a test is found below n
@@ -60,7 +59,7 @@ module _ (M : Model) (n : ℕ) (A : StateSet) (s : ℕ) where
       passes : (u : ℕ) → Tells (M.succ n s u && A u) ((M.succ n s u ≡ true) × (A u ≡ true))
       passes u = and_tells (is_true (M.succ n s u)) (is_true (A u))
 
-  every_successor : (step_set M (box n) A s ≡ true) ↔ ((u : ℕ) → Successor M n s u → A u ≡ true)
+  pub every_successor : (step_set M (box n) A s ≡ true) ↔ ((u : ℕ) → Successor M n s u → A u ≡ true)
   unfolding step_set
   every_successor = (
     λ h u (l, k). (passes u).says (every_true M.size _ h u l) k,
@@ -79,7 +78,7 @@ module _ (M : Model) (t : Table) (wf : WellFormed t) where
   b_of e = (entry t e).b
 
   module _ (e : ℕ) (ρ : Env) (s : ℕ) where
-    at : {v : Shape} → shape t e ≡ v → meaning M t e ρ s ≡ clause M (meaning M t) e v ρ s
+    pub at : {v : Shape} → shape t e ≡ v → meaning M t e ρ s ≡ clause M (meaning M t) e v ρ s
     at q = ap (λ (A : StateSet). A s) (meaning_at M t wf e q ρ)
 
     pub false_meaning : kind t e ≡ Kind.FALSE → meaning M t e ρ s ≡ false
@@ -110,25 +109,9 @@ module _ (M : Model) (t : Table) (wf : WellFormed t) where
     unfolding clause
     diamond_meaning q = rw (at (diamond_shape t e q)) (some_successor M (action t e) (meaning M t (a_of e) ρ) s)
 
-    pub box_meaning : kind t e ≡ Kind.BOX → (meaning M t e ρ s ≡ true) ↔ ((u : ℕ) → Successor M (action t e) s u → meaning M t (a_of e) ρ u ≡ true)
-    unfolding clause
-    box_meaning q = rw (at (box_shape t e q)) (every_successor M (action t e) (meaning M t (a_of e) ρ) s)
-
     pub name_meaning : kind t e ≡ Kind.NAME → meaning M t e ρ s ≡ ρ (a_of e) s
     unfolding clause
     name_meaning q = at (name_shape t e q)
-
-  -- a mu's set is its body's, set for its own name, and below every set that holds its body's
-  pub mu_meaning : (e : ℕ) (ρ : Env) → kind t e ≡ Kind.MU
-      → SameStates M.size (meaning M t e ρ) (round M t e (a_of e) ρ (meaning M t e ρ))
-      × ((S : StateSet) → Sub M.size (round M t e (a_of e) ρ S) S → Sub M.size (meaning M t e ρ) S)
-  mu_meaning e ρ q = let v = mu_shape t e q in (fix_is M t wf e _ mu v ρ, mu_least M t wf e _ v ρ)
-
-  -- a nu's is its body's too, and above
-  pub nu_meaning : (e : ℕ) (ρ : Env) → kind t e ≡ Kind.NU
-      → SameStates M.size (meaning M t e ρ) (round M t e (a_of e) ρ (meaning M t e ρ))
-      × ((S : StateSet) → Sub M.size S (round M t e (a_of e) ρ S) → Sub M.size S (meaning M t e ρ))
-  nu_meaning e ρ q = let v = nu_shape t e q in (fix_is M t wf e _ nu v ρ, nu_greatest M t wf e _ v ρ)
 
   -- by itself: each free name set to that fixpoint's own meaning
   pub own_meaning : (e : ℕ) (ρ : Env) → ((x : ℕ) → Free t e x → SameStates M.size (ρ x) (own M t x)) → SameStates M.size (own M t e) (meaning M t e ρ)

@@ -5,7 +5,6 @@ pub mod States
 pub mod StateLaws
 pub mod Meaning
 pub mod MeaningLaws
-pub mod FixLaws
 pub mod OwnLaws
 pub mod KindMeaning
 pub mod SameModels

@@ -1,17 +1,16 @@
--- an entry by itself: the own meanings are closed under every connective, and a fixpoint's is its body's
+-- own meanings: that of a name is its fixpoint's, and those of operands are their targets'
 use Rattle.std.specs.Prelude.{◌≡◌, refl, length}
 use Rattle.std.proofs.Common.{sym, arith}
 use Prim.Native.Nat.{ℕ, zero, suc, ◌+◌, ◌-◌, ◌<◌, ◌≤◌}
 use Rattle.formula.specs.Table.{Table}
-use Rattle.formula.specs.Shape.{Shape, leaf, two, step, fix, name, Fix, shape}
+use Rattle.formula.specs.Shape.{Shape, leaf, two, step, fix, name, shape}
 use Rattle.formula.specs.Target.{target}
 use Rattle.conditions.specs.WellFormed.{WellFormed}
 use Rattle.meaning.specs.States.{Model, StateSet, SameStates, leaf_set, two_set, step_set}
-use Rattle.meaning.specs.StateLaws.{same_sym, same_trans, path_same, two_same, step_same}
+use Rattle.meaning.specs.StateLaws.{same_trans, path_same}
 use Rattle.meaning.specs.Meaning.{clause, meaning, owns, own}
 use Rattle.meaning.specs.MeaningLaws.{put_at, put_other, meaning_at, meaning_local}
-use Rattle.meaning.specs.FixLaws.{fix_is}
-use Rattle.formula.specs.TableLaws.{fix_in, target_by}
+use Rattle.formula.specs.TableLaws.{target_by}
 
 module _ (M : Model) where
   -- the set that a shape makes of its targets' own meanings
@@ -50,19 +49,3 @@ module _ (M : Model) where
 
     pub own_target : (e : ℕ) → SameStates M.size (own M t e) (own M t (target t e))
     own_target e = target_by t e (λ d. SameStates M.size (own M t e) (own M t d)) (λ _ s k. refl) (own_name e)
-
-    -- at a fixpoint the body is read with the fixpoint's own meaning
-    own_body : (e a : ℕ) (σ : Fix) → shape t e ≡ fix σ a → SameStates M.size (own M t e) (own M t a)
-    unfolding own
-    own_body e a σ q =
-        same_trans (fix_is M t wf e a σ q _)
-        (meaning_local M t wf a _ _
-        (λ x f. put_at (λ y A. SameStates M.size A (owns M t (length t) y)) _ e _ x (same_sym (owns_own e (fix_in t e a σ q))) (λ ne s l. refl)))
-
-    pub own_law : (e : ℕ) (v : Shape) → shape t e ≡ v → SameStates M.size (own M t e) (closed t v)
-    unfolding closed own clause
-    own_law e (leaf l) q = path_same (meaning_at M t wf e q _)
-    own_law e (two o a b) q = same_trans (path_same (meaning_at M t wf e q _)) (two_same o (own_target a) (own_target b))
-    own_law e (step m a) q = same_trans (path_same (meaning_at M t wf e q _)) (step_same M m (own_target a))
-    own_law e (fix σ a) q = same_trans (own_body e a σ q) (own_target a)
-    own_law e (name x) q = own_name e x q

@@ -1,2 +1,2 @@
-// The Kripke meaning of formulas in finite models: definitions and theorems alone, in specs/.
+// The Kripke meaning of formulas in finite models: definitions and theorems alone, in specs/ and proofs/.
 #![tactic(auto)]

@@ -14,9 +14,9 @@ use Rattle.formula.specs.Plain.{table_of, table_of_kind, table_of_b, table_of_le
 use Rattle.formula.specs.ShapeLaws.{diamond_shape, box_shape}
 use Rattle.formula.specs.Target.{target_a}
 use Rattle.formula.specs.Codes.{Formula, entry_of_lem, focus_of}
-use Rattle.written.specs.SameKind.{box_like}
+use Rattle.written.proofs.SameKind.{box_like}
 use Rattle.written.specs.Canon.{key}
-use Rattle.written.specs.CanonLaws.{canon_says}
+use Rattle.written.proofs.CanonLaws.{canon_says}
 use Rattle.calculus.specs.Rules.{stepped}
 use Rattle.calculus.specs.Judge.{diamond_of}
 use Rattle.sequents.specs.Part.{part, part-more, part_none}

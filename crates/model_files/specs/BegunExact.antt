@@ -10,8 +10,10 @@ use Rattle.encoding.specs.Parse.{got, Parser, seq, times}
 use Rattle.encoding.specs.Chain.{Chain, ends, goes}
 use Rattle.encoding.specs.GotLaws.{fault_not_got, pick_got}
 use Rattle.encoding.specs.ParseLaws.{Exact, Wrote, exact_as, seq_exact, part_exact, byte_exact}
-use Rattle.encoding.specs.ChainLaws.{each_as, Numbers, rising_chain}
-use Rattle.encoding.specs.ListLaws.{times_exact, rising_exact}
+use Rattle.encoding.specs.ChainLaws.{each_as, Numbers}
+use Rattle.encoding.proofs.ChainLaws.{rising_chain}
+use Rattle.encoding.specs.ListLaws.{times_exact}
+use Rattle.encoding.proofs.ListLaws.{rising_exact}
 use Rattle.model_files.specs.ModelFile.{Form, has_list, encode_successors, encode_list, FitList}
 use Rattle.model_files.specs.HeaderExact.{header_exact}
 use Rattle.model_files.specs.ReadModel.{early, header, list_count, list, next_list, lists, begun}

@@ -13,7 +13,7 @@ use Rattle.verdict.specs.SetTells.{member_tells}
 use Rattle.encoding.specs.Encode.{Counts}
 use Rattle.encoding.specs.ChainLaws.{each_as}
 use Rattle.bits.specs.Bits.{bit}
-use Rattle.model_files.specs.Actions.{ACTIONS, map_bit, map_past}
+use Rattle.model_files.specs.Actions.{ACTIONS, map_bit}
 use Rattle.model_files.specs.ModelFile.{State, FitList, FitState, FitModel}
 use Rattle.model_files.specs.Described.{blank, state, successors, model_of, mark, row, successor_table}
 
@@ -75,14 +75,3 @@ module _ {m : List State} (f : FitModel m) where
     where
       few : (s : ℕ) → length (state m s).lists ≤ ACTIONS
       few s = each_at {P = λ x. length x.lists ≤ ACTIONS} blank (omega arith) (each_as (λ x (k : FitState (length m) x). omega (arith, k.actions)) f.each) s
-
-  -- the marks tell every action
-  pub cell_tells : (n s u : ℕ) → s < 64 → u < 64 → bit (cell (successor_table m) s u) n ≡ (model_of m).succ n s u
-  unfolding mark
-  cell_tells n s u h k = go (dec_lt n ACTIONS)
-    where
-      go : Dec (n < ACTIONS) → bit (cell (successor_table m) s u) n ≡ (model_of m).succ n s u
-      go (yes l) = cell-is m n s u l h k
-      go (no l) =
-          ap (λ (w : ℕ). bit w n) (cell_mark m s u h k) ∙ map_past ACTIONS (λ (a : ℕ). member (successors (state m s) a) u) n (omega arith)
-          ∙ sym (no_action n s u (omega arith))

@@ -4,7 +4,8 @@ use Rattle.std.proofs.Common.{arith}
 use Rattle.verdict.specs.Tells.{Tells, if_tells, not_tells, leb_tells, eqb_tells}
 use Rattle.encoding.specs.Encode.{OneByte, encode_byte}
 use Rattle.encoding.specs.Parse.{seq, part, four}
-use Rattle.encoding.specs.ParseLaws.{Exact, exact_as, seq_exact, guard_exact, part_exact, byte_exact, two_exact, four_exact}
+use Rattle.encoding.specs.ParseLaws.{Exact, exact_as, seq_exact, guard_exact, part_exact, byte_exact, two_exact}
+use Rattle.encoding.proofs.ParseLaws.{four_exact}
 use Rattle.encoding.specs.Known.{known_exact}
 use Rattle.model_files.specs.ModelFile.{Form, mdl1, mdl2, encode_actions}
 use Rattle.model_files.specs.ReadModel.{early, map, not-zero, masked, actions, header}

@@ -14,8 +14,6 @@ pub mod Lengths
 pub mod ModelDocument
 pub mod OneMore
 pub mod HeaderFaults
-pub mod StateFaults
-pub mod ModelFaults
 -- the model that a file describes
 pub mod Described
 pub mod DescribedLaws

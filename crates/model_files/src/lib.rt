@@ -1,4 +1,4 @@
-// Model files: their encoding in both forms, what 60 to 64 mean, the first fault in the order of the bytes, and that this is exact: in specs/.
+// Model files: their encoding in both forms, what 60 to 64 mean, the first fault in the order of the bytes, and that this is exact: in specs/ and proofs/.
 // Here only the numbers that code above goes by.
 #![tactic(auto)]
 

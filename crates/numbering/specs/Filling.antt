@@ -5,7 +5,7 @@ use Rattle.std.proofs.Common.{sym, ap, subst, ◌∙◌, inl, inr}
 use Rattle.formula.specs.Table.{Table}
 use Rattle.formula.specs.Shape.{Shape, leaf, two, step, fix, name, shape, NoName}
 use Rattle.numbering.specs.Filled.{Numbers, Alike, Operands, Filled}
-use Rattle.numbering.specs.LevelLaws.{alike_no_name, alike_refl, alike_sym, alike_trans, alike_move}
+use Rattle.numbering.specs.LevelLaws.{alike_move}
 
 -- what stands, and the number of e₀ with k₀ names bound
 abbrev pub With : (ℕ → ℕ → Type 0) → ℕ → ℕ → ℕ → ℕ → Type 0
@@ -49,85 +49,29 @@ module _ (t : Table) (is_free : ℕ → ℕ → Bool) where
     same_old : (k e f : ℕ) → on k e → on k f → (new k e ≡ new k f) ↔ (rep k e ≡ rep k f)
     same_old k e f A B = (λ h. sym (old k e A) ∙ h ∙ old k f B, λ h. old k e A ∙ h ∙ sym (old k f B))
 
-    alike_old : (k e f : ℕ) → Operands t is_free on k e (shape t e) → Operands t is_free on k f (shape t f)
+    pub alike_old : (k e f : ℕ) → Operands t is_free on k e (shape t e) → Operands t is_free on k f (shape t f)
         → Alike t is_free new k e f ↔ Alike t is_free rep k e f
     alike_old k e f A B = (alike_move t is_free new rep on (λ k e A. sym (old k e A)) k e f A B, alike_move t is_free rep new on old k e f A B)
 
-    level_old : (k e f : ℕ) → on k e → on k f → NoName (shape t e) → NoName (shape t f) → (new k e ≡ new k f) ↔ Alike t is_free new k e f
+    pub level_old : (k e f : ℕ) → on k e → on k f → NoName (shape t e) → NoName (shape t f) → (new k e ≡ new k f) ↔ Alike t is_free new k e f
     level_old k e f A B n m =
         let (says, holds) = F.level k e f A B n m in
         let (number, number_back) = same_old k e f A B in
         let (alike, alike_back) = alike_old k e f (F.closed k e A) (F.closed k f B) in
         (λ h. alike_back (says (number h)), λ l. number_back (holds (alike l)))
 
-    free_old : (e x : ℕ) → on 0 e → shape t e ≡ name x → With on k₀ e₀ 0 x × (new 0 e ≡ new 0 x)
+    pub free_old : (e x : ℕ) → on 0 e → shape t e ≡ name x → With on k₀ e₀ 0 x × (new 0 e ≡ new 0 x)
     free_old e x A q = let (B, h) = F.free e x A q in (inl B, (same_old 0 e x A B).1 h)
 
-    bounds_old : (e f x y : ℕ) → on 1 e → on 1 f → shape t e ≡ name x → shape t f ≡ name y → new 1 e ≡ new 1 f
+    pub bounds_old : (e f x y : ℕ) → on 1 e → on 1 f → shape t e ≡ name x → shape t f ≡ name y → new 1 e ≡ new 1 f
     bounds_old e f x y A B q r = (same_old 1 e f A B).1 (F.bounds e f x y A B q r)
 
-    apart_old : (e f x : ℕ) → on 1 e → on 1 f → shape t e ≡ name x → NoName (shape t f) → new 1 e ≡ new 1 f → ⊥
+    pub apart_old : (e f x : ℕ) → on 1 e → on 1 f → shape t e ≡ name x → NoName (shape t f) → new 1 e ≡ new 1 f → ⊥
     apart_old e f x A B q n h = F.bound_apart e f x A B q n ((same_old 1 e f A B).0 h)
 
-    closed_with : Operands t is_free on k₀ e₀ (shape t e₀) → (k e : ℕ) → With on k₀ e₀ k e → Operands t is_free (With on k₀ e₀) k e (shape t e)
+    pub closed_with : Operands t is_free on k₀ e₀ (shape t e₀) → (k e : ℕ) → With on k₀ e₀ k e → Operands t is_free (With on k₀ e₀) k e (shape t e)
     closed_with K k e (inl A) = operands_as on (With on k₀ e₀) (λ k e A. inl A) k e (shape t e) (F.closed k e A)
     closed_with K k e (inr (i, j)) = rw (i, j) (operands_as on (With on k₀ e₀) (λ k e A. inl A) k₀ e₀ (shape t e₀) K)
-
-    taken_no_name : {n : ℕ} (T : Taken rep on k₀ e₀ n) → NoName (shape t T.like)
-    taken_no_name T = alike_no_name t is_free rep k₀ e₀ T.like T.level
-
-    -- the number of an entry that is no name
-    abbrev Found : Type 0
-    Found = Taken rep on k₀ e₀ (new k₀ e₀) ⊎ Fresh rep on k₀ e₀ (new k₀ e₀)
-
-    module _ (real : NoName (shape t e₀)) (kids : Operands t is_free on k₀ e₀ (shape t e₀)) where
-      -- against one that stands
-      against : Found → (f : ℕ) → on k₀ f → NoName (shape t f) → (new k₀ e₀ ≡ rep k₀ f) ↔ Alike t is_free rep k₀ e₀ f
-      against (inl T) f B n =
-          let (says, holds) = F.level k₀ T.like f T.stands B (taken_no_name T) n in (
-            λ h. alike_trans t is_free rep k₀ e₀ T.like f T.level (says (sym T.number ∙ h)),
-            λ l. T.number ∙ holds (alike_trans t is_free rep k₀ T.like e₀ f (alike_sym t is_free rep k₀ e₀ T.like T.level) l),
-          )
-      against (inr N) f B n = (λ h. absurd (N.none_has f B h), λ l. absurd (N.none_like f B l))
-
-      level_new : Found → (f : ℕ) → on k₀ f → NoName (shape t f) → (new k₀ e₀ ≡ new k₀ f) ↔ Alike t is_free new k₀ e₀ f
-      level_new c f B n =
-          let (says, holds) = against c f B n in
-          let (alike, alike_back) = alike_old k₀ e₀ f kids (F.closed k₀ f B) in
-          (λ h. alike_back (says (h ∙ old k₀ f B)), λ l. holds (alike l) ∙ sym (old k₀ f B))
-
-      level_with : Found → (k e f : ℕ) → With on k₀ e₀ k e → With on k₀ e₀ k f → NoName (shape t e) → NoName (shape t f)
-          → (new k e ≡ new k f) ↔ Alike t is_free new k e f
-      level_with c k e f (inl A) (inl B) n m = level_old k e f A B n m
-      level_with c k e f (inr (i, j)) (inl B) n m = rw (i, j) (level_new c f (rw i at B) m)
-      level_with c k e f (inl A) (inr (i, j)) n m =
-          let (says, holds) = level_new c e (rw i at A) n in
-          rw (i, j) (λ h. alike_sym t is_free new k₀ e₀ e (says (sym h)), λ l. sym (holds (alike_sym t is_free new k₀ e e₀ l)))
-      level_with c k e f (inr (i, j)) (inr (u, w)) n m = rw (i, j, w) (λ _. alike_refl t is_free new k₀ e₀ real, λ _. refl)
-
-      pub place : Taken rep on k₀ e₀ (new k₀ e₀) ⊎ Fresh rep on k₀ e₀ (new k₀ e₀) → Filled t is_free new (With on k₀ e₀)
-      place c = record { closed = closed_with kids; level = level_with c; free = free; bounds = bounds; bound_apart = bound_apart }
-        where
-          is_name : {A : Type 0} (e x : ℕ) → e ≡ e₀ → shape t e ≡ name x → A
-          is_name e x j q = let z : name x ≡ shape t e₀ = sym q ∙ ap (shape t) j in absurd (rw (← z) at real)
-
-          free : (e x : ℕ) → With on k₀ e₀ 0 e → shape t e ≡ name x → With on k₀ e₀ 0 x × (new 0 e ≡ new 0 x)
-          free e x (inl A) q = free_old e x A q
-          free e x (inr (i, j)) q = is_name e x j q
-
-          bounds : (e f x y : ℕ) → With on k₀ e₀ 1 e → With on k₀ e₀ 1 f → shape t e ≡ name x → shape t f ≡ name y → new 1 e ≡ new 1 f
-          bounds e f x y (inl A) (inl B) q r = bounds_old e f x y A B q r
-          bounds e f x y (inr (i, j)) B q r = is_name e x j q
-          bounds e f x y (inl A) (inr (i, j)) q r = is_name f y j r
-
-          apart : Found → (e x : ℕ) → 1 ≡ k₀ → on 1 e → shape t e ≡ name x → rep 1 e ≡ new 1 e₀ → ⊥
-          apart (inl T) e x i A q h = F.bound_apart e T.like x A (rw (← i) at T.stands) q (taken_no_name T) (h ∙ (rw (← i) at T.number))
-          apart (inr N) e x i A q h = N.none_has e (rw i at A) (rw i at (sym h))
-
-          bound_apart : (e f x : ℕ) → With on k₀ e₀ 1 e → With on k₀ e₀ 1 f → shape t e ≡ name x → NoName (shape t f) → new 1 e ≡ new 1 f → ⊥
-          bound_apart e f x (inr (i, j)) B q n h = is_name e x j q
-          bound_apart e f x (inl A) (inl B) q n h = apart_old e f x A B q n h
-          bound_apart e f x (inl A) (inr (i, j)) q n h = apart c e x i A q (sym (old 1 e A) ∙ (rw j at h))
 
     -- the number of a name: its fixpoint's; where it is bound, one that all bound names have and nothing else
     module _ (x : ℕ) (q : shape t e₀ ≡ name x)

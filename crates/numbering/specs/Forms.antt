@@ -20,7 +20,8 @@ use Rattle.conditions.specs.WellFormedLaws.{operand_below}
 use Rattle.written.specs.Form.{Form, bound}
 use Rattle.written.specs.Written.{clause, written}
 use Rattle.written.specs.Binding.{named_bound}
-use Rattle.written.specs.WrittenLaws.{below, spell_at, written_law}
+use Rattle.written.specs.WrittenLaws.{below, spell_at}
+use Rattle.written.proofs.WrittenLaws.{written_law}
 use Rattle.numbering.specs.FreeNames.{free_by}
 use Rattle.numbering.specs.Only.{only, range, All, only_passes, take_passes, passes_too, only_all, only_only, only_local, only_take}
 use Rattle.numbering.specs.Only.{Distinct, only_distinct, take_distinct, range_distinct, fails_unbound, first_more}
@@ -30,7 +31,7 @@ abbrev pub within : Bool → ℕ → ℕ
 within true k = suc k
 within false k = k
 
--- isFree e x: a test whether x is a free name of e
+-- is_free e x: a test whether x is a free name of e
 module _ (t : Table) (is_free : ℕ → ℕ → Bool) where
   -- the free names of an entry, rising
   abbrev pub names : ℕ → List ℕ

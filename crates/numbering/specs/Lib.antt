@@ -11,5 +11,4 @@ pub mod Count
 pub mod Filled
 pub mod LevelLaws
 pub mod Filling
-pub mod FilledExact
 pub mod FilledCanon

@@ -16,7 +16,8 @@ use Rattle.written.specs.Form.{Form}
 use Rattle.written.specs.Written.{clause, written}
 use Rattle.written.specs.Binding.{Unbound, BoundAt, bound_or_free, not_both, named_bound}
 use Rattle.written.specs.WrittenLaws.{below, spell_at}
-use Rattle.written.specs.Closed.{Occurs, occurs_bound}
+use Rattle.written.specs.Closed.{Occurs}
+use Rattle.written.proofs.Closed.{occurs_bound}
 use Rattle.numbering.specs.Only.{only, marks, Distinct, only_unbound}
 use Rattle.numbering.specs.Renaming.{rename, Moves, below_renamed}
 

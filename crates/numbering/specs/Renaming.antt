@@ -12,7 +12,8 @@ use Rattle.written.specs.Form.{Form, atom, pair, modal, bind, bound}
 use Rattle.written.specs.Written.{named, clause, written}
 use Rattle.written.specs.Binding.{Unbound, BoundAt, named_bound, named_free}
 use Rattle.written.specs.WrittenLaws.{below, spell_at}
-use Rattle.written.specs.Closed.{Occurs, written_closed}
+use Rattle.written.specs.Closed.{Occurs}
+use Rattle.written.proofs.Closed.{written_closed}
 
 -- the renumbering below one fixpoint more
 abbrev pub up : (ℕ → ℕ) → ℕ → ℕ

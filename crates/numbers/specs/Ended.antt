@@ -8,10 +8,12 @@ use Rattle.formula.specs.Table.{Table}
 use Rattle.conditions.specs.WellFormed.{WellFormed}
 use Rattle.formula.specs.Plain.{table_of, table_of_length, table_of_kind}
 use Rattle.written.specs.Canon.{least, canon}
-use Rattle.written.specs.CanonLaws.{least_local, canon_inside}
+use Rattle.written.specs.CanonLaws.{least_local}
+use Rattle.written.proofs.CanonLaws.{canon_inside}
 use Rattle.numbering.specs.Forms.{Fits}
 use Rattle.numbering.specs.Count.{tally, length_tally}
-use Rattle.numbering.specs.FilledCanon.{free_test, has_number, table_canon}
+use Rattle.numbering.specs.FilledCanon.{free_test, has_number}
+use Rattle.numbering.proofs.FilledCanon.{table_canon}
 use Rattle.one_level.specs.Fit.{cell}
 use Rattle.rounds.specs.Stand.{On}
 use Rattle.rounds.specs.Rounds.{Between}

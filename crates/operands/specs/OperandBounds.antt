@@ -79,7 +79,7 @@ module _ (k a b : ℕ) where
       go (no l) (yes q) = rw (name_kind k a b q) refl
       go (no l) (no q) = let (v, q) = leaf_kind k a b (inr (omega arith)) in rw q refl
 
--- operandsOut by the number of the kind
+-- operands_out_lem by the number of the kind
 module _ (k a b e : ℕ) where
   pub out_letter : Kind.LETTER ≤ k → k ≤ Kind.NEGATED → operands_out_lem e (plain_shape k a b) ≡ leb 32 a
   unfolding operands_out_lem

@@ -19,12 +19,13 @@ use Rattle.lent_files.specs.LentSlices.{lent_of}
 use Rattle.calculus.specs.Judge.{judge}
 use Rattle.reader.specs.Files.{Files, files}
 use Rattle.demands.specs.Present.{held, presented_by, if_long, presenting}
-use Rattle.demands.specs.PresentLaws.{Granted, presented_verdict}
+use Rattle.demands.specs.PresentLaws.{Granted}
+use Rattle.demands.proofs.PresentLaws.{presented_verdict}
 use Rattle.demands.specs.Correct.{Correct, Irrefutable}
 use Rattle.demands.specs.Earned.{Earned}
 use Rattle.demands.specs.RefusedAs.{RefusedAs, narrow_decoded, refused_as}
-use Rattle.demands.specs.Demands.{presented_sound, presented_exact, presented_refused}
-use Rattle.demands.specs.Numbered.{packed_zero}
+use Rattle.demands.proofs.Demands.{presented_sound, presented_exact, presented_refused}
+use Rattle.demands.proofs.Numbered.{packed_zero}
 use Rattle.presenting.specs.PresentStep.{right, PresentedStep}
 
 -- the promise of presenting: PresentedStep's three, demand 3, and the refusal that is earned

@@ -20,7 +20,7 @@ use Rattle.formula.specs.Nodes.{Node, node}
 use Rattle.formula.specs.NodeColumns.{Columns}
 use Rattle.formula.specs.PlainNodes.{codes_at_lem, plain_node, proof_of, proof_of_length, proof_of_node}
 use Rattle.written.specs.Canon.{key}
-use Rattle.written.specs.CanonLaws.{canon_formula}
+use Rattle.written.proofs.CanonLaws.{canon_formula}
 use Rattle.calculus.specs.Tree.{Forest, Child, first, second}
 use Rattle.calculus.specs.View.{View, plain}
 use Rattle.calculus.specs.Judge.{ax1_kept, ax2_kept, or_kept, and_kept, box_kept_lem, mu_kept, nu_kept, weaken_kept, focus_kept_lem, discharge_kept, keys, of_kind, belongs, sides, clash, truth, step_kept, tests}

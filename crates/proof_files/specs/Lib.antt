@@ -3,6 +3,5 @@ pub mod ReadProof
 pub mod ProofExact
 pub mod ProofDocument
 pub mod NodeFaults
-pub mod ProofFaults
 pub mod ProofRecords
 pub mod ProofParts

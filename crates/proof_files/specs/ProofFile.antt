@@ -20,7 +20,7 @@ proof_opening clm2 = 80 ∷ 82 ∷ 70 ∷ 50 ∷ []
 abbrev pub encode_rule : ℕ × Bool → List ℕ
 encode_rule h = (low_map_lem h.0 + if_set_lem h.1 16) ∷ h.0 ∷ []
 
--- principal, first child, second child, back link: those whose ifSet stands
+-- principal, first child, second child, back link: those whose if_set_lem stands
 abbrev pub Links : Type 0
 Links = ℕ × (ℕ × (ℕ × ℕ))
 

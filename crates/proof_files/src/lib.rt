@@ -1,5 +1,5 @@
-// Proof files: their encoding in both forms, what 30 to 34 mean, the first fault in the order of the bytes, and that this is exact: in specs/. Here only the
-// numbers that code above goes by.
+// Proof files: their encoding in both forms, what 30 to 34 mean, the first fault in the order of the bytes, and that this is exact: in specs/ and proofs/.
+// Here only the numbers that code above goes by.
 #![tactic(auto)]
 
 // The first four bytes of a proof file beside a claim for one goal, and of one beside a claim for several.

@@ -1,25 +1,18 @@
--- the rank is complete: what is false by itself is refuted, within a number of steps that the table and the model give
+-- what one step more of the rank refutes
 use Rattle.std.specs.Prelude.{◌≡◌, false, ◌⊎◌}
 use Rattle.std.proofs.Math.Path.{refl}
-use Rattle.std.proofs.Common.{true≢false, inl, inr, arith}
-use Prim.Native.Nat.{ℕ, zero, suc, ◌<◌}
-use Rattle.std.proofs.Math.Decide.{dec_lt}
-use Rattle.std.proofs.Math.ListN.{length}
+use Rattle.std.proofs.Common.{inl, inr}
+use Prim.Native.Nat.{ℕ, suc, ◌<◌}
 use Rattle.formula.specs.Table.{Table}
 use Rattle.formula.specs.Shape.{Shape, leaf, two, step, fix, name, or, and, diamond, box, mu, nu, shape, Operand}
 use Rattle.formula.specs.Target.{target_of, target}
 use Rattle.conditions.specs.WellFormed.{WellFormed}
-use Rattle.meaning.specs.States.{Model, StateSet, leaf_set, start}
-use Rattle.meaning.specs.StateLaws.{sub_false}
-use Rattle.meaning.specs.Chain.{iter}
-use Rattle.formula.specs.Below.{by_smaller}
-use Rattle.meaning.specs.Meaning.{own}
-use Rattle.formula.specs.TableLaws.{past_end, target_at}
+use Rattle.meaning.specs.States.{Model, StateSet}
+use Rattle.formula.specs.TableLaws.{target_at}
 use Rattle.conditions.specs.WellFormedLaws.{name_fix}
 use Rattle.rank.specs.FalseSets.{two_false, step_false}
 use Rattle.rank.specs.Rank.{Refuted, by_leaf, by_or, by_left, by_right, by_diamond, by_box, by_nu, by_mu, refuted_by, refuted_more}
-use Rattle.rank.specs.Stages.{stage_clause, stage, stages, enough, rank}
-use Rattle.rank.specs.StageLaws.{stage_at, left_own}
+use Rattle.rank.specs.Stages.{stage_clause, stage}
 
 module _ (M : Model) (t : Table) (wf : WellFormed t) where
   -- refuted at the target within k steps, wherever W is false
@@ -27,7 +20,7 @@ module _ (M : Model) (t : Table) (wf : WellFormed t) where
   Refutes k W e = (s : ℕ) → s < M.size → W e s ≡ false → Refuted M t k (target t e) s
 
   module _ (k : ℕ) (W : ℕ → StateSet) (earlier : (e : ℕ) → Refutes k W e) where
-    refutes_step : (e : ℕ) (v : Shape) → shape t e ≡ v → ((c : ℕ) → Operand v c → Refutes (suc k) (stage M t W) c)
+    pub refutes_step : (e : ℕ) (v : Shape) → shape t e ≡ v → ((c : ℕ) → Operand v c → Refutes (suc k) (stage M t W) c)
         → (s : ℕ) → s < M.size → stage_clause M t W (stage M t W) e v s ≡ false → Refuted M t (suc k) (target_of v e) s
     unfolding stage_clause target_of
     refutes_step e (leaf i) q ih s l h = refuted_by M t q (by_leaf h)
@@ -44,21 +37,3 @@ module _ (M : Model) (t : Table) (wf : WellFormed t) where
     refutes_step e (fix nu a) q ih s l h = refuted_by M t q (by_nu (ih a refl s l h))
     refutes_step e (name x) q ih s l h =
         let (σ, a, p) = name_fix t wf e x q in refuted_more M t (rw (target_at t x p) at (earlier x s l h))
-
-    refutes_more : (e : ℕ) → Refutes (suc k) (stage M t W) e
-    refutes_more = by_smaller (Refutes (suc k) (stage M t W))
-        (λ e ih s l h. rw (target_at t e refl) (refutes_step e (shape t e) refl (λ c o. ih c (wf.operands_below e c o)) s l
-        (rw (stage_at M t wf W e refl) at h)))
-
-  stages_refute : (k e : ℕ) → Refutes k (stages M t k) e
-  unfolding stages iter start
-  stages_refute zero e = λ s l h. absurd (true≢false h)
-  stages_refute (suc k) e = refutes_more k (stages M t k) (stages_refute k) e
-
-  pub false_refuted : (e s : ℕ) → s < M.size → own M t e s ≡ false → Refuted M t (rank M t) (target t e) s
-  unfolding rank
-  false_refuted e s l h = go (dec_lt e (length t))
-    where
-      go : Dec (e < length t) → Refuted M t (rank M t) (target t e) s
-      go (yes m) = stages_refute (suc (enough M t)) e s l (sub_false (left_own M t wf e m) s l h)
-      go (no m) = let q = past_end t e (omega arith) in rw (target_at t e q) (unfold target_of leaf_set in refuted_by M t q (by_leaf refl))

@@ -9,7 +9,8 @@ use Rattle.conditions.specs.WellFormed.{WellFormed}
 use Rattle.meaning.specs.States.{Model, Successor, leaf_set}
 use Rattle.meaning.specs.Meaning.{own}
 use Rattle.rank.specs.FalseSets.{two_false, step_false}
-use Rattle.meaning.specs.OwnLaws.{closed, own_law}
+use Rattle.meaning.specs.OwnLaws.{closed}
+use Rattle.meaning.proofs.OwnLaws.{own_law}
 
 module _ (M : Model) (t : Table) where
   -- entry e of a shape is refuted at s within j modal steps; no rank is kept through a mu

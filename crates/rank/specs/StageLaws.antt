@@ -1,4 +1,4 @@
--- the stage sets settle, and then lie below the own meanings
+-- the stage sets fall and settle, and one step towards it that what is left lies below the own meanings
 use Rattle.std.specs.Prelude.{◌≡◌, ℕ, suc, ◌<◌, length}
 use Rattle.std.proofs.Math.Path.{refl, ap}
 use Rattle.std.proofs.Common.{◌∙◌, inl, inr, arith}
@@ -7,15 +7,15 @@ use Rattle.formula.specs.Shape.{Shape, leaf, two, step, fix, name, Fix, mu, nu, 
 use Rattle.conditions.specs.Free.{Free, named, inside}
 use Rattle.conditions.specs.WellFormed.{WellFormed}
 use Rattle.meaning.specs.States.{Model, StateSet, Sub, leaf_set, two_set, start}
-use Rattle.meaning.specs.StateLaws.{sub_refl, sub_trans, same_sub, same_sym, Toward, toward_bounded, start_first, two_mono, step_mono}
+use Rattle.meaning.specs.StateLaws.{sub_refl, sub_trans, same_sub, Toward, toward_bounded, start_first, two_mono, step_mono}
 use Rattle.meaning.specs.Chain.{iter, settles}
 use Rattle.meaning.specs.Bounds.{Each, each}
-use Rattle.formula.specs.Below.{recur_eq, by_smaller, by_larger}
+use Rattle.formula.specs.Below.{recur_eq, by_smaller}
 use Rattle.meaning.specs.Meaning.{Env, put, clause, meaning, owns, own}
 use Rattle.meaning.specs.MeaningLaws.{put_at, meaning_at, meaning_mono}
-use Rattle.meaning.specs.FixLaws.{nu_greatest}
+use Rattle.meaning.proofs.FixLaws.{nu_greatest}
 use Rattle.formula.specs.TableLaws.{fix_in}
-use Rattle.conditions.specs.WellFormedLaws.{operand_below, free_fix, free_in}
+use Rattle.conditions.specs.WellFormedLaws.{operand_below, free_fix}
 use Rattle.meaning.specs.OwnLaws.{owns_own}
 use Rattle.rank.specs.Stages.{stage_clause, stage, stages, enough}
 
@@ -86,7 +86,7 @@ module _ (M : Model) (t : Table) (wf : WellFormed t) where
       go (σ, b, r) =
           rw (left_at x {v = fix mu b} (rw (wf.no_alternation e x a b mu σ q f r) r)) (unfold stage_clause in same_sub (owns_own M t wf x (fix_in t x b σ r)))
 
-  over-step : (e : ℕ) → e < length t → (v : Shape) → shape t e ≡ v → ((c : ℕ) → Operand v c → Over c) → Over e
+  pub over-step : (e : ℕ) → e < length t → (v : Shape) → shape t e ≡ v → ((c : ℕ) → Operand v c → Over c) → Over e
   unfolding stage_clause clause own
   over-step e l (leaf k) q ih ρ h = rw (left_at e q, meaning_at M t wf e q ρ) (sub_refl (leaf_set M k))
   over-step e l (two o a b) q ih ρ h =
@@ -105,13 +105,3 @@ module _ (M : Model) (t : Table) (wf : WellFormed t) where
       (λ x f. put_at (λ y A. Sub M.size (Left y) A) ρ e (Left e) x (sub_refl (Left e)) (λ ne. h x (inside _ q refl (λ _. ne) f)))))
   over-step e l (name x) q ih ρ h =
       rw (left_at e q, meaning_at M t wf e q ρ) (sub_trans (stages_settle x (wf.names_above e x q).1) (h x (named q)))
-
-  over : (e : ℕ) → e < length t → Over e
-  over = by_smaller (λ e. e < length t → Over e)
-      (λ e ih l. over-step e l (shape t e) refl (λ c o. ih c (wf.operands_below e c o) (omega (arith, wf.operands_below e c o))))
-
-  pub left_own : (e : ℕ) → e < length t → Sub M.size (Left e) (own M t e)
-  unfolding own
-  left_own = by_larger (λ e. Sub M.size (Left e) (own M t e)) (length t)
-      (λ e l ih. over e l (owns M t (length t)) (λ x f.
-      let m = free_in t wf f in sub_trans (ih x (wf.free_above e x f) m) (same_sub (same_sym (owns_own M t wf x m)))))

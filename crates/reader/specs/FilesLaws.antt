@@ -6,7 +6,6 @@ use Rattle.std.proofs.lemmas.List.{length-replicate}
 use Rattle.verdict.specs.Verdict as verdicts
 use Rattle.verdict.specs.Verdict.{Verdict, accepted}
 use Rattle.verdict.specs.VerdictLaws.{accepted_not_refused}
-use Rattle.encoding.specs.Encode.{Bytes}
 use Rattle.encoding.specs.File.{Reading, refused, good}
 use Rattle.encoding.specs.FileLaws.{good_same, refused_not_good}
 use Rattle.encoding.specs.Outcome.{verdict_of, RefusedWith}
@@ -16,7 +15,7 @@ use Rattle.formula.specs.Claim.{Form, clm1, clm2, form_number, Claim, SpelledCla
 use Rattle.formula.specs.Plain.{table_of, table_of_length, table_of_kind}
 use Rattle.formula.specs.Held.{held_claim, goals_of_length}
 use Rattle.conditions.specs.Judge.{plainly, judge_table}
-use Rattle.conditions.specs.JudgeExact.{judge_accepts}
+use Rattle.conditions.proofs.JudgeExact.{judge_accepts}
 use Rattle.claim_files.specs.ReadClaim.{read_claim_lem}
 use Rattle.claims.specs.ClaimWalk.{ClaimGot, held_reading}
 use Rattle.proof_files.specs.ReadProof.{read_proof}
@@ -29,8 +28,6 @@ use Rattle.nodes.specs.ProofGood.{good_decoded}
 use Rattle.reader.specs.Files.{Files, firstly, and_then, formed, read_formed_lem, beside_claim, files}
 use Rattle.reader.specs.Spellings.{held_judged, held_plainly}
 use Rattle.reader.specs.Found.{FilesGot, FilesTell, FewRead, Unread, Tells}
-use Rattle.reader.specs.FormedLaws.{one_goal_lem}
-use Rattle.reader.specs.FilesExact.{formed_exactly}
 use Rattle.reader.specs.declared.FilesRead.{FilesRead}
 use Rattle.reader.specs.declared.FilesRead.TheVariants.{Read, Refused}
 use Rattle.reader.specs.declared.Found.{Found}
@@ -109,16 +106,6 @@ module _ (f : Form) (ks : List ℕ) (n k : ℕ) (s : List ℕ) where
 
   pub kinds_decode : accepted ≡ verdict_of (read_proof (kind_claim f ks n k) s) → Decodes s (nodes_place_lem f k)
   kinds_decode h = (decoded (accepts (read_proof (kind_claim f ks n k) s) (sym h)).was).0
-
--- the form of a claim that was read, and that its entries and goals are few
-pub few_read : (claim : List ℕ) → Bytes claim → {ks xs ys gs ms : List ℕ} {f n k : ℕ} → ClaimGot (read_formed_lem claim) ks xs ys gs ms f n k → FewRead f n k
-few_read claim b {gs = gs} {ms = ms} {k = k} g = record {
-  form = g.claim.form;
-  number = sym g.form;
-  entries = g.held.entries;
-  goals = g.held.goals.few;
-  one = λ e. sym (goals_of_length gs ms k) ∙ ap (λ (c : Claim). length c.goals) g.held.same ∙ one_goal_lem ((formed_exactly claim b).given g.claim g.was) e;
-}
 
 -- so the array has room for its roots
 pub roots_room : {f n k : ℕ} → FewRead f n k → {form : Form} → f ≡ form_number form → {s old os : List ℕ} → RootsStored form k s old os → k ≤ length os

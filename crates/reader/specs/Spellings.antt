@@ -12,7 +12,8 @@ use Rattle.formula.specs.Shape.{shape_of, shape}
 use Rattle.formula.specs.Spelled.{Spelled, b_stands_lem, record_of, marked, records_of, marked_of, table_by, by_length, spelled, zeros, zero_written, records-at, marked_at}
 use Rattle.conditions.specs.Formed.{Unwritten}
 use Rattle.conditions.specs.Judge.{far_step, far, plainly, judge_table}
-use Rattle.conditions.specs.Actions.{still, judge_same}
+use Rattle.conditions.specs.Actions.{still}
+use Rattle.conditions.proofs.Actions.{judge_same}
 
 -- a 0 is written out only of a box or diamond
 zero_modal : (s : Spelled) → zero_written s ≡ true → (Kind.DIAMOND ≤ s.kind) × (s.kind ≤ Kind.BOX)

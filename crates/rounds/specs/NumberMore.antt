@@ -9,7 +9,8 @@ use Rattle.formula.specs.Plain.{table_of, table_of_length}
 use Rattle.conditions.specs.WellFormedLaws.{name_fix}
 use Rattle.numbering.specs.Filled.{Alike, Filled}
 use Rattle.numbering.specs.LevelLaws.{alike_no_name}
-use Rattle.numbering.specs.Filling.{With, Taken, Fresh, filled_as, place, place_name}
+use Rattle.numbering.specs.Filling.{With, Taken, Fresh, filled_as, place_name}
+use Rattle.numbering.proofs.Filling.{place}
 use Rattle.numbering.specs.Count.{tally, none_below, name_tally}
 use Rattle.one_level.specs.Fit.{cell, Fit}
 use Rattle.one_level.specs.LevelTest.{Columns, fit_says, fit_holds}

@@ -21,7 +21,8 @@ use Rattle.calculus.specs.View.{plain}
 use Rattle.calculus.specs.Judge.{codes, keys, step_kept, keeps, rule_number, ancestor, back_kept, claimed, judge}
 use Rattle.calculus.specs.Steps.{keeps_leaf, keeps_other}
 use Rattle.calculus.specs.JudgeExact.{judge_is, claim_stage, rules_stage, loops_stage}
-use Rattle.verdict.specs.ScanLaws.{Passed, scan_passes, scan_fails, after, scan_then}
+use Rattle.verdict.specs.ScanLaws.{Passed, scan_passes, after, scan_then}
+use Rattle.verdict.proofs.ScanLaws.{scan_fails}
 use Rattle.tree.specs.Owners.{Ownerless, OwnersFilled, tree_judged}
 use Rattle.tree.specs.TreeStages.{tree_then, accepted_trees}
 use Rattle.spans.specs.Spans.{CountedOnce}
@@ -175,13 +176,6 @@ module _ (c : Claim) (d : Derivation) where
 
   pub goals_good : goals_judged c d.roots d.nodes ≡ accepted → tree_rules_judged c d ≡ nodes_judged c d.nodes
   goals_good h = rw h refl
-
-  -- 35 first
-  pub tree_bad : {k q : ℕ} → tree_judged d.roots d.nodes ≡ refused k q → judge c d ≡ refused k q
-  tree_bad r = judge_stages c d ∙ rw r refl
-
-  pub tree_good : tree_judged d.roots d.nodes ≡ accepted → judge c d ≡ tree_rules_judged c d
-  tree_good r = judge_stages c d ∙ rw r refl
 
 -- what accepted trees give to the stages after them
 module _ {roots rs ls : List ℕ} {m : ℕ} {owners : List ℕ} (filled : OwnersFilled roots rs ls m Accepted owners) where

@@ -10,11 +10,13 @@ use Rattle.std.proofs.Math.ListN.{length-set}
 use Rattle.std.proofs.lemmas.List.{length-replicate}
 use Rattle.verdict.specs.Tests.{any, member, same, remove, each}
 use Rattle.verdict.specs.Tells.{Tells, tells_as, fails_holds, eqb_tells, and_tells, not_tells, same_test}
-use Rattle.verdict.specs.SetTells.{member_tells, same_tells, lists_self, lists_remove}
+use Rattle.verdict.specs.SetTells.{member_tells, lists_self, lists_remove}
+use Rattle.verdict.proofs.SetTells.{same_tells}
 use Rattle.sequents.specs.Part.{part, part_none, part_before}
 use Rattle.bits.specs.Bits.{bit}
 use Rattle.bits.specs.WordLaws.{with_bit, without_bit, equal_bits}
-use Rattle.bits.specs.WordSet.{in_set, zeros_at, none_in, place, past_words, in_inserted, in_removed}
+use Rattle.bits.specs.WordSet.{in_set, zeros_at, none_in, place, past_words}
+use Rattle.bits.proofs.WordSet.{in_inserted, in_removed}
 
 -- the eight words w, of 64 bits each, hold what the list l holds
 pub record Holds (w l : List ℕ) : Type 0 where

@@ -84,7 +84,7 @@ pub fn eval_entry(
 // Settles a fixpoint whose free names are settled, with its block: itself, and what is reached from it by operands that have a free name
 // and are not settled. Whatever is met and has no free name is evaluated. Then the block's words go from the start until each is formed
 // of the others, in at most b * (s * b + 1) turns for a block of b entries over s states: the second loop's measure begins no higher and
-// falls with each (blocks/specs/Turn: ahead-most, iterating-nearer).
+// falls with each (blocks/specs/Turn: ahead_most, iterating_nearer).
 #[cycle(eval_entry_iterate)]
 fn iterate(
     kinds: &[u8],

@@ -4,10 +4,7 @@ use Rattle.std.proofs.Common.{sym, subst, ◌∙◌, add-one, arith, length-drop
 use Rattle.std.proofs.Math.Path.{ap}
 use mathlib.Core.List.{List, [], ◌∷◌, ◌++◌, map}
 use Rattle.std.proofs.Math.ListN.{length, get_or}
-use Rattle.verdict.specs.Verdict.{Verdict}
 use Rattle.verdict.specs.Lists.{written}
-use Rattle.formula.specs.Claim.{Form}
-use Rattle.formula.specs.Held.{held_claim, held_proof}
 use Rattle.formula.specs.Nodes.{Proof, node}
 use Rattle.formula.specs.PlainNodes.{proof_of}
 use Rattle.formula.specs.Records.{NodeRecord, node_records, all_codes}
@@ -16,13 +13,12 @@ use Rattle.formula.specs.CodeCounts.{few_codes, more_codes}
 use Rattle.proof_files.specs.ProofRecords.{codes_few}
 use Rattle.nodes.specs.ProofDecode.{proof_in, Decodes}
 use Rattle.nodes.specs.ProofStored.{NodesStored}
-use Rattle.calculus.specs.Judge.{judge}
 use Rattle.rules.specs.JudgeStages.{Laid}
 use Rattle.records.specs.Records.{shown_node, shown_nodes, first_nodes, nodes_of, NodeRoom, CountsFit, start_column, rule_column, link_column, total, NodesLoaded}
 use Rattle.records.specs.Shown.{map-take, map_written, nodes_shown, loaded_proof, total_codes}
 use Rattle.records.specs.declared.Node.{Node}
-use Rattle.laid.specs.Readable.{Readable, proof_at, laid, laid_judged, stored_same, stored_starts}
-use Rattle.standing.specs.Standing.{ProofStored, JudgedStored}
+use Rattle.laid.specs.Readable.{Readable, laid, stored_same, stored_starts}
+use Rattle.standing.specs.Standing.{ProofStored}
 
 -- ---- lists of records
 module _ {A B : Type 0} (f : A → B) where
@@ -116,10 +112,10 @@ module _ {ks xs ys : List ℕ} {n : ℕ} {gs ms : List ℕ} {k : ℕ} {os s : Li
       )
 
       module _ {rs' ls' ss' : List ℕ} (loaded : NodesLoaded vs' m rs ls ss rs' ls' ss') where
-        same : proof_of rs' ls' ss' cs m ≡ p
+        pub same : proof_of rs' ls' ss' cs m ≡ p
         same = ap (λ (l : List ℕ). proof_of rs' ls' ss' l m) w.codes ∙ loaded_proof vs' m p cs₀ stand (sym r.nodes) loaded
 
-        starts_same : (v : ℕ) → v ≤ m → get_or ss' v 0 ≡ length (all_codes (take v p))
+        pub starts_same : (v : ℕ) → v ≤ m → get_or ss' v 0 ≡ length (all_codes (take v p))
         unfolding starts_of
         starts_same v l =
             ap (λ (x : List ℕ). get_or x v 0) (loaded.starts ∙ ap (λ (l : List NodeRecord). written (start_column 0 l) ss) stand ∙ ap (λ (c : List ℕ). written c ss) (starts_made 0 p ∙ from_zero))
@@ -128,7 +124,7 @@ module _ {ks xs ys : List ℕ} {n : ℕ} {gs ms : List ℕ} {k : ℕ} {os s : Li
             from_zero : starts_from 0 p ++ ((0 + length (all_codes p)) ∷ []) ≡ starts_from 0 p ++ (length (all_codes p) ∷ [])
             from_zero = ap (λ (n : ℕ). starts_from 0 p ++ (n ∷ [])) (omega arith)
 
-        columns_long : Columns m rs' ls' ss' cs
+        pub columns_long : Columns m rs' ls' ss' cs
         columns_long = record {
           few = columns.few;
           rules = omega (arith, node_room, ap length loaded.rules, no_shorter (rule_column (first_nodes vs' m)) rs);
@@ -140,8 +136,3 @@ module _ {ks xs ys : List ℕ} {n : ℕ} {gs ms : List ℕ} {k : ℕ} {os s : Li
         -- what the judge asks
         pub may_judge : Laid ks xs ys n rs' ls' ss' cs m
         may_judge = laid r columns_long same starts_same
-
-        -- and what it says is said of the proof in the file
-        pub judged_stored : {v : Verdict} → ((f : Form) → v ≡ judge (held_claim f ks xs ys n gs ms k) (held_proof rs' ls' ss' cs m os k))
-            → JudgedStored (λ f. held_claim f ks xs ys n gs ms k) (proof_at s at os k) vs cs₀ v vs' cs
-        judged_stored is = record { verdict = λ f. is f ∙ sym (laid_judged r columns_long same starts_same f); stored = stored }

@@ -10,7 +10,8 @@ use Rattle.meaning.specs.States.{Model}
 use Rattle.bits.specs.Bits.{bit}
 use Rattle.model_files.specs.ModelFile.{State, FitModel}
 use Rattle.model_files.specs.Described.{state, model_of, successor_table}
-use Rattle.model_files.specs.DescribedLaws.{cell, cell_tells, successor_from, successor_inside, size_counts}
+use Rattle.model_files.specs.DescribedLaws.{cell, successor_from, successor_inside, size_counts}
+use Rattle.model_files.proofs.DescribedLaws.{cell_tells}
 use Rattle.states.specs.Words.{words}
 
 -- action a leads from s to u, by the mark of u in row s; only rows and marks of states count

@@ -1,20 +1,11 @@
 -- the successors of each state as words, those by action a from place 64 * a on, and the model that they are
-use Rattle.std.specs.Prelude.{◌≡◌, refl, List, Bool, true, false, ℕ, ◌+◌, ◌*◌, ◌/◌, ◌%◌, ◌<◌, ◌≤◌, length, get_or, set, replicate}
-use Rattle.std.proofs.Common.{ap, ◌∙◌, sym, true≢false, arith, length-set, ext_get_or, get_or-set_same, get_or-set_other, lt-ltb}
-use Rattle.std.proofs.Math.Decide.{dec_lt, ℕ_discrete}
-use Rattle.formula.specs.Table.{Table}
-use Rattle.formula.specs.Shape.{shape}
-use Rattle.conditions.specs.WellFormed.{WellFormed}
+use Rattle.std.specs.Prelude.{◌≡◌, refl, List, true, false, ℕ, ◌+◌, ◌*◌, ◌<◌, ◌≤◌, length, get_or, set}
+use Rattle.std.proofs.Common.{ap, ◌∙◌, sym, true≢false, arith, length-set, get_or-set_same, get_or-set_other}
+use Rattle.std.proofs.Math.Decide.{ℕ_discrete}
 use Rattle.meaning.specs.States.{Model}
-use Rattle.meaning.specs.Meaning.{own}
-use Rattle.meaning.specs.SameModels.{Acts, Agree, own_agrees}
-use Rattle.bits.specs.Bits.{bit, no_bit}
-use Rattle.bits.specs.WordSet.{zeros_at}
+use Rattle.bits.specs.Bits.{bit}
 use Rattle.model_files.specs.DescribedLaws.{cell}
-use Rattle.states.specs.Words.{word, words}
-use Rattle.states.specs.WordLaws.{word_inside, word_past, words_length, words_at}
-use Rattle.states.specs.StateWords.{Inside, word_same}
-use Rattle.states.specs.PlainModel.{plain_model, words_in}
+use Rattle.states.specs.Words.{word}
 
 -- bit u of word 64 * a + s where action a leads from s to u
 abbrev pub row_model : List ℕ → List ℕ → ℕ → Model
@@ -89,38 +80,3 @@ module _ {marks : List (List ℕ)} {used n : ℕ} {old : List ℕ} {q : ℕ} {ne
       go : (a s : ℕ) → a < q + 1 → bit used a ≡ true → s < n → Dec (a ≡ q) → get_or next (64 * a + s) 0 ≡ row_word_lem marks n a s
       go a s h c l (yes e) = rw e (F.there s l)
       go a s h c l (no ne) = F.away (64 * a + s) (λ u k e. ne (omega arith)) ∙ R.there a s (omega arith) c l
-
--- made from nothing
-module _ (k : ℕ) {marks : List (List ℕ)} {used n : ℕ} {rows : List ℕ} (few : n ≤ 64) (R : RowWords marks used n (replicate k 0) 16 rows) where
-  pub rows_inside : (m : ℕ) → Inside n m rows
-  rows_inside m i u h past = go (dec_lt (i / 64) 16) (bit used (i / 64)) refl (dec_lt (i % 64) n)
-    where
-      place : i ≡ 64 * (i / 64) + i % 64
-      place = omega arith
-
-      else : ((a s : ℕ) → a < 16 → bit used a ≡ true → s < n → i ≡ 64 * a + s → ⊥) → bit (get_or rows i 0) u ≡ false
-      else none = ap (λ (w : ℕ). bit w u) (R.away i none ∙ zeros_at k i) ∙ no_bit u
-
-      go : Dec (i / 64 < 16) → (b : Bool) → bit used (i / 64) ≡ b → Dec (i % 64 < n) → bit (get_or rows i 0) u ≡ false
-      go (yes l) true b (yes t) =
-          ap (λ (w : ℕ). bit w u) (ap (λ (j : ℕ). get_or rows j 0) place ∙ R.there (i / 64) (i % 64) l b t) ∙ word_past n _ u past
-      go (yes l) true b (no t) = else (λ a s x y z e. t (omega arith))
-      go (yes l) false b t = else (λ a s x y z e. let same : a ≡ i / 64 = omega arith in true≢false (sym y ∙ ap (bit used) same ∙ b))
-      go (no l) c b t = else (λ a s x y z e. l (omega arith))
-
-  -- where the map has every action of the table, they give its entries the words of the marks
-  module _ (masks : List ℕ) (t : Table) (within : (e a : ℕ) → Acts (shape t e) a → (a < 16) × (bit used a ≡ true)) where
-    agree : Agree t (row_model masks rows n) (plain_model masks marks n)
-    agree = record {
-      size = refl;
-      letters = λ s p l. refl;
-      successors = λ e a h s u l k. let (x, y) = within e a h in rw (R.there a s x y l, lt-ltb s n l, lt-ltb u n k) (word_inside n _ u k);
-    }
-
-    pub rows_words : WellFormed t → words (row_model masks rows n) t ≡ words_in masks marks n t
-    rows_words wf =
-        let M = row_model masks rows n in
-        let N = plain_model masks marks n in
-        ext_get_or 0 (words M t) (words N t) (words_length M t ∙ sym (words_length N t))
-        (λ e h. let l : e < length t = omega (arith, words_length M t) in
-        words_at M t e l ∙ word_same n (own M t e) (own N t e) (own_agrees agree wf e) ∙ sym (words_at N t e l))

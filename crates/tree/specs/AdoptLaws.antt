@@ -1,6 +1,6 @@
 -- one parent's step over rules and links in plain numbers, as the code takes it
 use Rattle.std.specs.Prelude.{◌≡◌, Bool, true, false, List, ℕ, ◌+◌, ◌*◌, ◌<◌, get_or, set}
-use Rattle.std.proofs.Common.{sym, ◌∙◌, arith}
+use Rattle.std.proofs.Common.{sym, ◌∙◌}
 use Rattle.std.proofs.lemmas.Bool.{false≢true}
 use Rattle.formula.specs.Fields.{has_first_lem, has_second_lem}
 use Rattle.tree.specs.Owners.{unowned, TakenBy, OneChild, OneParent}

@@ -19,7 +19,8 @@ use Rattle.calculus.specs.Tree.{Forest, Trees}
 use Rattle.calculus.specs.View.{owner, plain}
 use Rattle.calculus.specs.Judge.{children_fit, adopted, parent}
 use Rattle.calculus.specs.TreeLaws.{children_fit_tells, adopted_tells, to_trees, parent_child}
-use Rattle.verdict.specs.ScanLaws.{Passed, scan_passes, scan_fails, after, scan_then}
+use Rattle.verdict.specs.ScanLaws.{Passed, scan_passes, after, scan_then}
+use Rattle.verdict.proofs.ScanLaws.{scan_fails}
 use Rattle.tree.specs.Owners.{ROOT, Owned, Taken, TakenBy, OneParent, children_judged, orphans_judged, tree_judged, ChildrenTaken, OwnersFilled, Parented}
 use Rattle.tree.specs.Stamps.{Stamped, stamped_is}
 

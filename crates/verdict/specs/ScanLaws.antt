@@ -2,7 +2,7 @@
 use Rattle.std.specs.Prelude.{◌≡◌, refl, Bool, true, false, ℕ, zero, suc, ◌+◌, ◌<◌, ◌≤◌}
 use Rattle.std.proofs.Common.{arith, below_more}
 use Rattle.verdict.specs.Verdict.{Verdict, accepted, refused, pick, scan}
-use Rattle.verdict.specs.VerdictLaws.{scan_holds, scan_first}
+use Rattle.verdict.specs.VerdictLaws.{scan_holds}
 
 abbrev pub Passed : (ℕ → Bool) → ℕ → Type 0
 Passed ok v = (w : ℕ) → w < v → ok w ≡ true
@@ -10,9 +10,6 @@ Passed ok v = (w : ℕ) → w < v → ok w ≡ true
 module _ (ok : ℕ → Bool) (number : ℕ → ℕ) (n : ℕ) (rest : Verdict) where
   pub scan_passes : Passed ok n → scan ok number n 0 rest ≡ rest
   scan_passes f = scan_holds ok number n 0 rest (λ w _ h. f w (omega arith))
-
-  pub scan_fails : (v : ℕ) → v < n → Passed ok v → ok v ≡ false → scan ok number n 0 rest ≡ refused (number v) v
-  scan_fails v h f bad = scan_first ok number n 0 rest (record { inside = omega arith; bad = bad; numbered = refl; before = λ w _ k. f w k })
 
 -- the first number below v that fails, or none: then bad is not below n
 pub record FirstBad (ok : ℕ → Bool) (n v bad : ℕ) : Type 0 where
@@ -28,9 +25,6 @@ module _ {ok : ℕ → Bool} {n v bad : ℕ} (F : FirstBad ok n v bad) where
 
   pub bad_here : n ≤ bad → v < n → ok v ≡ false → FirstBad ok n (v + 1) v
   bad_here h l e = record { failed = λ _. (omega arith, (F.none h, e)); none = λ k. absurd (omega arith) }
-
-pub bad_found : {ok : ℕ → Bool} {n bad : ℕ} (number : ℕ) → FirstBad ok n n bad → bad < n → scan ok (λ _. number) n 0 accepted ≡ refused number bad
-bad_found {ok} {n} {bad} number F h = scan_fails ok (λ _. number) n accepted bad h (F.failed h).1.0 (F.failed h).1.1
 
 pub none_found : {ok : ℕ → Bool} {n bad : ℕ} (number : ℕ) → FirstBad ok n n bad → n ≤ bad → scan ok (λ _. number) n 0 accepted ≡ accepted
 none_found {ok} {n} {bad} number F h = scan_passes ok (λ _. number) n accepted (F.none h)

@@ -6,7 +6,7 @@ use mathlib.Core.List.Memᴰ
 use mathlib.Core.List.{List, [], ◌∷◌}
 use Rattle.std.proofs.lemmas.Bool.{false≢true}
 use Rattle.verdict.specs.Sets.{Set, Same, ◌⊆◌, elements, without, image, ◌plus◌}
-use Rattle.verdict.specs.Tests.{all, any, member, same, keep, remove, each}
+use Rattle.verdict.specs.Tests.{all, any, member, keep, remove, each}
 use Rattle.verdict.specs.Tells.{Tells, tells_as, eqb_tells, and_tells, or_tells, not_tells}
 
 module _ {f : ℕ → Bool} {P : Set ℕ} (x : (c : ℕ) → Tells (f c) (P c)) where
@@ -93,10 +93,3 @@ lists_each f (x ∷ l) = record { into = into (lists_each f l); from = λ c (d, 
     from : Lists (each f l) (image f (elements l)) → (c d : ℕ) → elements (x ∷ l) d → c ≡ f d → elements (f x ∷ each f l) c
     from s c d (Memᴰ.head q) e = Memᴰ.head (e ∙ ap f q)
     from s c d (Memᴰ.tail m) e = Memᴰ.tail (s.from c (d, m, e))
-
-pub same_tells : (l : List ℕ) {r : List ℕ} {R : Set ℕ} → Lists r R → Tells (same l r) (Same (elements l) R)
-unfolding same
-same_tells l {r} s = tells_as
-    (λ (f, g). same_trans (record { into = f; from = g }) s)
-    (λ q. let z = same_trans q (same_sym s) in (z.into, z.from))
-    (and_tells (all_tells (member_tells r) l) (all_tells (member_tells l) r))

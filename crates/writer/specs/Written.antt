@@ -22,9 +22,11 @@ use Rattle.writing.specs.Writing.{ClaimRecords, ProofRecords, writing_claim, wri
 use Rattle.writing.specs.Ends.{End, next, stop}
 use Rattle.writing.specs.ProofEnds.{nodes_over}
 use Rattle.writing.specs.Encoded.{claim_judged, proof_judged, ClaimPasses}
-use Rattle.writing.specs.Promises.{WriteClaim, write_claim_lem, WriteProof, write_proof_lem}
+use Rattle.writing.specs.Promises.{WriteClaim, WriteProof}
+use Rattle.writing.proofs.Promises.{write_claim_lem, write_proof_lem}
 use Rattle.writing.specs.Held.{plain_record, records_of, ColumnsFor, ClaimWritten, ProofWritten, NodesGiven}
-use Rattle.writing.specs.Answers.{answered, claim_short, claim_formless, claim_answers, proof_short, proof_formless, claim_stops_proof, proof_answers}
+use Rattle.writing.specs.Answers.{answered, claim_short, claim_formless, proof_short, proof_formless}
+use Rattle.writing.proofs.Answers.{claim_answers, claim_stops_proof, proof_answers}
 use Rattle.laying.specs.Laying.{NodeRoom}
 use Rattle.laying.specs.Goals.{GoalsRoom}
 

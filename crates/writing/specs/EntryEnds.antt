@@ -5,7 +5,7 @@ use Rattle.std.proofs.Common.{sym, ◌∙◌, append_assoc, arith, length-append
 use Rattle.std.proofs.Math.Bool.{true, false}
 use Rattle.std.proofs.lemmas.Bool.{false≢true}
 use Rattle.std.proofs.Math.Dec.{leb}
-use Rattle.verdict.specs.Tells.{Tells, tells_self, and_tells}
+use Rattle.verdict.specs.Tells.{tells_self, and_tells}
 use Rattle.verdict.specs.Tests.{choose}
 use Rattle.bits.specs.IfSet.{if_set_lem, if_set_le}
 use Rattle.formula.specs.Kind
@@ -15,13 +15,13 @@ use Rattle.formula.specs.Claim.{Form, fewest}
 use Rattle.formula.specs.Fields.{has_a_lem, has_b, is_modal_lem, map_of}
 use Rattle.encoding.specs.Encode.{encode_field, encode_all, Counts}
 use Rattle.encoding.specs.ListLaws.{range_tells}
-use Rattle.encoding.specs.Parse.{Got, fault, got, pick, bind, via, in_range, times}
+use Rattle.encoding.specs.Parse.{Got, fault, got, pick, bind, via, in_range}
 use Rattle.claim_files.specs.ClaimFile.{encode_entry}
-use Rattle.claim_files.specs.ReadClaim.{early, kind_fits, fields, made, entry, entries}
+use Rattle.claim_files.specs.ReadClaim.{early, kind_fits, fields, made, entry}
 use Rattle.writing.specs.RecordBytes.{stands, entry_bytes, table_bytes}
-use Rattle.writing.specs.Spelling.{map_for_lem, spelled_as, spelling_of, modal_fields, bits_stand}
-use Rattle.writing.specs.Ends.{End, next, stop, go_on, walk, got_by, stop_not_next, passed, went, next_same, Meets, times_walk, walk_past}
-use Rattle.writing.specs.FieldEnds.{field_meets, field_long, may_hold_lem, held_stands, stands_held, count_end, count_meets}
+use Rattle.writing.specs.Spelling.{map_for_lem, spelled_as, modal_fields, bits_stand}
+use Rattle.writing.specs.Ends.{End, next, stop, go_on, walk, got_by, stop_not_next, passed, went, next_same, Meets, walk_past}
+use Rattle.writing.specs.FieldEnds.{field_meets, field_long, may_hold_lem, held_stands, stands_held, count_end}
 
 -- a field that the kind lacks holds 0; B of a box or diamond is its action
 abbrev pub entry_fits_lem : Entry → Bool
@@ -147,22 +147,6 @@ entries_end es at = walk entry_end (λ _ _. 0) 0 es at
 -- the entry count of the form, then the entries
 abbrev pub table_end : Form → ℕ → Table → ℕ → End
 table_end f n es at = go_on (count_end (fewest f) 256 12 n at) (λ o. entries_end es o)
-
-module _ (es : Table) (rest : List ℕ) where
-  entries_walked : (at : ℕ) → times (λ _. entry) (λ _ _. 0) (length es) 0 (encode_all entry_bytes es ++ rest) at ≡ got_by (spelling_of es) rest (entries_end es at)
-  unfolding walk
-  entries_walked at = times_walk (λ _. entry) (λ _ _. 0) entry_bytes spelled_as entry_end (λ _ _. 0) (λ c x. refl) entry_meets es 0 rest at
-
-  pub table_read : (f : Form) (n at : ℕ) → (n ≤ 256 → length es ≡ n) → entries f (table_bytes n es ++ rest) at ≡ got_by (spelling_of es) rest (table_end f n es at)
-  unfolding entries walk times
-  table_read f n at long =
-      ap (λ (g : Got ℕ). bind g (λ n r o. times (λ _. entry) (λ _ _. 0) n 0 r o)) (count_meets early (fewest f) 256 12 (omega arith) n (encode_all entry_bytes es ++ rest) at)
-      ∙ go (in_range (fewest f) 256 n) (range_tells (fewest f) 256 n)
-    where
-      go : (b : Bool) → Tells b (Counts (fewest f) 256 n) → bind (got_by n (encode_all entry_bytes es ++ rest) (pick b (next (at + 2)) (stop 12 at))) (λ n r o. times (λ _. entry) (λ _ _. 0) n 0 r o)
-          ≡ got_by (spelling_of es) rest (go_on (pick b (next (at + 2)) (stop 12 at)) (λ o. entries_end es o))
-      go false t = refl
-      go true t = ap (λ (m : ℕ). times (λ _. entry) (λ _ _. 0) m 0 (encode_all entry_bytes es ++ rest) (at + 2)) (sym (long (t.says refl).1)) ∙ entries_walked (at + 2)
 
 -- a table that passes ends after its bytes; one that does not is refused by 12 or 13
 pub table_past : (f : Form) (n : ℕ) (es : Table) (o : ℕ) → table_end f n es 4 ≡ next o → Counts (fewest f) 256 n × (o ≡ 4 + length (table_bytes n es))

@@ -80,11 +80,6 @@ pub first_there : (k : ℕ) (gs ms : List ℕ) → total (k ∷ gs) ≤ length m
 unfolding total
 first_there k gs ms h = length-take-le k ms (omega arith)
 
-pub lengths_split : (gs ms : List ℕ) → total gs ≤ length ms → lengths (split gs ms) ≡ gs
-unfolding total split
-lengths_split [] ms h = refl
-lengths_split (k ∷ gs) ms h = rw (first_there k gs ms h, lengths_split gs (drop k ms) (omega (arith, length-drop k ms))) refl
-
 pub joined_split : (gs ms : List ℕ) → total gs ≡ length ms → joined (split gs ms) ≡ ms
 unfolding total split joined
 joined_split [] [] h = refl

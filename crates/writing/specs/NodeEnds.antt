@@ -18,7 +18,7 @@ use Rattle.formula.specs.Records.{NodeRecord}
 use Rattle.formula.specs.Fields.{has_principal_lem, has_first_lem, has_second_lem, has_back_lem, low_map_lem, link_width_lem, link_width_le}
 use Rattle.encoding.specs.Encode.{encode_two, encode_part, encode_field, encode_all, Counts}
 use Rattle.encoding.specs.ListLaws.{range_tells}
-use Rattle.encoding.specs.Parse.{Got, fault, got, pick, bind, guard, via, seq, part, two, count, in_range, fits_from, times}
+use Rattle.encoding.specs.Parse.{Got, fault, got, pick, bind, guard, via, seq, part, two, in_range, fits_from, times}
 use Rattle.proof_files.specs.ProofFile.{Links, encode_codes, encode_node, full}
 use Rattle.proof_files.specs.ReadProof.{early, rule_of, fields, is_code_lem, sequent, made, node}
 use Rattle.writing.specs.RecordBytes.{stands, node_bytes}

@@ -1,4 +1,4 @@
--- an entry's number is that of an entry with the same formula, and tells it
+-- the least entry of a formula that is no name
 use Rattle.std.specs.Prelude.{◌≡◌, refl, ◌≢◌, Bool, true, false, ℕ, zero, suc, ◌+◌, ◌<◌, ◌≤◌, length}
 use Rattle.std.proofs.Common.{sym, ◌∙◌, true≢false, arith}
 use Rattle.std.proofs.Math.Path.{ap}
@@ -8,15 +8,8 @@ use Rattle.verdict.specs.Tells.{Tells, eqb_tells, and_tells, not_tells}
 use Rattle.formula.specs.Kind
 use Rattle.formula.specs.Table.{Table, kind}
 use Rattle.formula.specs.Codes.{Formula}
-use Rattle.formula.specs.Shape.{shape, NoName}
-use Rattle.formula.specs.ShapeLaws.{name_shape}
-use Rattle.formula.specs.Target.{target}
-use Rattle.formula.specs.TableLaws.{fix_in, target_by}
-use Rattle.conditions.specs.WellFormed.{WellFormed}
-use Rattle.conditions.specs.WellFormedLaws.{name_fix}
 use Rattle.written.specs.Form.{Form, same_form}
 use Rattle.written.specs.Written.{written, SameFormula}
-use Rattle.written.specs.WrittenLaws.{written_target}
 use Rattle.written.specs.Canon.{least, has_form, canon}
 
 least_passes : (ok : ℕ → Bool) (n i e : ℕ) → i ≤ e → e < i + n → ok e ≡ true → (least ok n i < i + n) × (ok (least ok n i) ≡ true)
@@ -48,7 +41,7 @@ module _ (t : Table) where
       and_tells (not_tells (eqb_tells (kind t f) Kind.NAME)) (record { says = says; holds = holds })
 
   -- an entry's number is that of an entry of the table, no name, with the same formula
-  canon_has : (e : ℕ) → Formula t e → Formula t (canon t e) × SameFormula t e (canon t e)
+  pub canon_has : (e : ℕ) → Formula t e → Formula t (canon t e) × SameFormula t e (canon t e)
   unfolding canon
   canon_has e F =
       let mine = (has_form_tells (written t e) e).holds (F.no_name, refl) in
@@ -56,25 +49,6 @@ module _ (t : Table) where
       let (n, q) = (has_form_tells (written t e) (canon t e)).says p in
       (record { inside = omega arith; no_name = n }, q)
 
-  pub canon_formula : (e : ℕ) → Formula t e → Formula t (canon t e)
-  canon_formula e F = (canon_has e F).0
-
-  pub canon_written : (e : ℕ) → Formula t e → SameFormula t e (canon t e)
-  canon_written e F = (canon_has e F).1
-
-  -- entries are the same formula just when their numbers are equal
-  pub canon_says : (e f : ℕ) → Formula t e → Formula t f → canon t e ≡ canon t f → SameFormula t e f
-  canon_says e f E F q = canon_written e E ∙ ap (written t) q ∙ sym (canon_written f F)
-
   pub canon_holds : (e f : ℕ) → SameFormula t e f → canon t e ≡ canon t f
   unfolding canon
   canon_holds e f q = ap (λ (F : Form). least (has_form t F) (length t) 0) q
-
-  real : (e : ℕ) → e < length t → NoName (shape t e) → Formula t e
-  real e h n = record { inside = h; no_name = λ q. absurd (rw (name_shape t e q) at n) }
-
-  -- a name has the number of its fixpoint
-  pub canon_inside : WellFormed t → (e : ℕ) → e < length t → canon t e < length t
-  canon_inside wf e h =
-      let F = target_by t e (Formula t) (real e h) (λ x q. let (σ, a, s) = name_fix t wf e x q in real x (fix_in t x a σ s) (rw s tt)) in
-      omega (arith, canon_holds e (target t e) (written_target t wf e), (canon_formula (target t e) F).inside)

@@ -9,8 +9,6 @@ pub mod Unfolding
 -- meaning, rank and kind go by the formula
 pub mod FormMeaning
 pub mod SameShape
-pub mod SameRank
-pub mod SameKind
 -- a number for each formula
 pub mod Canon
 pub mod CanonLaws

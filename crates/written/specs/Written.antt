@@ -37,7 +37,7 @@ module _ (t : Table) where
   replaced zero e = atom never
   replaced (suc d) e = spell (replaced d) e []
 
-  -- a free name's fixpoint lies above the entry, so there cannot be more of them one inside the other than entries (written-law)
+  -- a free name's fixpoint lies above the entry, so there cannot be more of them one inside the other than entries (written_law)
   unfoldable pub written : ℕ → Form
   unfolding replaced
   written e = replaced (suc (length t)) e

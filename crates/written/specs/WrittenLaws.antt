@@ -1,20 +1,19 @@
--- an entry's formula by the shape of the entry and by the formulas of its free names; replacing them comes to an end
+-- what is written for an entry goes by the entry's shape and by the formulas of its free names
 use Rattle.std.specs.Prelude.{◌≡◌, ◌⊎◌, length}
 use Rattle.std.proofs.Math.Path.{refl, sym, ap, ap₂}
 use Rattle.std.proofs.Common.{◌∙◌, inl, inr, arith}
 use mathlib.Core.List.{List, [], ◌∷◌}
-use Prim.Native.Nat.{ℕ, zero, suc, ◌+◌, ◌<◌, ◌≤◌}
+use Prim.Native.Nat.{ℕ, ◌<◌}
 use Rattle.std.proofs.Math.Decide.{dec_lt}
 use Rattle.formula.specs.Table.{Table}
 use Rattle.formula.specs.Shape.{Shape, leaf, two, step, fix, name, never, shape, Operand}
 use Rattle.formula.specs.Target.{target}
-use Rattle.formula.specs.TableLaws.{target_by}
-use Rattle.formula.specs.Below.{recur_eq, by_smaller, by_larger}
+use Rattle.formula.specs.Below.{recur_eq, by_larger}
 use Rattle.conditions.specs.Free.{Free, named as by_name, inside}
 use Rattle.conditions.specs.WellFormed.{WellFormed}
 use Rattle.conditions.specs.WellFormedLaws.{free_in}
 use Rattle.written.specs.Form.{Form, atom, pair, modal, bind}
-use Rattle.written.specs.Written.{named, clause, spell, replaced, written}
+use Rattle.written.specs.Written.{named, clause, spell, written}
 use Rattle.written.specs.Binding.{Unbound, BoundAt, bound_or_free, named_bound, named_free}
 
 -- entry e below the fixpoints s
@@ -56,7 +55,7 @@ module _ (t : Table) (wf : WellFormed t) where
   abbrev Local : (ℕ → Form) → (ℕ → Form) → ℕ → Type 0
   Local f g e = (s : List ℕ) → Agree f g e s → spell t f e s ≡ spell t g e s
 
-  local_step : (f g : ℕ → Form) (e : ℕ) (v : Shape) → shape t e ≡ v → ((c : ℕ) → Operand v c → Local f g c)
+  pub local_step : (f g : ℕ → Form) (e : ℕ) (v : Shape) → shape t e ≡ v → ((c : ℕ) → Operand v c → Local f g c)
       → (s : List ℕ) → Agree f g e s → clause f (spell t f) e v s ≡ clause g (spell t g) e v s
   unfolding clause
   local_step f g e (leaf l) q ih s h = refl
@@ -73,36 +72,6 @@ module _ (t : Table) (wf : WellFormed t) where
       go (inl (i, b)) = named_bound f s x i b ∙ sym (named_bound g s x i b)
       go (inr u) = named_free f s x u ∙ h x (by_name q) u ∙ sym (named_free g s x u)
 
-  spell_local : (f g : ℕ → Form) (e : ℕ) → Local f g e
-  spell_local f g = by_smaller (Local f g)
-      (λ e ih s h. spell_at f e refl s ∙ local_step f g e (shape t e) refl (λ c o. ih c (wf.operands_below e c o)) s h ∙ sym (spell_at g e refl s))
-
-  -- any two numbers of replacements that reach the end of the table agree
-  enough : (d k e : ℕ) → e < length t → length t ≤ e + d → length t ≤ e + k → replaced t d e ≡ replaced t k e
-  unfolding replaced
-  enough zero k e i h l = absurd (omega arith)
-  enough (suc d) zero e i h l = absurd (omega arith)
-  enough (suc d) (suc k) e i h l =
-      spell_local (replaced t d) (replaced t k) e []
-      (λ x r _. let up = wf.free_above e x r in enough d k x (free_in t wf r) (omega arith) (omega arith))
-
-  -- what is written for a free name is its fixpoint's formula
-  pub written_law : (e : ℕ) → written t e ≡ below t e []
-  unfolding written replaced
-  written_law e =
-      spell_local (replaced t (length t)) (written t) e []
-      (λ x r _. enough (length t) (suc (length t)) x (free_in t wf r) (omega arith) (omega arith))
-
-  written_at : (e : ℕ) {v : Shape} → shape t e ≡ v → written t e ≡ clause (written t) (below t) e v []
-  written_at e q = written_law e ∙ spell_at (written t) e q []
-
-  written_name : (e x : ℕ) → shape t e ≡ name x → written t e ≡ written t x
-  unfolding clause named
-  written_name e x q = written_at e q
-
-  pub written_target : (e : ℕ) → written t e ≡ written t (target t e)
-  written_target e = target_by t e (λ d. written t e ≡ written t d) (λ _. refl) (written_name e)
-
   -- the formula that a shape makes of its targets' formulas; the body of a fixpoint is read below it
   unfoldable pub shaped : ℕ → Shape → Form
   shaped e (leaf l) = atom l
@@ -110,12 +79,3 @@ module _ (t : Table) (wf : WellFormed t) where
   shaped e (step m a) = modal m (written t (target t a))
   shaped e (fix σ a) = bind σ (below t a (e ∷ []))
   shaped e (name x) = written t x
-
-  pub written_shape : (e : ℕ) (v : Shape) → shape t e ≡ v → written t e ≡ shaped e v
-  unfolding shaped clause named
-  written_shape e (leaf l) q = written_at e q
-  written_shape e (two o a b) q =
-      written_at e q ∙ ap₂ {C = Form} (λ F G. pair o F G) (sym (written_law a) ∙ written_target a) (sym (written_law b) ∙ written_target b)
-  written_shape e (step m a) q = written_at e q ∙ ap (λ (F : Form). modal m F) (sym (written_law a) ∙ written_target a)
-  written_shape e (fix σ a) q = written_at e q
-  written_shape e (name x) q = written_at e q

@@ -1,5 +1,4 @@
 -- `ax1_kept` meets its contract, from what `clash` promises.
-use borrow.Author.Rules.{rules}
 use Rattle.axioms.proofs.ax1_kept.Goals as goal
 
 pub clash-requires : goal.clash-requires

@@ -1,5 +1,4 @@
 -- `ax2_kept` meets its contract, from what `truth` promises.
-use borrow.Author.Rules.{rules}
 use Rattle.axioms.proofs.ax2_kept.Goals as goal
 
 pub truth-requires : goal.truth-requires

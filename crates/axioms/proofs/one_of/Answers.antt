@@ -1,7 +1,6 @@
 -- `one_of` meets its contract, test by test.
 use mathlib.Core.Path.{refl}
 use borrow.Author.Tests.{eq-eqb, ne_eqb}
-use borrow.Author.Rules.{rules}
 use Rattle.axioms.proofs.one_of.Goals as goal
 
 pub returns-then-member-x : goal.returns-then-member-x

@@ -1,11 +1,8 @@
-use mathlib.Core.Path.{◌≡◌, refl, sym, ◌∙◌}
-use Prim.Native.Nat.{◌≤◌, ◌-◌}
+use mathlib.Core.Path.{refl, sym, ◌∙◌}
 use native.Mathlib.Omega.{arith}
 use borrow.Author.Rules.{rules}
-use Rattle.verdict.specs.Tests.{all}
-use Rattle.sequents.specs.Keys.{keys_of}
-use Rattle.sequents.specs.Part.{part, span_small}
-use Rattle.axioms.specs.AxiomParts.{one_of, only_on, only_stop, only_end}
+use Rattle.sequents.specs.Part.{span_small}
+use Rattle.axioms.specs.AxiomParts.{only_on, only_stop, only_end}
 use Rattle.sequents.specs.KeptLaws.{was_false, was_true}
 use Rattle.std.proofs.Common.{ap}
 use Rattle.std.specs.Prelude.{not}

@@ -1,15 +1,10 @@
 -- `only` meets its contract. The invariant: the test of all members is the test of those from i on.
-use mathlib.Core.Path.{◌≡◌, refl, sym, ◌∙◌}
+use mathlib.Core.Path.{◌≡◌}
 use Prim.Native.Nat.{◌≤◌, ◌-◌}
-use native.Mathlib.Omega.{arith}
-use borrow.Author.Rules.{rules}
 use Rattle.verdict.specs.Tests.{all}
 use Rattle.sequents.specs.Keys.{keys_of}
-use Rattle.sequents.specs.Part.{part, span_small}
-use Rattle.axioms.specs.AxiomParts.{one_of, only_on, only_stop, only_end}
-use Rattle.sequents.specs.KeptLaws.{was_false, was_true}
-use Rattle.std.proofs.Common.{ap}
-use Rattle.std.specs.Prelude.{not}
+use Rattle.sequents.specs.Part.{part}
+use Rattle.axioms.specs.AxiomParts.{one_of}
 use Rattle.axioms.proofs.only.Given as goal
 
 abbrev pub invariant-loop-i : goal.invariant-loop-i

@@ -1,7 +1,6 @@
 -- `opposite` meets its contract, test by test.
 use mathlib.Core.Path.{refl}
 use borrow.Author.Tests.{eq-eqb, ne_eqb}
-use borrow.Author.Rules.{rules}
 use Rattle.formula.specs.Plain.{table_of_kind, table_of_a}
 use Rattle.formula.specs.Codes.{entry_of_lem}
 use Rattle.calculus.specs.Judge.{opposite as Opposite}

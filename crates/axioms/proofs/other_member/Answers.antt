@@ -1,10 +1,8 @@
-use mathlib.Core.Path.{◌≡◌, sym, ◌∙◌}
-use Prim.Native.Nat.{◌≤◌, ◌+◌, ◌-◌}
+use mathlib.Core.Path.{sym, ◌∙◌}
 use native.Mathlib.Omega.{arith}
 use borrow.Author.Rules.{rules}
-use Rattle.sequents.specs.Keys.{keys_of}
-use Rattle.sequents.specs.Part.{part, span_small}
-use Rattle.axioms.specs.AxiomParts.{first_other, other_on, other_here, other_end}
+use Rattle.sequents.specs.Part.{span_small}
+use Rattle.axioms.specs.AxiomParts.{other_on, other_here, other_end}
 use Rattle.axioms.proofs.other_member.Goals as goal
 
 pub key_of-requires : goal.key_of-requires

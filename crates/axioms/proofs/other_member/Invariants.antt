@@ -1,11 +1,9 @@
 -- `other_member` meets its contract. The invariant: the place sought from `from` on is the place sought from i on.
-use mathlib.Core.Path.{◌≡◌, sym, ◌∙◌}
+use mathlib.Core.Path.{◌≡◌}
 use Prim.Native.Nat.{◌≤◌, ◌+◌, ◌-◌}
-use native.Mathlib.Omega.{arith}
-use borrow.Author.Rules.{rules}
 use Rattle.sequents.specs.Keys.{keys_of}
-use Rattle.sequents.specs.Part.{part, span_small}
-use Rattle.axioms.specs.AxiomParts.{first_other, other_on, other_here, other_end}
+use Rattle.sequents.specs.Part.{part}
+use Rattle.axioms.specs.AxiomParts.{first_other}
 use Rattle.axioms.proofs.other_member.Given as goal
 
 abbrev pub invariant-loop-i : goal.invariant-loop-i

@@ -1,7 +1,6 @@
 -- `truth` meets its contract: the first member is true, and every other is it.
 use mathlib.Core.Path.{refl, sym}
 use native.Mathlib.Omega.{arith}
-use borrow.Author.Rules.{rules}
 use borrow.Author.Tests.{eq-eqb, ne_eqb}
 use Rattle.verdict.specs.Sets.{elements}
 use Rattle.formula.specs.Plain.{table_of_kind}

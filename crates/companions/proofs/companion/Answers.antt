@@ -1,8 +1,6 @@
 -- a link that is told by its numbers lies below the leaf, so the index is good
 use mathlib.Core.Path.{sym, ◌∙◌}
 use mathlib.Core.Bool.{false≢true}
-use borrow.Author.Rules.{rules}
-use borrow.Author.Tests.{not-true, not-false}
 use Rattle.companions.specs.CompanionLaws.{link_below, no_ancestor, some_ancestor}
 use Rattle.companions.proofs.companion.Goals as goal
 

@@ -1,6 +1,5 @@
 -- each return compares one byte more
 use native.Mathlib.Omega.{arith}
-use borrow.Author.Rules.{rules}
 use Rattle.encoding.specs.Opening.{differs, agrees}
 use Rattle.encoding.proofs.opens.Goals as goal
 

@@ -1,7 +1,7 @@
 -- one bit more
 use native.Mathlib.Omega.{arith}
 use lib.ListN.{length-set}
-use Rattle.bits.specs.WordSet.{in_inserted}
+use Rattle.bits.proofs.WordSet.{in_inserted}
 use Rattle.entry_sets.proofs.insert.Goals as goal
 
 pub returns : goal.returns

@@ -1,5 +1,5 @@
 -- Each read brings at most what fits after the bytes that earlier ones brought. The measure is the room left.
-use Rattle.std.proofs.Common.{◌-◌, ◌≤◌, ◌≡◌, length}
+use Rattle.std.proofs.Common.{◌-◌, ◌≤◌, length}
 use Rattle.focus.proofs.read_file.Given as goal
 
 abbrev pub invariant-loop-done : goal.invariant-loop-done

@@ -1,5 +1,4 @@
 use mathlib.Core.Path.{sym, ◌∙◌}
-use borrow.Author.Rules.{rules}
 use Rattle.formula.specs.Plain.{table_of, table_of_kind, table_of_a}
 use Rattle.formula.specs.ShapeLaws.{target_name, target_other}
 use Rattle.formula.proofs.target.Goals as goal

@@ -1,10 +1,8 @@
 use mathlib.Core.Path.{◌≡◌, sym, ◌∙◌}
 use mathlib.Core.List.{List}
-use Prim.Native.Nat.{ℕ, ◌+◌, ◌≤◌, ◌-◌, ◌<◌}
+use Prim.Native.Nat.{ℕ, ◌+◌, ◌<◌}
 use native.Mathlib.Omega.{arith}
 use lib.ListN.{get_or}
-use borrow.Author.Rules.{rules}
-use borrow.Author.Tests.{not-true, not-false}
 use Rattle.formula.specs.Table.{Table}
 use Rattle.formula.specs.PlainNodes.{codes_at_lem, proof_of}
 use Rattle.calculus.specs.View.{plain}
@@ -12,7 +10,7 @@ use Rattle.calculus.specs.Judge.{states}
 use Rattle.sequents.specs.Keys.{RootOver}
 use Rattle.sequents.specs.Placed.{Members}
 use Rattle.goals.specs.Goals.{GoalsPlaced, GoalsOver}
-use Rattle.goals.specs.GoalStages.{Stated, one_stated, goals_pass, goals_fail}
+use Rattle.goals.specs.GoalStages.{one_stated, goals_pass, goals_fail}
 use Rattle.goals.proofs.judge_goals.Goals as goal
 use Rattle.goals.proofs.judge_goals.Goals.{After-root_is_goal}
 

@@ -5,7 +5,6 @@ use Rattle.formula.specs.Plain.{table_of}
 use Rattle.nodes.specs.ProofDecode.{proof_in}
 use Rattle.sequents.specs.Part.{part}
 use Rattle.laid.specs.Numbering.{numbers_told}
-use Rattle.fitting.specs.Fitting.{as_joined, as_unfit}
 use Rattle.joined_files.specs.Wholly.{wholly_refused, wholly_as}
 use Rattle.joined_files.specs.Ready.{laid_down}
 use Rattle.joined_files.specs.Paired.{unfit, fit, goals_given, goal_count, longer, ready}

@@ -3,7 +3,8 @@ use mathlib.Core.Path.{sym, ◌∙◌}
 use lib.ListN.{length}
 use Rattle.encoding.specs.Encode.{Bytes}
 use Rattle.encoding.specs.ByteLaws.{lent_bytes}
-use Rattle.demands.specs.JoinExact.{CorrectHalf, half_accepts}
+use Rattle.demands.specs.JoinExact.{CorrectHalf}
+use Rattle.demands.proofs.JoinExact.{half_accepts}
 use Rattle.joined_files.specs.Wholly.{wholly_refused, wholly_as}
 use Rattle.joiner.specs.Reading.{both_read, paired, other_entries, one_table, one_fitted}
 use Rattle.joiner.proofs.join_accepted.Goals as goal

@@ -5,7 +5,6 @@ use Prim.Native.Nat.{ℕ}
 use borrow.Author.Tests.{eq-eqb, ne_eqb}
 use Rattle.formula.specs.Fields.{is_modal_lem, map_of}
 use Rattle.writing.specs.Spelling.{map_for_lem}
-use borrow.Author.Rules.{rules}
 use Rattle.laying.proofs.map_for.Goals as goal
 
 module _ (k b : ℕ) where

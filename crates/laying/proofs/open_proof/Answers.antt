@@ -7,7 +7,6 @@ use Rattle.encoding.specs.Encode.{encode_two}
 use Rattle.proof_files.specs.ProofFile.{proof_opening}
 use Rattle.formula.specs.NamedForm.{named_form, names_several, names_one}
 use Rattle.laying.specs.Laying.{Fits}
-use borrow.Author.Rules.{rules}
 use Rattle.laying.proofs.open_proof.Goals as goal
 use Rattle.laying.proofs.open_proof.Goals.{Start}
 

@@ -13,7 +13,6 @@ use Rattle.writing.specs.RecordBytes.{split}
 use Rattle.laying.specs.Laying.{Put, Left, entries_left, all_left, less_left, room_left, left-fits, last_left}
 use Rattle.laying.specs.Goals.{goals_left}
 use Rattle.laying.specs.Files.{claim_of, claim_parts, claim_parts_lem, claim_fits, file_put}
-use borrow.Author.Rules.{rules}
 use Rattle.laying.proofs.put_claim.Goals as goal
 use Rattle.laying.proofs.put_claim.Goals.{Start}
 

@@ -1,10 +1,10 @@
 -- The count, then the codes.
 use native.Mathlib.Omega.{arith}
 use mathlib.Core.Path.{◌≡◌, sym, ap}
-use mathlib.Core.List.{List, [], ◌∷◌}
-use Prim.Native.Nat.{ℕ, ◌+◌, ◌*◌, ◌≤◌}
+use mathlib.Core.List.{[], ◌∷◌}
+use Prim.Native.Nat.{◌+◌, ◌*◌, ◌≤◌}
 use lib.ListN.{length, length-set}
-use Rattle.laying.specs.Laying.{Put, numbers_left, codes_part, codes_none, codes_some, numbers_length, put_as, put_join, nothing_put, byte_put}
+use Rattle.laying.specs.Laying.{numbers_left, codes_part, codes_none, codes_some, numbers_length, put_as, put_join, nothing_put, byte_put}
 use Rattle.laying.proofs.put_codes.Goals as goal
 use Rattle.laying.proofs.put_codes.Goals.{Else-count-eq0}
 

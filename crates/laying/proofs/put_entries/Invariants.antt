@@ -1,13 +1,6 @@
 -- After i turns the entries from the i-th on are left.
-use native.Mathlib.Omega.{arith}
-use mathlib.Core.List.{List, ◌++◌}
-use Prim.Native.Nat.{ℕ, ◌+◌, ◌-◌, ◌≤◌}
-use Rattle.formula.specs.Spelled.{Spelled}
-use Rattle.formula.specs.Plain.{plain_entry}
-use Rattle.claim_files.specs.ClaimFile.{encode_entry}
-use Rattle.writing.specs.Spelling.{spelled_as}
-use Rattle.laying.specs.Laying.{Left, entries_left, entries_begin, entries_step, entries_end_lem, less_left, none_left, room_left}
-use borrow.Author.Rules.{rules}
+use Prim.Native.Nat.{◌-◌, ◌≤◌}
+use Rattle.laying.specs.Laying.{Left, entries_left}
 use Rattle.laying.proofs.put_entries.Given as goal
 
 abbrev pub invariant-loop-i : goal.invariant-loop-i

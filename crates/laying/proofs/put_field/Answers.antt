@@ -1,5 +1,4 @@
 -- A field takes two bytes or none.
-use borrow.Author.Rules.{rules}
 use Rattle.laying.specs.Laying.{no_field, one_field, field_room}
 use Rattle.std.proofs.Common.{ap}
 use Rattle.std.specs.Prelude.{not}

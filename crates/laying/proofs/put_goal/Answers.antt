@@ -1,13 +1,11 @@
 -- The count, then the members.
 use native.Mathlib.Omega.{arith}
 use mathlib.Core.Path.{refl, ap}
-use mathlib.Core.List.{List}
-use Prim.Native.Nat.{ℕ, ◌+◌, ◌*◌, ◌≤◌}
+use Prim.Native.Nat.{◌+◌, ◌*◌, ◌≤◌}
 use lib.ListN.{length}
 use Rattle.encoding.specs.Encode.{encode_two}
-use Rattle.claim_files.specs.ClaimFile.{encode_members}
-use Rattle.laying.specs.Laying.{Fits, Put, numbers_left, numbers_length, put_as, put_join, put_long}
-use Rattle.laying.specs.Goals.{goal_at, goal_parts}
+use Rattle.laying.specs.Laying.{Put, numbers_left, numbers_length, put_as, put_join, put_long}
+use Rattle.laying.specs.Goals.{goal_parts}
 use Rattle.laying.proofs.put_goal.Goals as goal
 use Rattle.laying.proofs.put_goal.Goals.{Start, After-put_two}
 

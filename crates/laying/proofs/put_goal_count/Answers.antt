@@ -1,7 +1,6 @@
 -- A field that stands in the form for several goals.
 use Rattle.laying.specs.Laying.{put_as}
 use Rattle.laying.specs.Goals.{goal_count}
-use borrow.Author.Rules.{rules}
 use Rattle.laying.proofs.put_goal_count.Goals as goal
 
 pub put_field-requires : goal.put_field-requires

@@ -1,11 +1,10 @@
 use native.Mathlib.Omega.{arith}
 use mathlib.Core.List.{List, ◌++◌}
-use Prim.Native.Nat.{ℕ, ◌+◌, ◌-◌, ◌≤◌}
+use Prim.Native.Nat.{ℕ, ◌+◌, ◌≤◌}
 use lib.ListN.{length, get_or}
 use Rattle.claim_files.specs.ClaimFile.{encode_members}
 use Rattle.laying.specs.Laying.{Left, all_left, less_left, none_left, room_left}
 use Rattle.laying.specs.Goals.{goal_at, goals_left, goals_step, goals_end_lem, MembersLeft, members_step}
-use borrow.Author.Rules.{rules}
 use Rattle.laying.proofs.put_goals.Goals as goal
 use Rattle.laying.proofs.put_goals.Goals.{In-loop-i}
 

@@ -1,13 +1,6 @@
 -- After v turns the nodes from v on are left, and their codes from the start on.
-use native.Mathlib.Omega.{arith}
-use mathlib.Core.Path.{◌≡◌}
-use mathlib.Core.List.{List, ◌++◌}
-use Prim.Native.Nat.{ℕ, ◌+◌, ◌*◌, ◌-◌, ◌≤◌}
-use lib.ListN.{length, get_or}
-use Rattle.formula.specs.Nodes.{Node}
-use Rattle.proof_files.specs.ProofFile.{encode_node}
-use Rattle.laying.specs.Laying.{Left, node_at, nodes_left, nodes_begin, nodes_step, nodes_end_lem, less_left, none_left, room_left}
-use borrow.Author.Rules.{rules}
+use Prim.Native.Nat.{◌*◌, ◌-◌, ◌≤◌}
+use Rattle.laying.specs.Laying.{Left, nodes_left}
 use Rattle.laying.proofs.put_nodes.Given as goal
 
 abbrev pub invariant-loop-v : goal.invariant-loop-v

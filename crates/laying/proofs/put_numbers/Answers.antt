@@ -5,7 +5,6 @@ use Prim.Native.Nat.{ℕ, ◌+◌, ◌-◌, ◌≤◌}
 use lib.ListN.{length, get_or}
 use Rattle.encoding.specs.Encode.{encode_two}
 use Rattle.laying.specs.Laying.{Left, numbers_left, numbers_begin, numbers_step, numbers-end, numbers_length, less_left, none_left, room_left}
-use borrow.Author.Rules.{rules}
 use Rattle.laying.proofs.put_numbers.Goals as goal
 use Rattle.laying.proofs.put_numbers.Goals.{In-loop-i}
 

@@ -11,7 +11,6 @@ use Rattle.proof_files.specs.ProofFile.{proof_opening, encode_roots, encode_proo
 use Rattle.formula.specs.NamedForm.{named_form, for_named}
 use Rattle.laying.specs.Laying.{Put, Left, nodes_left, all_left, less_left, room_left, left-fits, last_left}
 use Rattle.laying.specs.Files.{proof_of, proof_parts, proof_parts_lem, proof_fits, file_put}
-use borrow.Author.Rules.{rules}
 use Rattle.laying.proofs.put_proof.Goals as goal
 use Rattle.laying.proofs.put_proof.Goals.{Start}
 

@@ -9,7 +9,6 @@ use Rattle.formula.specs.NamedForm.{names_several, names_one}
 use Rattle.writing.specs.FieldEnds.{numbers_long}
 use Rattle.laying.specs.Laying.{nothing_put, put_as}
 use Rattle.laying.specs.Goals.{numbers_all}
-use borrow.Author.Rules.{rules}
 use Rattle.laying.proofs.put_roots.Goals as goal
 
 pub put_numbers-requires : goal.put_numbers-requires

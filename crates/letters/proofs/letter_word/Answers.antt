@@ -3,7 +3,8 @@ use Prim.Native.Nat.{ℕ}
 use native.Mathlib.Omega.{arith}
 use lib.Dec.{eqb}
 use Rattle.states.specs.BitLaws.{read_digit}
-use Rattle.states.specs.TopDown.{upper_none, upper_small, upper_one, upper_whole}
+use Rattle.states.specs.TopDown.{upper_none}
+use Rattle.states.proofs.TopDown.{upper_small, upper_one, upper_whole}
 use Rattle.letters.proofs.letter_word.Goals as goal
 
 pub loop-s-init : goal.loop-s-init

@@ -1,11 +1,7 @@
-use mathlib.Core.Path.{◌≡◌, refl, sym, ◌∙◌}
-use Prim.Native.Nat.{◌-◌}
+use mathlib.Core.Path.{refl, sym, ◌∙◌}
 use native.Mathlib.Omega.{arith}
-use borrow.Author.Rules.{rules}
 use borrow.Author.Tests.{eq-eqb, ne_eqb}
-use Rattle.verdict.specs.Tests.{any}
-use Rattle.calculus.specs.Judge.{in_focus}
-use Rattle.loop_nodes.specs.FocusLaws.{part, focus_found, focus_on, focus_end}
+use Rattle.loop_nodes.specs.FocusLaws.{focus_found, focus_on, focus_end}
 use Rattle.loop_nodes.proofs.has_focus.Goals as goal
 
 pub loop-i-init : goal.loop-i-init

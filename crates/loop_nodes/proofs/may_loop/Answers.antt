@@ -1,7 +1,6 @@
 -- the rule decides before the codes are looked at, by the test that the definition has
 use mathlib.Core.Path.{◌∙◌}
 use native.Mathlib.Omega.{arith}
-use borrow.Author.Rules.{rules}
 use Rattle.loop_nodes.specs.FocusLaws.{rule_bars, rule_passes}
 use Rattle.loop_nodes.proofs.may_loop.Goals as goal
 

@@ -1,10 +1,8 @@
-use mathlib.Core.Path.{◌≡◌, refl, ◌∙◌}
-use Prim.Native.Nat.{◌-◌, ◌≤◌}
+use mathlib.Core.Path.{refl, ◌∙◌}
 use native.Mathlib.Omega.{arith}
-use lib.ListN.{length, length-set}
-use borrow.Author.Rules.{rules}
+use lib.ListN.{length-set}
 use Rattle.spans.specs.SpanLaws.{parent_room}
-use Rattle.loops.specs.PathLaws.{PathsBelow, none_below, paths_more, paths_done}
+use Rattle.loops.specs.PathLaws.{none_below, paths_more, paths_done}
 use Rattle.loops.proofs.fill_paths.Goals as goal
 
 pub loop-v-init : goal.loop-v-init

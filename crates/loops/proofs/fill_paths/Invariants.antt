@@ -1,11 +1,8 @@
 -- before node v: both tables tell the paths down to all nodes below v
-use mathlib.Core.Path.{◌≡◌, refl, ◌∙◌}
+use mathlib.Core.Path.{◌≡◌}
 use Prim.Native.Nat.{◌-◌, ◌≤◌}
-use native.Mathlib.Omega.{arith}
-use lib.ListN.{length, length-set}
-use borrow.Author.Rules.{rules}
-use Rattle.spans.specs.SpanLaws.{parent_room}
-use Rattle.loops.specs.PathLaws.{PathsBelow, none_below, paths_more, paths_done}
+use lib.ListN.{length}
+use Rattle.loops.specs.PathLaws.{PathsBelow}
 use Rattle.loops.proofs.fill_paths.Given as goal
 
 abbrev pub invariant-loop-v : goal.invariant-loop-v

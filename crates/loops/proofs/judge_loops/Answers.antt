@@ -1,5 +1,4 @@
 -- the tables are filled, and then tell the leaves
-use borrow.Author.Rules.{rules}
 use Rattle.loops.specs.LoopStages.{leaves_told}
 use Rattle.loops.proofs.judge_loops.Goals as goal
 

@@ -1,8 +1,5 @@
-use Prim.Native.Nat.{◌-◌, ◌≤◌}
 use native.Mathlib.Omega.{arith}
-use borrow.Author.Rules.{rules}
-use borrow.Author.Tests.{not-true, not-false}
-use Rattle.loops.specs.LoopStages.{GoodBelow, all_good, good_more, first_bad}
+use Rattle.loops.specs.LoopStages.{all_good, good_more, first_bad}
 use Rattle.loops.proofs.judge_paths.Goals as goal
 
 pub loop-v-init : goal.loop-v-init

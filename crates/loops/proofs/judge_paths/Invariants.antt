@@ -1,9 +1,6 @@
 -- before node v: no leaf below it has a bad path
 use Prim.Native.Nat.{◌-◌, ◌≤◌}
-use native.Mathlib.Omega.{arith}
-use borrow.Author.Rules.{rules}
-use borrow.Author.Tests.{not-true, not-false}
-use Rattle.loops.specs.LoopStages.{GoodBelow, all_good, good_more, first_bad}
+use Rattle.loops.specs.LoopStages.{GoodBelow}
 use Rattle.loops.proofs.judge_paths.Given as goal
 
 abbrev pub invariant-loop-v : goal.invariant-loop-v

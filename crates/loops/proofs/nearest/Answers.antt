@@ -1,5 +1,4 @@
 -- the node itself, or else what its parent has
-use borrow.Author.Rules.{rules}
 use mathlib.Core.Path.{refl}
 use Rattle.loops.proofs.nearest.Goals as goal
 

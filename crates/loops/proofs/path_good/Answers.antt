@@ -1,6 +1,5 @@
 -- a node that is no back leaf has no loop path
 use mathlib.Core.Path.{sym}
-use borrow.Author.Rules.{rules}
 use Rattle.loops.specs.LoopStages.{no_leaf, leaf_loop}
 use Rattle.loops.proofs.path_good.Goals as goal
 

@@ -1,14 +1,9 @@
 -- `all_boxed` meets its contract. The invariant: the test of all codes is the test of those from i on.
-use mathlib.Core.Path.{◌≡◌, refl, sym, ◌∙◌}
+use mathlib.Core.Path.{◌≡◌}
 use Prim.Native.Nat.{◌≤◌, ◌-◌}
-use native.Mathlib.Omega.{arith}
-use borrow.Author.Rules.{rules}
 use Rattle.verdict.specs.Tests.{all}
-use Rattle.sequents.specs.Part.{part, span_small}
-use Rattle.modal.specs.BoxLaws.{boxed as Boxed, all_on, all-stop, all_end}
-use Rattle.sequents.specs.KeptLaws.{was_false, was_true}
-use Rattle.std.proofs.Common.{ap}
-use Rattle.std.specs.Prelude.{not}
+use Rattle.sequents.specs.Part.{part}
+use Rattle.modal.specs.BoxLaws.{boxed as Boxed}
 use Rattle.modal.proofs.all_boxed.Given as goal
 
 abbrev pub invariant-loop-i : goal.invariant-loop-i

@@ -4,7 +4,6 @@ use mathlib.Core.List.{List}
 use Prim.Native.Nat.{ℕ}
 use native.Mathlib.Omega.{arith}
 use lib.ListN.{get_or}
-use borrow.Author.Rules.{rules}
 use Rattle.verdict.specs.Sets.{elements}
 use Rattle.verdict.specs.Tests.{all, each, same as sameSet}
 use Rattle.written.specs.Canon.{key}

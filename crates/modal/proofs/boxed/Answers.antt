@@ -1,7 +1,6 @@
 -- `boxed` meets its contract, test by test.
 use mathlib.Core.Path.{refl}
 use borrow.Author.Tests.{eq-eqb, ne_eqb}
-use borrow.Author.Rules.{rules}
 use Rattle.modal.proofs.boxed.Goals as goal
 
 pub returns-then-key_of-principal : goal.returns-then-key_of-principal

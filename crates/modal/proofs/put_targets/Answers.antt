@@ -5,11 +5,10 @@ use native.Mathlib.Omega.{arith}
 use lib.ListN.{get_or}
 use borrow.Author.Rules.{rules}
 use Rattle.verdict.specs.Sets.{elements}
-use Rattle.verdict.specs.Tests.{each}
 use Rattle.formula.specs.Plain.{table_of}
 use Rattle.sequents.specs.Part.{part, Span, part_member}
-use Rattle.sequents.specs.CodeSet.{Holds, each_before, each_end}
-use Rattle.modal.specs.BoxLaws.{stepped_key, Modal}
+use Rattle.sequents.specs.CodeSet.{each_before, each_end}
+use Rattle.modal.specs.BoxLaws.{stepped_key}
 use Rattle.modal.proofs.put_targets.Goals as goal
 
 -- the code at hand is one of the part

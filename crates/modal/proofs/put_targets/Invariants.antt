@@ -1,15 +1,11 @@
 -- `put_targets` meets its contract. The invariant: the set holds the targets of the codes from i on.
-use mathlib.Core.Path.{◌≡◌}
 use mathlib.Core.List.{List}
 use Prim.Native.Nat.{ℕ, ◌≤◌, ◌-◌}
-use native.Mathlib.Omega.{arith}
-use lib.ListN.{get_or}
-use borrow.Author.Rules.{rules}
 use Rattle.verdict.specs.Sets.{elements}
 use Rattle.verdict.specs.Tests.{each}
 use Rattle.formula.specs.Plain.{table_of}
-use Rattle.sequents.specs.Part.{part, part_member}
-use Rattle.sequents.specs.CodeSet.{Holds, each_before, each_end}
+use Rattle.sequents.specs.Part.{part}
+use Rattle.sequents.specs.CodeSet.{Holds}
 use Rattle.modal.specs.BoxLaws.{stepped_key, Modal}
 use Rattle.modal.proofs.put_targets.Given as goal
 

@@ -1,7 +1,8 @@
 use Prim.Native.Nat.{◌-◌}
 use native.Mathlib.Omega.{arith}
 use Rattle.states.specs.StateWords.{box_test}
-use Rattle.states.specs.TopDown.{upper_none, upper_small, upper_one, upper_whole}
+use Rattle.states.specs.TopDown.{upper_none}
+use Rattle.states.proofs.TopDown.{upper_small, upper_one, upper_whole}
 use Rattle.modal_words.proofs.box_word.Goals as goal
 
 pub loop-s-init : goal.loop-s-init

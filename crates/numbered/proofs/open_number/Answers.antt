@@ -1,4 +1,3 @@
-use borrow.Author.Rules.{rules}
 use mathlib.Core.Path.{ap, ◌∙◌}
 use Rattle.verdict.specs.Verdict.{packed}
 use Rattle.numbered.proofs.open_number.Goals as goal

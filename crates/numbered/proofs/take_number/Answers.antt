@@ -1,4 +1,3 @@
-use borrow.Author.Rules.{rules}
 use mathlib.Core.Path.{ap, ◌∙◌}
 use Rattle.permit.specs.Numbers.{packed_permit}
 use Rattle.numbered.proofs.take_number.Goals as goal

@@ -3,9 +3,7 @@ use mathlib.Core.Path.{◌≡◌, refl, ◌∙◌}
 use mathlib.Core.List.{List, ◌∷◌}
 use Prim.Native.Nat.{ℕ, ◌%◌}
 use native.Mathlib.Omega.{arith}
-use borrow.Author.Rules.{rules}
 use Rattle.verdict.specs.Tests.{same, remove, each}
-use Rattle.formula.specs.Table.{Table}
 use Rattle.formula.specs.Plain.{table_of}
 use Rattle.formula.specs.Codes.{code, entry_of_lem}
 use Rattle.formula.specs.Target.{target_a}

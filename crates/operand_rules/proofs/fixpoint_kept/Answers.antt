@@ -2,7 +2,6 @@
 use mathlib.Core.Path.{refl, ◌∙◌}
 use mathlib.Core.List.{[]}
 use native.Mathlib.Omega.{arith}
-use borrow.Author.Rules.{rules}
 use Rattle.formula.specs.Plain.{table_of}
 use Rattle.formula.specs.Table.{entry}
 use Rattle.formula.specs.Codes.{entry_of_lem}

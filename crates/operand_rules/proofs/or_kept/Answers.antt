@@ -2,7 +2,6 @@
 use mathlib.Core.Path.{refl, ◌∙◌}
 use mathlib.Core.List.{[]}
 use native.Mathlib.Omega.{arith}
-use borrow.Author.Rules.{rules}
 use Rattle.formula.specs.Codes.{entry_of_lem}
 use Rattle.calculus.specs.Judge.{keys, sides, or_kept as Kept}
 use Rattle.sequents.specs.KeptLaws.{Operands, this_kind, other_kind, or_operands, operand_member}

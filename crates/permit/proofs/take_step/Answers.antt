@@ -1,4 +1,3 @@
-use borrow.Author.Rules.{rules}
 use mathlib.Core.Path.{refl}
 use Rattle.permit.specs.GateState.{taking}
 use Rattle.permit.specs.Plain.{state_open, state_holding, state_closed}

@@ -1,14 +1,12 @@
 -- `formula_kept` meets its contract: where the principal belongs, each arm is the test that the rule names.
-use mathlib.Core.Path.{◌≡◌, refl, ap, ap₂, sym, subst, ◌∙◌}
+use mathlib.Core.Path.{◌≡◌, ap, ap₂, sym, subst, ◌∙◌}
 use mathlib.Core.Bool.{Bool, true, ◌&&◌}
 use mathlib.Core.List.{List, []}
 use Prim.Native.Nat.{ℕ, ◌+◌, ◌*◌, ◌<◌, ◌≤◌}
 use native.Mathlib.Omega.{arith}
 use lib.ListN.{get_or}
-use borrow.Author.Rules.{rules}
 use Rattle.verdict.specs.Tests.{member, remove, each}
 use Rattle.formula.specs.Rule
-use Rattle.formula.specs.Table.{Table}
 use Rattle.formula.specs.Plain.{table_of, table_of_length}
 use Rattle.formula.specs.Codes.{entry_of_lem, focus_of}
 use Rattle.formula.specs.PlainNodes.{codes_at_lem}

@@ -2,7 +2,6 @@
 use mathlib.Core.Path.{refl, ◌∙◌}
 use mathlib.Core.List.{[]}
 use native.Mathlib.Omega.{arith}
-use borrow.Author.Rules.{rules}
 use Rattle.sequents.specs.KeptLaws.{was_false, was_true}
 use Rattle.principal_rules.specs.Judged.{coded, belongs_test, keeps_alien}
 use Rattle.std.proofs.Common.{ap}

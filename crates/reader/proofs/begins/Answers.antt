@@ -1,6 +1,5 @@
 -- A refusal before the files stands; else the claim's beginning is asked.
 use mathlib.Core.Path.{ap}
-use borrow.Author.Rules.{rules}
 use Rattle.verdict.specs.Shown.{shown}
 use Rattle.reader.specs.Begins.{before_refuses, beginning_refuses}
 use Rattle.reader.proofs.begins.Goals as goal

@@ -1,12 +1,11 @@
 -- a refusal before the files stands, and no file is read; else a refusal of theirs, or the counts
 use mathlib.Core.Path.{ap}
 use native.Mathlib.Omega.{arith}
-use borrow.Author.Rules.{rules}
 use Rattle.verdict.specs.Shown.{shown}
-use Rattle.encoding.specs.Encode.{Bytes}
 use Rattle.encoding.specs.ByteLaws.{lent_bytes}
 use Rattle.claims.specs.ClaimWalk.{claim_as_read}
-use Rattle.reader.specs.FilesLaws.{few_read, files_as_read, files_as_refused, found_unread, found_read, first_unread, first_passed}
+use Rattle.reader.specs.FilesLaws.{found_unread, found_read, first_unread, first_passed}
+use Rattle.reader.proofs.FilesLaws.{few_read}
 use Rattle.reader.proofs.find_files.Goals as goal
 
 pub read_beside-requires : goal.read_beside-requires

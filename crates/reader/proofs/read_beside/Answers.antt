@@ -1,11 +1,7 @@
 -- The claim's refusal stands, then the proof's; of a proof that is read the roots are stored, and its nodes counted.
-use mathlib.Core.Path.{sym, ap, ◌∙◌}
+use mathlib.Core.Path.{sym}
 use native.Mathlib.Omega.{arith}
-use borrow.Author.Rules.{rules}
-use Rattle.verdict.specs.Shown.{shown}
 use Rattle.claims.specs.ClaimWalk.{claim_as_read, claim_as_refused}
-use Rattle.nodes.specs.ProofDecode.{nodes_place_lem, Decodes}
-use Rattle.reader.specs.Found.{FewRead}
 use Rattle.reader.specs.FilesLaws.{unread_formed, unread_proof, kinds_decode, roots_room, both_read}
 use Rattle.reader.proofs.read_beside.Goals as goal
 

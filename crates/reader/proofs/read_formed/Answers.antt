@@ -1,9 +1,5 @@
 -- The bytes' refusal stands, then the table's; a claim that passes both is held as it was read.
-use mathlib.Core.Path.{sym, ap, ◌∙◌}
 use native.Mathlib.Omega.{arith}
-use borrow.Author.Rules.{rules}
-use Rattle.verdict.specs.Shown.{shown}
-use Rattle.claims.specs.ClaimWalk.{claim_as_read, claim_as_refused}
 use Rattle.reader.specs.FilesLaws.{unread_claim, unformed_claim, formed_claim}
 use Rattle.reader.proofs.read_formed.Goals as goal
 

@@ -1,6 +1,6 @@
 -- one bit more
 use native.Mathlib.Omega.{arith}
-use Rattle.bits.specs.WordSet.{in_inserted}
+use Rattle.bits.proofs.WordSet.{in_inserted}
 use Rattle.searching.proofs.mark.Goals as goal
 
 pub returns : goal.returns

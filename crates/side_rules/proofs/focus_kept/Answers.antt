@@ -2,7 +2,6 @@
 use mathlib.Core.Path.{refl, ◌∙◌}
 use mathlib.Core.List.{[]}
 use borrow.Author.Tests.{eq-eqb, ne_eqb}
-use borrow.Author.Rules.{rules}
 use Rattle.calculus.specs.Judge.{keys, sides, focus_kept_lem as FocusKept}
 use Rattle.formula.specs.Codes.{entry_of_lem}
 use Rattle.sequents.specs.Keys.{key_code}

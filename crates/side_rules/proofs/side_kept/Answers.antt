@@ -5,7 +5,6 @@ use mathlib.Core.List.{List, []}
 use Prim.Native.Nat.{ℕ, ◌<◌}
 use native.Mathlib.Omega.{arith}
 use lib.ListN.{length}
-use borrow.Author.Rules.{rules}
 use Rattle.formula.specs.Plain.{table_of, table_of_length}
 use Rattle.formula.specs.Codes.{entry_of_lem}
 use Rattle.calculus.specs.Judge.{keys, sides, weaken_kept}

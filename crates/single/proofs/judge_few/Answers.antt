@@ -1,7 +1,6 @@
 -- there is room for 32 nodes
 use native.Mathlib.Omega.{arith}
 use Rattle.formula.specs.NodeColumns.{room}
-use borrow.Author.Rules.{rules}
 use Rattle.single.proofs.judge_few.Goals as goal
 
 pub judge_in-requires : goal.judge_in-requires

@@ -2,7 +2,6 @@
 use mathlib.Core.Path.{◌≡◌, sym, ap}
 use mathlib.Core.List.{List}
 use Prim.Native.Nat.{ℕ}
-use borrow.Author.Rules.{rules}
 use Rattle.verdict.specs.Shown.{shown}
 use Rattle.verdict.specs.Verdict as verdicts
 use Rattle.encoding.specs.File.{refused}

@@ -3,14 +3,13 @@ use mathlib.Core.Path.{◌≡◌, refl, sym, ap, ◌∙◌}
 use mathlib.Core.List.{List}
 use Prim.Native.Nat.{ℕ}
 use native.Mathlib.Omega.{arith}
-use borrow.Author.Rules.{rules}
 use lib.ListN.{length-replicate}
 use Rattle.formula.specs.Claim.{clm1}
-use Rattle.encoding.specs.Encode.{Bytes}
 use Rattle.encoding.specs.ByteLaws.{lent_bytes}
 use Rattle.claims.specs.ClaimWalk.{claim_as_read}
 use Rattle.reader.specs.Files.{files}
-use Rattle.reader.specs.FilesLaws.{few_read, files_as_read, files_as_refused}
+use Rattle.reader.specs.FilesLaws.{files_as_read, files_as_refused}
+use Rattle.reader.proofs.FilesLaws.{few_read}
 use Rattle.laid.specs.Readable.{readable, readable_judged}
 use Rattle.demands.specs.Check.{answer, verdict}
 use Rattle.single.proofs.judge_read.Goals as goal

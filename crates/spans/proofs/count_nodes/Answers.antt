@@ -1,10 +1,7 @@
-use mathlib.Core.Path.{◌≡◌, refl, sym, ◌∙◌}
-use mathlib.Core.List.{◌∷◌}
+use mathlib.Core.Path.{refl, sym, ◌∙◌}
 use Prim.Native.Nat.{◌≤◌, ◌<◌, ◌-◌}
 use native.Mathlib.Omega.{arith}
-use lib.ListN.{length, length-set, get_or}
-use borrow.Author.Rules.{rules}
-use Rattle.spans.specs.Spans.{Counted}
+use lib.ListN.{length-set, get_or}
 use Rattle.spans.specs.CountLaws.{none_counted, root_fits, count_root, child_fits, count_child, count_done}
 use Rattle.spans.proofs.count_nodes.Goals as goal
 use Rattle.spans.proofs.count_nodes.Goals.{Else-owner-eq0}

@@ -1,12 +1,9 @@
 -- before the node below v: those from v on are counted in their parents, and their roots with the trees
-use mathlib.Core.Path.{◌≡◌, refl, sym, ◌∙◌}
+use mathlib.Core.Path.{◌≡◌}
 use mathlib.Core.List.{◌∷◌}
-use Prim.Native.Nat.{◌≤◌, ◌<◌, ◌-◌}
-use native.Mathlib.Omega.{arith}
-use lib.ListN.{length, length-set, get_or}
-use borrow.Author.Rules.{rules}
+use Prim.Native.Nat.{◌≤◌}
+use lib.ListN.{length}
 use Rattle.spans.specs.Spans.{Counted}
-use Rattle.spans.specs.CountLaws.{none_counted, root_fits, count_root, child_fits, count_child, count_done}
 use Rattle.spans.proofs.count_nodes.Given as goal
 
 abbrev pub invariant-loop-v : goal.invariant-loop-v

@@ -1,9 +1,6 @@
 use mathlib.Core.Path.{◌≡◌, refl, ◌∙◌}
-use Prim.Native.Nat.{◌-◌, ◌≤◌}
 use native.Mathlib.Omega.{arith}
-use lib.ListN.{length, length-set}
-use borrow.Author.Rules.{rules}
-use Rattle.spans.specs.Spans.{Numbered}
+use lib.ListN.{length-set}
 use Rattle.spans.specs.Ancestors.{spans_tell}
 use Rattle.spans.specs.SpanLaws.{parent_room, none_numbered, exit_fits, number_more, spans_done}
 use Rattle.spans.proofs.number_nodes.Goals as goal

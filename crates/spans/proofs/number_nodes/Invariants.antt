@@ -1,12 +1,8 @@
 -- before node v: all below v have their numbers, and v and those after it are only counted
-use mathlib.Core.Path.{◌≡◌, refl, ◌∙◌}
+use mathlib.Core.Path.{◌≡◌}
 use Prim.Native.Nat.{◌-◌, ◌≤◌}
-use native.Mathlib.Omega.{arith}
-use lib.ListN.{length, length-set}
-use borrow.Author.Rules.{rules}
+use lib.ListN.{length}
 use Rattle.spans.specs.Spans.{Numbered}
-use Rattle.spans.specs.Ancestors.{spans_tell}
-use Rattle.spans.specs.SpanLaws.{parent_room, none_numbered, exit_fits, number_more, spans_done}
 use Rattle.spans.proofs.number_nodes.Given as goal
 
 abbrev pub invariant-loop-v : goal.invariant-loop-v

@@ -4,7 +4,8 @@ use Rattle.std.proofs.Common.{arith, replicate}
 use Rattle.formula.specs.NodeColumns.{Columns}
 use Rattle.records.specs.declared.Node.{Node}
 use Rattle.standing.specs.Standing.{RoomFor}
-use Rattle.standing.specs.StandingLaws.{may_decode, may_store, may_load, may_judge, judged_stored}
+use Rattle.standing.specs.StandingLaws.{may_decode, may_store, may_load, may_judge}
+use Rattle.standing.proofs.StandingLaws.{judged_stored}
 use Rattle.standing.proofs.judge_many.Goals as goal
 
 -- the columns are large enough, and so are the codes that are lent

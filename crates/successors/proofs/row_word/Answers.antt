@@ -1,5 +1,6 @@
 use native.Mathlib.Omega.{arith}
-use Rattle.states.specs.TopDown.{upper_none, upper_small, sixteen_small, upper_sixteen, upper_whole, word_cut}
+use Rattle.states.specs.TopDown.{upper_none}
+use Rattle.states.proofs.TopDown.{upper_small, sixteen_small, upper_sixteen, upper_whole, word_cut}
 use Rattle.successors.proofs.row_word.Goals as goal
 
 pub loop-u-init : goal.loop-u-init

@@ -2,8 +2,6 @@
 use mathlib.Core.Path.{◌≡◌, sym, ◌∙◌}
 use mathlib.Core.Bool.{true, false}
 use lib.ListN.{get_or}
-use borrow.Author.Rules.{rules}
-use borrow.Author.Tests.{not-true, not-false}
 use Rattle.formula.specs.Fields.{has_first_lem}
 use Rattle.tree.specs.AdoptLaws.{adopts_none, first_refused, adopts_one, adopts_two}
 use Rattle.tree.proofs.adopt.Goals as goal

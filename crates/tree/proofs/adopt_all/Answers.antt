@@ -1,12 +1,6 @@
-use mathlib.Core.Path.{◌≡◌, refl}
-use mathlib.Core.List.{List}
-use Prim.Native.Nat.{ℕ, ◌≤◌, ◌-◌}
+use mathlib.Core.Path.{refl}
 use native.Mathlib.Omega.{arith}
-use lib.ListN.{length}
-use borrow.Author.Rules.{rules}
-use borrow.Author.Tests.{not-true, not-false}
-use Rattle.tree.specs.Owners.{TakenBy}
-use Rattle.tree.specs.TreeStages.{FitBelow, fit_more, children_refused, children_accepted}
+use Rattle.tree.specs.TreeStages.{fit_more, children_refused, children_accepted}
 use Rattle.tree.proofs.adopt_all.Goals as goal
 
 pub loop-v-init : goal.loop-v-init

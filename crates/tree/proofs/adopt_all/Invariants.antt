@@ -1,13 +1,10 @@
 -- before parent v: the table holds the owners below v, and the children of all nodes below v fit
-use mathlib.Core.Path.{◌≡◌, refl}
+use mathlib.Core.Path.{◌≡◌}
 use mathlib.Core.List.{List}
 use Prim.Native.Nat.{ℕ, ◌≤◌, ◌-◌}
-use native.Mathlib.Omega.{arith}
 use lib.ListN.{length}
-use borrow.Author.Rules.{rules}
-use borrow.Author.Tests.{not-true, not-false}
 use Rattle.tree.specs.Owners.{TakenBy}
-use Rattle.tree.specs.TreeStages.{FitBelow, fit_more, children_refused, children_accepted}
+use Rattle.tree.specs.TreeStages.{FitBelow}
 use Rattle.tree.proofs.adopt_all.Given as goal
 
 abbrev pub invariant-loop-v : goal.invariant-loop-v

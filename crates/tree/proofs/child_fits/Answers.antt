@@ -1,7 +1,6 @@
 -- each test decides one conjunct of `unowned`
 use mathlib.Core.Path.{refl}
 use native.Mathlib.Omega.{arith}
-use borrow.Author.Rules.{rules}
 use borrow.Author.Tests.{lt-ltb, le-ltb}
 use Rattle.tree.proofs.child_fits.Goals as goal
 

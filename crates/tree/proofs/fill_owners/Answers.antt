@@ -1,5 +1,4 @@
 -- the roots are marked, so that no parent takes one; then the marks are cleared
-use borrow.Author.Rules.{rules}
 use Rattle.tree.specs.Stamps.{none_taken}
 use Rattle.tree.specs.TreeStages.{owners_filled}
 use Rattle.tree.proofs.fill_owners.Goals as goal

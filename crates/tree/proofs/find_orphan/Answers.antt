@@ -1,10 +1,9 @@
 use mathlib.Core.Path.{sym}
-use Prim.Native.Nat.{◌≤◌, ◌<◌, ◌-◌}
+use Prim.Native.Nat.{◌<◌}
 use native.Mathlib.Omega.{arith}
 use lib.ListN.{get_or}
 use borrow.Author.Count.{below_more}
-use borrow.Author.Rules.{rules}
-use Rattle.tree.specs.TreeStages.{NoOrphan, orphan_found, none_found}
+use Rattle.tree.specs.TreeStages.{orphan_found, none_found}
 use Rattle.tree.proofs.find_orphan.Goals as goal
 
 pub loop-node-init : goal.loop-node-init

@@ -1,11 +1,6 @@
 -- before a node: no smaller one is without an owner
-use mathlib.Core.Path.{sym}
-use Prim.Native.Nat.{◌≤◌, ◌<◌, ◌-◌}
-use native.Mathlib.Omega.{arith}
-use lib.ListN.{get_or}
-use borrow.Author.Count.{below_more}
-use borrow.Author.Rules.{rules}
-use Rattle.tree.specs.TreeStages.{NoOrphan, orphan_found, none_found}
+use Prim.Native.Nat.{◌≤◌, ◌-◌}
+use Rattle.tree.specs.TreeStages.{NoOrphan}
 use Rattle.tree.proofs.find_orphan.Given as goal
 
 abbrev pub invariant-loop-node : goal.invariant-loop-node

@@ -1,8 +1,7 @@
 use mathlib.Core.Path.{◌≡◌}
-use Prim.Native.Nat.{◌≤◌, ◌-◌, ◌<◌}
+use Prim.Native.Nat.{◌<◌}
 use native.Mathlib.Omega.{arith}
-use borrow.Author.Rules.{rules}
-use Rattle.tree.specs.Stamps.{Stamped, none_stamped, one_stamped}
+use Rattle.tree.specs.Stamps.{none_stamped, one_stamped}
 use Rattle.tree.proofs.stamp.Goals as goal
 use Rattle.tree.proofs.stamp.Goals.{After-wide}
 

@@ -1,9 +1,6 @@
 -- before root i the number stands at the roots before it
-use mathlib.Core.Path.{◌≡◌}
-use Prim.Native.Nat.{◌≤◌, ◌-◌, ◌<◌}
-use native.Mathlib.Omega.{arith}
-use borrow.Author.Rules.{rules}
-use Rattle.tree.specs.Stamps.{Stamped, none_stamped, one_stamped}
+use Prim.Native.Nat.{◌≤◌, ◌-◌}
+use Rattle.tree.specs.Stamps.{Stamped}
 use Rattle.tree.proofs.stamp.Given as goal
 
 abbrev pub invariant-loop-i : goal.invariant-loop-i

@@ -1,5 +1,4 @@
 -- the parents decide, and if they pass, the orphans
-use borrow.Author.Rules.{rules}
 use Rattle.tree.specs.TreeStages.{tree_refused, tree_orphans}
 use Rattle.tree.proofs.take_all.Goals as goal
 

@@ -3,7 +3,6 @@ use mathlib.Core.Path.{refl, sym, ◌∙◌}
 use borrow.Author.Tests.{le-leb, lt-leb}
 use Rattle.formula.specs.Kind
 use Rattle.vetting.specs.FitLaws.{field_tested, field_fails, field_passes, action_held, kind_held}
-use borrow.Author.Rules.{rules}
 use Rattle.std.proofs.Common.{ap}
 use Rattle.std.specs.Prelude.{not}
 use Rattle.vetting.proofs.entry_fits.Goals as goal

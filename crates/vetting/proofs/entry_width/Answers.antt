@@ -3,7 +3,7 @@ use mathlib.Core.Path.{◌≡◌, refl, sym, ◌∙◌}
 use mathlib.Core.Bool.{Bool, true, false, not, ◌&&◌, false≢true}
 use Prim.Native.Nat.{ℕ, ◌+◌}
 use native.Mathlib.Omega.{arith}
-use borrow.Author.Tests.{eq-eqb, ne_eqb, not-true, not-false}
+use borrow.Author.Tests.{eq-eqb, ne_eqb}
 use lib.Dec.{eqb}
 use Rattle.verdict.specs.Tells.{and_tells, leb_tells, tells_self, fails_holds}
 use Rattle.bits.specs.IfSet.{if_set_lem}
@@ -11,7 +11,6 @@ use Rattle.formula.specs.Kind
 use Rattle.formula.specs.Fields.{has_a_lem, has_b, is_modal_lem}
 use Rattle.writing.specs.Spelling.{modal_fields, bits_stand}
 use Rattle.writing.specs.EntryEnds.{entry_width_lem}
-use borrow.Author.Rules.{rules}
 use Rattle.vetting.proofs.entry_width.Goals as goal
 use Rattle.vetting.proofs.entry_width.Goals.{After-has_a}
 

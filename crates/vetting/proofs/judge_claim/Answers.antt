@@ -1,19 +1,17 @@
 -- The bytes first, then the conditions on the table.
-use mathlib.Core.Path.{refl, sym, ap, ◌∙◌}
+use mathlib.Core.Path.{refl, sym}
 use mathlib.Core.List.{List}
 use Prim.Native.Nat.{ℕ}
-use Rattle.verdict.specs.Shown.{shown}
 use Rattle.formula.specs.Table.{Table}
 use Rattle.formula.specs.Claim.{Form}
 use Rattle.formula.specs.Plain.{table_of}
 use Rattle.formula.specs.NamedForm.{named_form, for_named}
 use Rattle.writing.specs.Ends.{End}
-use Rattle.writing.specs.ClaimEnds.{claim_passed}
+use Rattle.writing.proofs.ClaimEnds.{claim_passed}
 use Rattle.writing.specs.Encoded.{claim_judged}
 use Rattle.vetting.specs.Steps.{Finds}
 use Rattle.vetting.specs.StepLaws.{finds_stop, finds_next, found_stop, found_next, stops_there, judge_refuses, judge_accepts}
 use Rattle.vetting.specs.declared.Step.TheVariants.{Next, Stop}
-use borrow.Author.Rules.{rules}
 use Rattle.vetting.proofs.judge_claim.Goals as goal
 use Rattle.vetting.proofs.judge_claim.Goals.{Start}
 

@@ -14,7 +14,6 @@ use Rattle.vetting.specs.StepLaws.{finds_stop, finds_as, found_stop, found_next,
 use Rattle.vetting.specs.CountLaws.{claim_out, claim_in}
 use Rattle.vetting.specs.KindTests.{goals_by_kinds}
 use Rattle.vetting.specs.declared.Step.TheVariants.{Stop}
-use borrow.Author.Rules.{rules}
 use Rattle.vetting.proofs.judge_claim_bytes.Goals as goal
 use Rattle.vetting.proofs.judge_claim_bytes.Goals.{After-wide, In-Next, Start}
 

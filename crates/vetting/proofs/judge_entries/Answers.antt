@@ -1,10 +1,7 @@
-use borrow.Author.Rules.{rules}
 use native.Mathlib.Omega.{arith}
 use mathlib.Core.Path.{sym, ◌∙◌}
-use Prim.Native.Nat.{◌+◌, ◌*◌, ◌-◌, ◌≤◌}
-use borrow.Author.Tests.{not-true, not-false}
 use Rattle.vetting.specs.StepLaws.{finds_stop, finds_next}
-use Rattle.vetting.specs.WalkLaws.{EntriesLeft, entries_begin, entries_stop, entries_on, entries_end_lem}
+use Rattle.vetting.specs.WalkLaws.{entries_begin, entries_stop, entries_on, entries_end_lem}
 use Rattle.vetting.proofs.judge_entries.Goals as goal
 
 pub loop-i-init : goal.loop-i-init

@@ -1,11 +1,6 @@
 -- The entries before i fit, and the rest is walked over from here.
-use borrow.Author.Rules.{rules}
-use native.Mathlib.Omega.{arith}
-use mathlib.Core.Path.{sym, ◌∙◌}
 use Prim.Native.Nat.{◌+◌, ◌*◌, ◌-◌, ◌≤◌}
-use borrow.Author.Tests.{not-true, not-false}
-use Rattle.vetting.specs.StepLaws.{finds_stop, finds_next}
-use Rattle.vetting.specs.WalkLaws.{EntriesLeft, entries_begin, entries_stop, entries_on, entries_end_lem}
+use Rattle.vetting.specs.WalkLaws.{EntriesLeft}
 use Rattle.vetting.proofs.judge_entries.Given as goal
 
 abbrev pub invariant-loop-i : goal.invariant-loop-i

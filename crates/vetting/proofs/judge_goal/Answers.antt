@@ -5,7 +5,6 @@ use mathlib.Core.List.{List}
 use Prim.Native.Nat.{ℕ}
 use Rattle.vetting.specs.StepLaws.{finds_stop, finds_as}
 use Rattle.vetting.specs.CountLaws.{goal_unfit, goal_fits}
-use borrow.Author.Rules.{rules}
 use Rattle.vetting.proofs.judge_goal.Goals as goal
 use Rattle.vetting.proofs.judge_goal.Goals.{Start}
 

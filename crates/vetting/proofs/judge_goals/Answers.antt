@@ -5,7 +5,6 @@ use mathlib.Core.List.{List}
 use Prim.Native.Nat.{ℕ}
 use Rattle.vetting.specs.StepLaws.{finds_stop, finds_as}
 use Rattle.vetting.specs.CountLaws.{goals_out, goals_unfit, goals_fit_lem}
-use borrow.Author.Rules.{rules}
 use Rattle.vetting.proofs.judge_goals.Goals as goal
 use Rattle.vetting.proofs.judge_goals.Goals.{Start}
 

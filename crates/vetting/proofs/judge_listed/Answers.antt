@@ -2,7 +2,6 @@
 use native.Mathlib.Omega.{arith}
 use Rattle.vetting.specs.StepLaws.{finds_stop, finds_as}
 use Rattle.vetting.specs.CountLaws.{listed_out, listed_in}
-use borrow.Author.Rules.{rules}
 use Rattle.vetting.proofs.judge_listed.Goals as goal
 
 pub returns-then-listed-lt1 : goal.returns-then-listed-lt1

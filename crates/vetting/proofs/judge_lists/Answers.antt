@@ -1,11 +1,7 @@
-use borrow.Author.Rules.{rules}
 use native.Mathlib.Omega.{arith}
 use mathlib.Core.Path.{refl}
-use Prim.Native.Nat.{◌-◌, ◌≤◌}
-use lib.ListN.{length}
-use Rattle.proof_files.specs.ProofParts.{kind_table}
 use Rattle.vetting.specs.StepLaws.{finds_stop, finds_next, found_stop, found_next}
-use Rattle.vetting.specs.GoalWalk.{ListsLeft, lists_begin, lists_end_lem, lists_room, lists_stop, lists_on}
+use Rattle.vetting.specs.GoalWalk.{lists_begin, lists_end_lem, lists_room, lists_stop, lists_on}
 use Rattle.vetting.specs.declared.Step.TheVariants.{Stop}
 use Rattle.vetting.proofs.judge_lists.Goals as goal
 

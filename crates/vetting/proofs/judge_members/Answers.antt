@@ -1,17 +1,15 @@
-use borrow.Author.Rules.{rules}
 use native.Mathlib.Omega.{arith}
 use mathlib.Core.Path.{◌≡◌, sym, ap, ◌∙◌}
 use mathlib.Core.List.{List, []}
 use mathlib.Core.Bool.{Bool}
-use Prim.Native.Nat.{ℕ, ◌+◌, ◌*◌, ◌-◌, ◌<◌, ◌≤◌}
+use Prim.Native.Nat.{ℕ, ◌+◌, ◌*◌, ◌<◌}
 use lib.ListN.{length, get_or, take, drop}
-use borrow.Author.Tests.{not-true, not-false}
 use Rattle.formula.specs.Members.{is_formula}
 use Rattle.encoding.specs.Parse.{fits_from}
 use Rattle.proof_files.specs.ProofParts.{kind_table}
 use Rattle.writing.specs.Ends.{next}
 use Rattle.vetting.specs.StepLaws.{finds_stop, finds_next}
-use Rattle.vetting.specs.WalkLaws.{RisingLeft, rising_begins, rising_stop, rising_on, rising-end, part_long, part_at}
+use Rattle.vetting.specs.WalkLaws.{rising_begins, rising_stop, rising_on, rising-end, part_long, part_at}
 use Rattle.vetting.specs.KindTests.{may_follow_fits}
 use Rattle.vetting.proofs.judge_members.Goals as goal
 use Rattle.vetting.proofs.judge_members.Goals.{After-may_follow, Start}

@@ -1,12 +1,7 @@
-use borrow.Author.Rules.{rules}
 use native.Mathlib.Omega.{arith}
-use mathlib.Core.Path.{◌≡◌, refl, sym, ap, ◌∙◌}
-use Prim.Native.Nat.{◌-◌, ◌≤◌}
-use borrow.Author.Tests.{not-true, not-false}
-use Rattle.proof_files.specs.ProofParts.{kind_table}
-use Rattle.vetting.specs.Steps.{shown_step}
+use mathlib.Core.Path.{refl, sym, ◌∙◌}
 use Rattle.vetting.specs.StepLaws.{finds_stop, finds_next}
-use Rattle.vetting.specs.NodeWalk.{NodesLeft, nodes_begin, ends, nodes_stop, nodes_on, nodes_end_lem, rule_unfit, links_unfit, node_fits}
+use Rattle.vetting.specs.NodeWalk.{nodes_begin, nodes_stop, nodes_on, nodes_end_lem, rule_unfit, links_unfit, node_fits}
 use Rattle.vetting.specs.declared.Step.TheVariants.{Stop}
 use Rattle.vetting.proofs.judge_nodes.Goals as goal
 

@@ -1,5 +1,4 @@
 -- The bytes first, then the trees.
-use native.Mathlib.Omega.{arith}
 use mathlib.Core.Path.{◌≡◌, refl, sym, ap, ◌∙◌}
 use mathlib.Core.List.{List}
 use Rattle.verdict.specs.Shown.{shown}
@@ -26,7 +25,6 @@ use Rattle.claim_files.specs.ClaimFile.{GoalCount}
 use Rattle.formula.specs.PlainNodes.{proof_of}
 use Prim.Native.Nat.{ℕ}
 use mathlib.Core.Bool.{true}
-use borrow.Author.Rules.{rules}
 use Rattle.vetting.proofs.judge_proof.Goals as goal
 use Rattle.vetting.proofs.judge_proof.Goals.{Start}
 

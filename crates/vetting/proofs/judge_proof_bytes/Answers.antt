@@ -14,7 +14,6 @@ use Rattle.writing.specs.Held.{records_of}
 use Rattle.vetting.specs.StepLaws.{finds_stop, finds_as, found_stop, found_next, stops_there, goes_on}
 use Rattle.vetting.specs.CountLaws.{proof_out, proof_in}
 use Rattle.vetting.specs.declared.Step.TheVariants.{Stop}
-use borrow.Author.Rules.{rules}
 use Rattle.vetting.proofs.judge_proof_bytes.Goals as goal
 use Rattle.vetting.proofs.judge_proof_bytes.Goals.{After-wide, Start}
 

@@ -8,7 +8,6 @@ use Rattle.formula.specs.Claim.{Form}
 use Rattle.formula.specs.NamedForm.{named_form, names_several, names_one}
 use Rattle.vetting.specs.StepLaws.{finds_stop, finds_next, finds_as}
 use Rattle.vetting.specs.RootLaws.{roots_unfit, roots_fit_lem, roots_none}
-use borrow.Author.Rules.{rules}
 use Rattle.vetting.proofs.judge_rooted.Goals as goal
 use Rattle.vetting.proofs.judge_rooted.Goals.{Start}
 

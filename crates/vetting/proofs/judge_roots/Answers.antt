@@ -1,8 +1,7 @@
-use borrow.Author.Rules.{rules}
 use native.Mathlib.Omega.{arith}
 use mathlib.Core.Path.{◌≡◌, refl, sym, ap, ◌∙◌}
 use mathlib.Core.Bool.{false}
-use Prim.Native.Nat.{ℕ, ◌+◌, ◌*◌, ◌-◌, ◌≤◌}
+use Prim.Native.Nat.{ℕ, ◌+◌, ◌*◌}
 use lib.ListN.{length}
 use borrow.Author.Tests.{le-leb, lt-leb, lt-ltb, le-ltb}
 use Rattle.encoding.specs.Parse.{fits_from}
@@ -10,7 +9,7 @@ use Rattle.proof_files.specs.ReadProof.{is_node}
 use Rattle.writing.specs.Ends.{next, stop}
 use Rattle.writing.specs.FieldEnds.{rising_end}
 use Rattle.vetting.specs.StepLaws.{finds_stop, finds_next}
-use Rattle.vetting.specs.WalkLaws.{RisingLeft, rising_begins, rising_stop, rising_on, rising-end}
+use Rattle.vetting.specs.WalkLaws.{rising_begins, rising_stop, rising_on, rising-end}
 use Rattle.vetting.proofs.judge_roots.Goals as goal
 use Rattle.vetting.proofs.judge_roots.Goals.{After-wide-root}
 

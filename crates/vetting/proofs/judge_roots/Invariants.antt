@@ -1,17 +1,8 @@
 -- The roots before i rise, and the rest is walked over from here.
-use borrow.Author.Rules.{rules}
-use native.Mathlib.Omega.{arith}
-use mathlib.Core.Path.{◌≡◌, refl, sym, ap, ◌∙◌}
-use mathlib.Core.Bool.{false}
-use Prim.Native.Nat.{ℕ, ◌+◌, ◌*◌, ◌-◌, ◌≤◌}
+use Prim.Native.Nat.{◌-◌, ◌≤◌}
 use lib.ListN.{length}
-use borrow.Author.Tests.{le-leb, lt-leb, lt-ltb, le-ltb}
-use Rattle.encoding.specs.Parse.{fits_from}
 use Rattle.proof_files.specs.ReadProof.{is_node}
-use Rattle.writing.specs.Ends.{next, stop}
-use Rattle.writing.specs.FieldEnds.{rising_end}
-use Rattle.vetting.specs.StepLaws.{finds_stop, finds_next}
-use Rattle.vetting.specs.WalkLaws.{RisingLeft, rising_begins, rising_stop, rising_on, rising-end}
+use Rattle.vetting.specs.WalkLaws.{RisingLeft}
 use Rattle.vetting.proofs.judge_roots.Given as goal
 
 abbrev pub invariant-loop-i : goal.invariant-loop-i

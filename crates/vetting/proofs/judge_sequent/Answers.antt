@@ -2,7 +2,6 @@
 use native.Mathlib.Omega.{arith}
 use Rattle.vetting.specs.StepLaws.{finds_stop, finds_next, finds_as}
 use Rattle.vetting.specs.CountLaws.{sequent_none, sequent_out, sequent_in}
-use borrow.Author.Rules.{rules}
 use Rattle.vetting.proofs.judge_sequent.Goals as goal
 
 pub returns-then-count-lt1 : goal.returns-then-count-lt1

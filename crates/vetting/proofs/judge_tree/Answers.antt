@@ -7,7 +7,6 @@ use lib.ListN.{take, length-replicate, get_or-replicate}
 use Rattle.formula.specs.PlainNodes.{proof_of}
 use Rattle.tree.specs.Owners.{tree_judged}
 use Rattle.vetting.specs.RootLaws.{placed, roots_placed, roots_taken}
-use borrow.Author.Rules.{rules}
 use Rattle.vetting.proofs.judge_tree.Goals as goal
 use Rattle.vetting.proofs.judge_tree.Goals.{After-copy_roots}
 

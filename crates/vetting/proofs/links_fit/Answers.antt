@@ -1,12 +1,11 @@
 -- The four fields, one test after the other.
 use mathlib.Core.Path.{◌≡◌, refl}
 use mathlib.Core.Bool.{true}
-use Prim.Native.Nat.{ℕ, ◌+◌, ◌*◌}
+use Prim.Native.Nat.{◌+◌, ◌*◌}
 use lib.ListN.{get_or}
 use Rattle.formula.specs.Fields.{has_principal_lem, has_first_lem, has_second_lem}
 use Rattle.writing.specs.FieldEnds.{may_hold_lem}
 use Rattle.vetting.specs.FitLaws.{field_tested, field_fails, field_passes}
-use borrow.Author.Rules.{rules}
 use Rattle.std.proofs.Common.{ap}
 use Rattle.std.specs.Prelude.{not}
 use Rattle.vetting.proofs.links_fit.Goals as goal

@@ -1,6 +1,5 @@
 -- A field that does not stand is compared with 0.
 use mathlib.Core.Path.{refl}
-use borrow.Author.Rules.{rules}
 use Rattle.vetting.proofs.may_hold.Goals as goal
 
 pub returns-else-stands : goal.returns-else-stands

@@ -1,10 +1,4 @@
-use borrow.Author.Rules.{rules}
 use native.Mathlib.Omega.{arith}
-use mathlib.Core.Path.{◌≡◌}
-use mathlib.Core.List.{List}
-use Prim.Native.Nat.{ℕ, ◌+◌, ◌*◌, ◌-◌, ◌≤◌}
-use lib.ListN.{length, get_or, drop}
-use Rattle.writing.specs.Goals.{total}
 use Rattle.vetting.specs.GoalWalk.{total_more, total_none}
 use Rattle.vetting.proofs.total.Goals as goal
 

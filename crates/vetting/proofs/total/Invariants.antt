@@ -1,12 +1,8 @@
 -- What is added, and what is left to add, is the whole sum.
-use borrow.Author.Rules.{rules}
-use native.Mathlib.Omega.{arith}
 use mathlib.Core.Path.{◌≡◌}
-use mathlib.Core.List.{List}
-use Prim.Native.Nat.{ℕ, ◌+◌, ◌*◌, ◌-◌, ◌≤◌}
-use lib.ListN.{length, get_or, drop}
+use Prim.Native.Nat.{◌+◌, ◌*◌, ◌-◌, ◌≤◌}
+use lib.ListN.{length, drop}
 use Rattle.writing.specs.Goals.{total}
-use Rattle.vetting.specs.GoalWalk.{total_more, total_none}
 use Rattle.vetting.proofs.total.Given as goal
 
 abbrev pub invariant-loop-i : goal.invariant-loop-i

@@ -15,11 +15,11 @@ use Rattle.formula.specs.NamedForm.{named_form, for_named}
 use Rattle.writing.specs.Goals.{roots_of}
 use Rattle.writing.specs.Ends.{End, next}
 use Rattle.writing.specs.ProofEnds.{nodes_over}
-use Rattle.writing.specs.Encoded.{proof_judged, ProofPasses, proof_passes}
+use Rattle.writing.specs.Encoded.{proof_judged, ProofPasses}
+use Rattle.writing.proofs.Encoded.{proof_passes}
 use Rattle.writing.specs.Held.{plain_record, records_of}
 use Rattle.vetting.specs.StepLaws.{found_stop, found_next}
 use Rattle.writer.specs.Written.{wrote_refusal, wrote_no_room, wrote_file, nodes_given, node_room}
-use borrow.Author.Rules.{rules}
 use Rattle.writer.proofs.write_beside.Goals as goal
 use Rattle.writer.proofs.write_beside.Goals.{Start}
 

@@ -12,12 +12,12 @@ use Rattle.formula.specs.NamedForm.{named_form}
 use Rattle.writing.specs.RecordBytes.{split}
 use Rattle.writing.specs.Spelling.{spelled_claim}
 use Rattle.writing.specs.Ends.{End, next}
-use Rattle.writing.specs.Encoded.{claim_judged, ClaimPasses, claim_passes}
+use Rattle.writing.specs.Encoded.{claim_judged, ClaimPasses}
+use Rattle.writing.proofs.Encoded.{claim_passes}
 use Rattle.writing.specs.Held.{ClaimWritten}
 use Rattle.writing.specs.Answers.{answered}
 use Rattle.vetting.specs.StepLaws.{found_stop, found_next}
 use Rattle.writer.specs.Written.{asked_form, asked_none, Wrote, wrote_refusal, wrote_no_room, wrote_file, claim_too_short, claim_of_no_form, claim_written, goals_room}
-use borrow.Author.Rules.{rules}
 use Rattle.std.proofs.Common.{ap}
 use Rattle.std.specs.Prelude.{not}
 use Rattle.writer.proofs.write_claim.Goals as goal

@@ -15,11 +15,11 @@ use Rattle.encoding.specs.File.{refused}
 use Rattle.proof_files.specs.ProofParts.{kind_table}
 use Rattle.formula.specs.NamedForm.{named_form}
 use Rattle.writing.specs.Ends.{End, next, stop}
-use Rattle.writing.specs.Encoded.{claim_judged, claim_passes}
+use Rattle.writing.specs.Encoded.{claim_judged}
+use Rattle.writing.proofs.Encoded.{claim_passes}
 use Rattle.writing.specs.Held.{records_of, ProofWritten}
 use Rattle.vetting.specs.StepLaws.{found_stop, found_next}
 use Rattle.writer.specs.Written.{formed, asked_form, asked_none, Wrote, proved_by, proof_too_short, proof_of_no_form, claim_refused_first, proof_written, stands_beside}
-use borrow.Author.Rules.{rules}
 use Rattle.std.proofs.Common.{ap}
 use Rattle.std.specs.Prelude.{not}
 use Rattle.writer.proofs.write_proof.Goals as goal

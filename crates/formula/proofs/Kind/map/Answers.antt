@@ -1,6 +1,5 @@
 -- An entry with B has A too.
 use mathlib.Core.Path.{sym, ◌∙◌}
-use borrow.Author.Rules.{rules}
 use Rattle.formula.specs.FieldLaws.{map_two, map-one, map-none}
 use Rattle.formula.proofs.Kind.map.Goals as goal
 

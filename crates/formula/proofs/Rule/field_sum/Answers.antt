@@ -1,6 +1,5 @@
 -- Four fields, each by whether the rule has it.
 use native.Mathlib.Omega.{arith}
-use borrow.Author.Rules.{rules}
 use Rattle.formula.proofs.Rule.field_sum.Goals as goal
 
 pub returns : goal.returns

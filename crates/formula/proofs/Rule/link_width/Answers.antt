@@ -1,6 +1,5 @@
 use native.Mathlib.Omega.{arith}
 use Rattle.formula.specs.Fields.{link_width_le}
-use borrow.Author.Rules.{rules}
 use Rattle.formula.proofs.Rule.link_width.Goals as goal
 
 pub returns : goal.returns

@@ -1,9 +1,8 @@
 -- what the answer promises follows from its number
 use mathlib.Core.Path.{ap, ◌∙◌}
-use borrow.Author.Rules.{rules}
 use Rattle.verdict.specs.Verdict.{packed}
 use Rattle.encoding.specs.ByteLaws.{lent_bytes}
-use Rattle.demands.specs.Single.{single}
+use Rattle.demands.proofs.Single.{single}
 use Rattle.gate.proofs.check.focus_check.Goals as goal
 
 pub returns : goal.returns

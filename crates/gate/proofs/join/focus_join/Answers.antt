@@ -1,7 +1,6 @@
 -- what the answer promises follows from its number and from what was laid down
-use borrow.Author.Rules.{rules}
 use Rattle.encoding.specs.ByteLaws.{lent_bytes}
-use Rattle.demands.specs.JoinCall.{join_call}
+use Rattle.demands.proofs.JoinCall.{join_call}
 use Rattle.gate.proofs.join.focus_join.Goals as goal
 
 pub returns : goal.returns

@@ -1,5 +1,4 @@
 -- what is written from the loaded columns is what the records promise
-use Rattle.std.proofs.Common.{arith}
 use Rattle.lent_records.specs.WriteCall.{write_claim_call}
 use Rattle.gate.proofs.write.focus_write_claim.Goals as goal
 

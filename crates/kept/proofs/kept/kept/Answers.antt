@@ -2,7 +2,6 @@
 use mathlib.Core.Path.{ap, ap₂, ◌∙◌}
 use mathlib.Core.Bool.{Bool}
 use native.Mathlib.Omega.{arith}
-use borrow.Author.Rules.{rules}
 use Rattle.verdict.specs.Tests.{same}
 use Rattle.formula.specs.Plain.{table_of}
 use Rattle.calculus.specs.Judge.{clash, truth}

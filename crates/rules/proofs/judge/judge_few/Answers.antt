@@ -2,7 +2,6 @@
 use Prim.Native.Nat.{ℕ}
 use native.Mathlib.Omega.{arith}
 use lib.ListN.{length-replicate, get_or-replicate}
-use borrow.Author.Rules.{rules}
 use Rattle.rules.proofs.judge.judge_few.Goals as goal
 
 pub judge_in-requires : goal.judge_in-requires

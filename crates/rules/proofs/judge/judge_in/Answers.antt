@@ -1,9 +1,9 @@
 -- 35 first, and then the rest over a tree
-use mathlib.Core.Path.{refl, sym, ap, ◌∙◌}
+use mathlib.Core.Path.{refl, sym, ◌∙◌}
 use borrow.Author.Rules.{rules}
-use Rattle.verdict.specs.Shown.{shown}
 use Rattle.tree.specs.TreeStages.{filled_parented}
-use Rattle.rules.specs.JudgeStages.{tree_bad, tree_good, filled_tree, filled_judged}
+use Rattle.rules.specs.JudgeStages.{filled_tree, filled_judged}
+use Rattle.rules.proofs.JudgeStages.{tree_bad, tree_good}
 use Rattle.rules.proofs.judge.judge_in.Goals as goal
 
 pub fill_owners-requires : goal.fill_owners-requires

@@ -1,18 +1,12 @@
 -- before a node: every smaller one keeps its rule, whatever the claim's goals
-use mathlib.Core.Path.{sym, ◌∙◌}
 use mathlib.Core.List.{List}
 use Prim.Native.Nat.{ℕ, ◌≤◌, ◌-◌}
-use native.Mathlib.Omega.{arith}
-use borrow.Author.Count.{below_more}
-use borrow.Author.Rules.{rules}
-use borrow.Author.Tests.{not-true, not-false}
 use Rattle.formula.specs.Claim.{Form}
 use Rattle.formula.specs.Held.{held_claim}
 use Rattle.formula.specs.PlainNodes.{proof_of}
 use Rattle.calculus.specs.View.{plain}
 use Rattle.calculus.specs.Judge.{keeps}
 use Rattle.verdict.specs.ScanLaws.{Passed}
-use Rattle.rules.specs.JudgeStages.{rules_fail, rules_pass}
 use Rattle.rules.proofs.judge.judge_nodes.Given as goal
 
 abbrev pub invariant-loop-v : goal.invariant-loop-v

@@ -1,15 +1,11 @@
 -- 37 and 38, and if no node earns one, 39
-use mathlib.Core.Path.{◌≡◌, sym, ◌∙◌}
-use mathlib.Core.List.{List, []}
-use Prim.Native.Nat.{ℕ}
+use mathlib.Core.Path.{sym, ◌∙◌}
+use mathlib.Core.List.{[]}
 use native.Mathlib.Omega.{arith}
-use borrow.Author.Rules.{rules}
-use Rattle.verdict.specs.Verdict.{accepted}
-use Rattle.formula.specs.Claim.{Form, clm1, Claim}
+use Rattle.formula.specs.Claim.{clm1}
 use Rattle.formula.specs.Held.{held_claim}
-use Rattle.formula.specs.Nodes.{Proof}
 use Rattle.formula.specs.PlainNodes.{proof_of, proof_of_length}
-use Rattle.rules.specs.JudgeStages.{rules_judged, rules_linked, nodes_passed, nodes_refused}
+use Rattle.rules.specs.JudgeStages.{rules_linked, nodes_passed, nodes_refused}
 use Rattle.rules.proofs.judge.judge_rules.Goals as goal
 
 pub fill_spans-requires : goal.fill_spans-requires

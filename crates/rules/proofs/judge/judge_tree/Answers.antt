@@ -2,9 +2,8 @@
 use mathlib.Core.Path.{◌≡◌, sym, ap, ◌∙◌}
 use native.Mathlib.Omega.{arith}
 use lib.ListN.{take}
-use borrow.Author.Rules.{rules}
 use Rattle.verdict.specs.Shown.{shown}
-use Rattle.formula.specs.Claim.{Form, Claim, Derivation}
+use Rattle.formula.specs.Claim.{Form}
 use Rattle.formula.specs.Plain.{table_of_length}
 use Rattle.formula.specs.Held.{held_claim, held_proof}
 use Rattle.formula.specs.PlainNodes.{proof_of}

@@ -1,8 +1,6 @@
 -- a back leaf keeps its rule when its companion fits and has its sequent; any other node when it keeps what it owes its children
 use mathlib.Core.Path.{ap₂, sym, ◌∙◌}
 use mathlib.Core.Bool.{Bool}
-use borrow.Author.Rules.{rules}
-use borrow.Author.Tests.{not-true, not-false}
 use Rattle.verdict.specs.Tests.{same}
 use Rattle.formula.specs.Held.{held_claim}
 use Rattle.formula.specs.Claim.{clm1}

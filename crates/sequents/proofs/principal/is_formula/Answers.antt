@@ -2,7 +2,6 @@
 use mathlib.Core.Path.{refl}
 use native.Mathlib.Omega.{arith}
 use borrow.Author.Tests.{lt-ltb, le-ltb}
-use borrow.Author.Rules.{rules}
 use Rattle.sequents.proofs.principal.is_formula.Goals as goal
 
 pub returns-then-size-entry : goal.returns-then-size-entry

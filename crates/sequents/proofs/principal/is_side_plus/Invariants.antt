@@ -1,11 +1,8 @@
 -- `is_side_plus` meets its contract: the child's words are those of the side with the code, and only there are they the same set.
-use mathlib.Core.Path.{◌≡◌, sym, ◌∙◌}
+use mathlib.Core.Path.{◌≡◌}
 use Prim.Native.Nat.{ℕ, ◌≤◌, ◌<◌, ◌-◌}
-use native.Mathlib.Omega.{arith}
 use lib.ListN.{length, get_or}
-use borrow.Author.Count.{below_more}
-use borrow.Author.Rules.{rules}
-use Rattle.sequents.specs.CodeSet.{inserted, holds_with, same_words, other_words}
+use Rattle.sequents.specs.CodeSet.{inserted}
 use Rattle.sequents.proofs.principal.is_side_plus.Given as goal
 
 abbrev pub invariant-loop-i : goal.invariant-loop-i

@@ -1,5 +1,4 @@
 -- `operand_key` meets its contract, from what `target_key` promises.
-use borrow.Author.Rules.{rules}
 use Rattle.sequents.proofs.principal.operand_key.Goals as goal
 
 pub target_key-requires : goal.target_key-requires

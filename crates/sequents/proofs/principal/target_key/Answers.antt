@@ -2,7 +2,6 @@
 use mathlib.Core.Path.{ap, ◌∙◌}
 use mathlib.Core.List.{[]}
 use Prim.Native.Nat.{ℕ}
-use borrow.Author.Rules.{rules}
 use Rattle.sequents.specs.Keys.{key_at}
 use Rattle.sequents.specs.KeptLaws.{target_small}
 use Rattle.sequents.proofs.principal.target_key.Goals as goal

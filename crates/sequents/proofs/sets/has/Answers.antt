@@ -1,7 +1,6 @@
 -- `has` meets its contract: no code of 512 or more is in eight words, and any other is one bit.
 use mathlib.Core.Path.{sym, ◌∙◌}
 use native.Mathlib.Omega.{arith}
-use borrow.Author.Rules.{rules}
 use Rattle.bits.specs.WordSet.{past_words, in_word}
 use Rattle.sequents.proofs.sets.has.Goals as goal
 

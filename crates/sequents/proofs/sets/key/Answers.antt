@@ -1,5 +1,4 @@
 -- `key` meets its contract: the number stands in the column.
-use borrow.Author.Rules.{rules}
 use Rattle.sequents.proofs.sets.key.Goals as goal
 
 pub code_of-requires : goal.code_of-requires

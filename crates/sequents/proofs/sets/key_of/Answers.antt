@@ -1,5 +1,4 @@
 -- `key_of` meets its contract: the code's entry, with the code's focus.
-use borrow.Author.Rules.{rules}
 use Rattle.sequents.proofs.sets.key_of.Goals as goal
 
 pub returns : goal.returns

@@ -1,5 +1,4 @@
 -- `put` meets its contract: the word of the code has one bit more.
-use borrow.Author.Rules.{rules}
 use Rattle.sequents.specs.CodeSet.{holds_with}
 use Rattle.sequents.proofs.sets.put.Goals as goal
 

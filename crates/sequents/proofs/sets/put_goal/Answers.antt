@@ -1,10 +1,9 @@
 use mathlib.Core.Path.{◌≡◌}
-use Prim.Native.Nat.{◌≤◌, ◌-◌}
+use Prim.Native.Nat.{◌-◌}
 use native.Mathlib.Omega.{arith}
 use borrow.Author.Rules.{rules}
-use Rattle.verdict.specs.Tests.{each}
-use Rattle.sequents.specs.Part.{part, part_member}
-use Rattle.sequents.specs.CodeSet.{Holds, each_before, each_end}
+use Rattle.sequents.specs.Part.{part_member}
+use Rattle.sequents.specs.CodeSet.{each_before, each_end}
 use Rattle.sequents.specs.Keys.{in_focus}
 use Rattle.sequents.proofs.sets.put_goal.Goals as goal
 

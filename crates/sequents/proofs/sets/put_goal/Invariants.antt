@@ -1,11 +1,8 @@
 -- `put_goal` meets its contract. The invariant: the set holds the members from i on, in focus.
-use mathlib.Core.Path.{◌≡◌}
 use Prim.Native.Nat.{◌≤◌, ◌-◌}
-use native.Mathlib.Omega.{arith}
-use borrow.Author.Rules.{rules}
 use Rattle.verdict.specs.Tests.{each}
-use Rattle.sequents.specs.Part.{part, part_member}
-use Rattle.sequents.specs.CodeSet.{Holds, each_before, each_end}
+use Rattle.sequents.specs.Part.{part}
+use Rattle.sequents.specs.CodeSet.{Holds}
 use Rattle.sequents.specs.Keys.{in_focus}
 use Rattle.sequents.proofs.sets.put_goal.Given as goal
 

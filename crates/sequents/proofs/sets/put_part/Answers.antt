@@ -1,10 +1,10 @@
 use mathlib.Core.Path.{◌≡◌}
-use Prim.Native.Nat.{◌≤◌, ◌-◌}
+use Prim.Native.Nat.{◌-◌}
 use native.Mathlib.Omega.{arith}
 use borrow.Author.Rules.{rules}
-use Rattle.sequents.specs.CodeSet.{Holds, each_before, each_end}
-use Rattle.sequents.specs.Keys.{key_of_lem, keys_of}
-use Rattle.sequents.specs.Part.{part, span_small}
+use Rattle.sequents.specs.CodeSet.{each_before, each_end}
+use Rattle.sequents.specs.Keys.{key_of_lem}
+use Rattle.sequents.specs.Part.{span_small}
 use Rattle.sequents.proofs.sets.put_part.Goals as goal
 
 pub loop-i-init : goal.loop-i-init

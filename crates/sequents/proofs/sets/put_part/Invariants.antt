@@ -1,11 +1,8 @@
 -- `put_part` meets its contract. The invariant: the set holds the members from i on.
-use mathlib.Core.Path.{◌≡◌}
 use Prim.Native.Nat.{◌≤◌, ◌-◌}
-use native.Mathlib.Omega.{arith}
-use borrow.Author.Rules.{rules}
-use Rattle.sequents.specs.CodeSet.{Holds, each_before, each_end}
-use Rattle.sequents.specs.Keys.{key_of_lem, keys_of}
-use Rattle.sequents.specs.Part.{part, span_small}
+use Rattle.sequents.specs.CodeSet.{Holds}
+use Rattle.sequents.specs.Keys.{keys_of}
+use Rattle.sequents.specs.Part.{part}
 use Rattle.sequents.proofs.sets.put_part.Given as goal
 
 abbrev pub invariant-loop-i : goal.invariant-loop-i

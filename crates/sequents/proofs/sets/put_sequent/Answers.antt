@@ -1,5 +1,4 @@
 -- `put_sequent` meets its contract: the codes of node v stand from its start up to the next node's.
-use borrow.Author.Rules.{rules}
 use Rattle.sequents.proofs.sets.put_sequent.Goals as goal
 
 pub put_part-requires : goal.put_part-requires

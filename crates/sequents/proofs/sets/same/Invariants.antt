@@ -1,11 +1,7 @@
 -- `same` meets its contract: sets are the same where all eight words are, and only there.
 use mathlib.Core.Path.{◌≡◌}
 use Prim.Native.Nat.{ℕ, ◌≤◌, ◌<◌, ◌-◌}
-use native.Mathlib.Omega.{arith}
 use lib.ListN.{get_or}
-use borrow.Author.Count.{below_more}
-use borrow.Author.Rules.{rules}
-use Rattle.sequents.specs.CodeSet.{same_words, other_words}
 use Rattle.sequents.proofs.sets.same.Given as goal
 
 abbrev pub invariant-loop-i : goal.invariant-loop-i

@@ -1,5 +1,4 @@
 -- `take` meets its contract: the word of the code has one bit less.
-use borrow.Author.Rules.{rules}
 use Rattle.sequents.specs.CodeSet.{holds_without}
 use Rattle.sequents.proofs.sets.take.Goals as goal
 

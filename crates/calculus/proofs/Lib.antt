@@ -1,0 +1,14 @@
+pub mod ClimbLaws
+pub mod PrincipalLaws
+pub mod Principals
+pub mod BoxLaws
+pub mod RuleLaws
+pub mod GoalLaws
+pub mod Claimed
+pub mod JudgeExact
+pub mod Exact
+pub mod FaultLaws
+pub mod NodeStep
+pub mod OnLoop
+pub mod Reached
+pub mod Sound

@@ -1,0 +1,3 @@
+pub mod ClaimExact
+pub mod ClaimParts
+pub mod ClaimFaults

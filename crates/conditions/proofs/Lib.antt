@@ -1,0 +1,2 @@
+pub mod JudgeExact
+pub mod Actions

@@ -1,0 +1,10 @@
+pub mod CheckExact
+pub mod EvaluateExact
+pub mod Refutable
+pub mod Goalless
+pub mod JoinExact
+pub mod PresentLaws
+pub mod Demands
+pub mod Numbered
+pub mod Single
+pub mod JoinCall

@@ -1,0 +1,9 @@
+pub mod GoalLaws
+pub mod Sits
+pub mod SitsKeeps
+pub mod JoinedTree
+pub mod JoinedRoot
+pub mod JoinedCorrect
+pub mod FitTest
+pub mod JoinedFile
+pub mod Answer

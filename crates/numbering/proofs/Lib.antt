@@ -1,0 +1,4 @@
+pub mod Filling
+pub mod FilledLevels
+pub mod FilledExact
+pub mod FilledCanon

@@ -1,0 +1,3 @@
+pub mod ProofExact
+pub mod NodeFaults
+pub mod ProofFaults

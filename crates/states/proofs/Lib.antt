@@ -1,0 +1,3 @@
+pub mod StateWords
+pub mod TopDown
+pub mod Rows

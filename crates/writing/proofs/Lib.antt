@@ -1,0 +1,11 @@
+pub mod Goals
+pub mod EntryEnds
+pub mod GoalEnds
+pub mod ClaimEnds
+pub mod ProofEnds
+pub mod ClaimTrips
+pub mod ProofTrips
+pub mod Encoded
+pub mod Readings
+pub mod Promises
+pub mod Answers
