@@ -32,7 +32,7 @@ case "${1:-}" in
 esac
 roots='crates/demands/specs/Correct.antt:Correct crates/demands/specs/Correct.antt:Irrefutable crates/demands/specs/Earned.antt:Earned'
 
-{ find crates -path '*/specs/*.antt' -o -path '*/src/*.rt'; ls crates/*/proofs/*.antt; } | sort | xargs awk -f tests/definitions.awk |
+{ find crates -name out -prune -o -path '*/specs/*.antt' -print -o -path '*/src/*.rt' -print; ls crates/*/proofs/*.antt; } | sort | xargs awk -f tests/definitions.awk |
     awk -F '\t' -v list="$list" -v roots="$roots" '
 # Rattle.CRATE.specs.A.B is crates/CRATE/specs/A/B.antt, and with proofs in place of specs likewise.
 function file_of(path) {

@@ -1,5 +1,5 @@
 -- the axioms' tests as the code makes them: by the first member, and the first that is another
-use Rattle.std.specs.Prelude.{◌≡◌, ◌≢◌, ◌⊎◌, Bool, true, false, ◌&&◌, ◌||◌, ℕ, zero, suc, ◌+◌, ◌-◌, ◌<◌, ◌≤◌, eqb, length, get_or}
+use Rattle.std.specs.Prelude.{◌≡◌, ◌≢◌, ◌⊎◌, Bool, true, false, ◌&&◌, ◌||◌, ℕ, zero, suc, ◌+◌, ◌<◌, ◌≤◌, eqb, length, get_or}
 use Rattle.std.proofs.Math.Path.{refl, sym, ap}
 use Rattle.std.proofs.Common.{ap₂, ◌∙◌, inr, le_of_suc-le-suc, arith, eq-eqb, ne_eqb}
 use Rattle.std.proofs.Math.Logic.{inl}
@@ -13,7 +13,7 @@ use Rattle.formula.specs.Kind
 use Rattle.formula.specs.Table.{Table, kind, entry}
 use Rattle.formula.specs.Codes.{entry_of_lem}
 use Rattle.calculus.specs.Judge.{opposite, clash, truth}
-use Rattle.sequents.specs.Part.{part, Span, part_none, part-more, part_length, part_member, part_at}
+use Rattle.sequents.specs.Part.{part, part_none, part-more, at_place}
 use Rattle.sequents.specs.Keys.{key_of_lem, keys_of}
 
 abbrev pub one_of : ℕ → ℕ → ℕ → Bool
@@ -162,21 +162,29 @@ module _ (ns cs : List ℕ) (i j : ℕ) (h : j ≤ i) (k : j ≤ length cs) wher
   unfolding first_other
   other_end x = rw (keys_none ns cs i j k h) refl
 
--- the members of a part as they stand
-module _ (ns : List ℕ) {cs : List ℕ} {i j : ℕ} (S : Span cs i j) where
-  keys_length : length (keys_of ns (part cs i j)) ≡ j - i
-  keys_length = each-length (key_of_lem ns) (part cs i j) ∙ part_length cs i j S.long
+-- the members of codes as they stand
+pub few_alike : (l : List ℕ) → length l < 2 → elements l ⊆ (λ c. c ≡ get_or l 0 0)
+few_alike [] h c m = absurd (Memᴰ.not-nil m)
+few_alike (x ∷ []) h c (Memᴰ.head q) = q
+few_alike (x ∷ []) h c (Memᴰ.tail m) = absurd (Memᴰ.not-nil m)
+few_alike (x ∷ (y ∷ l)) h c m = absurd (omega arith)
 
-  pub key_member : (m : ℕ) → i ≤ m → m < j → elements (keys_of ns (part cs i j)) (key_of_lem ns (get_or cs m 0))
-  key_member m low high = (lists_each (key_of_lem ns) (part cs i j)).from _ (get_or cs m 0, part_member cs i j m low high S.long, refl)
+pub keys_few : (ns cs : List ℕ) → length cs < 2 → elements (keys_of ns cs) ⊆ (λ c. c ≡ get_or (keys_of ns cs) 0 0)
+keys_few ns cs h = few_alike (keys_of ns cs) (omega (arith, each-length (key_of_lem ns) cs))
+
+module _ (ns cs : List ℕ) where
+  keys_length : length (keys_of ns cs) ≡ length cs
+  keys_length = each-length (key_of_lem ns) cs
+
+  pub key_member : (m : ℕ) → m < length cs → elements (keys_of ns cs) (key_of_lem ns (get_or cs m 0))
+  key_member m h = (lists_each (key_of_lem ns) cs).from _ (get_or cs m 0, at_place cs m 0 h, refl)
 
   -- the first place with another member: within, and what stands there
-  pub other_within : (x : ℕ) → first_other x (keys_of ns (part cs i j)) ≤ j - i
-  other_within x = omega (arith, keys_length, first_within x (keys_of ns (part cs i j)))
+  pub other_within : (x : ℕ) → first_other x (keys_of ns cs) ≤ length cs
+  other_within x = omega (arith, keys_length, first_within x (keys_of ns cs))
 
-  pub other_none : (x : ℕ) → first_other x (keys_of ns (part cs i j)) ≡ j - i → elements (keys_of ns (part cs i j)) ⊆ (λ c. c ≡ x)
-  other_none x e = first-none x (keys_of ns (part cs i j)) (omega (arith, keys_length))
+  pub other_none : (x : ℕ) → first_other x (keys_of ns cs) ≡ length cs → elements (keys_of ns cs) ⊆ (λ c. c ≡ x)
+  other_none x e = first-none x (keys_of ns cs) (omega (arith, keys_length))
 
-  pub other_key : (x : ℕ) → first_other x (keys_of ns (part cs i j)) < j - i → key_of_lem ns (get_or cs (i + first_other x (keys_of ns (part cs i j))) 0) ≢ x
-  other_key x h e = first_other_lem x (keys_of ns (part cs i j)) (omega (arith, keys_length))
-      (each_get_d (key_of_lem ns) (part cs i j) _ (omega (arith, part_length cs i j S.long)) ∙ ap (key_of_lem ns) (part_at cs i j _ h) ∙ e)
+  pub other_key : (x : ℕ) → first_other x (keys_of ns cs) < length cs → key_of_lem ns (get_or cs (first_other x (keys_of ns cs)) 0) ≢ x
+  other_key x h e = first_other_lem x (keys_of ns cs) (omega (arith, keys_length)) (each_get_d (key_of_lem ns) cs _ h ∙ e)

@@ -1,9 +1,10 @@
 -- the bit that the code reads, sets and clears in a word; two words of the same bits are equal
-use Rattle.std.specs.Prelude.{◌≡◌, Bool, not, ◌||◌, ◌&&◌, ℕ, zero, suc, ◌*◌, ◌/◌, ◌%◌, ◌^◌, ◌<◌, eqb}
-use Rattle.std.proofs.Common.{ap, ◌∙◌, sym, pow-suc, arith, shr-shr, eq-eqb, ne_eqb, eqb-true}
+use Rattle.std.specs.Prelude.{◌≡◌, Bool, not, ◌||◌, ◌&&◌, ℕ, ◌*◌, ◌/◌, ◌%◌, ◌^◌, ◌<◌, eqb}
+use Rattle.std.proofs.Common.{ap, ◌∙◌, sym, arith, eq-eqb, ne_eqb, eqb-true}
 use Rattle.std.proofs.Math.Decide.{ℕ_discrete}
 use Rattle.std.specs.Int.Bits.{bit_and, bit_or, bit_xor}
 use Rattle.std.proofs.lemmas.Nat.{and_mask}
+use Rattle.std.proofs.lemmas.Nat.Bits.{same_from_bits_below}
 use Rattle.std.proofs.lemmas.Bool.{eqb-false}
 use Rattle.bits.specs.Bits.{bit, or_bit, less_bit, shift_bit}
 
@@ -25,15 +26,6 @@ pub test_bit : (w s : ℕ) → eqb (bit_and (w / 2 ^ s) 1) 1 ≡ bit w s
 unfolding bit
 test_bit w s = ap (λ (n : ℕ). eqb n 1) (and_mask (w / 2 ^ s) 1)
 
-low_bit : (w : ℕ) → bit w 0 ≡ eqb (w % 2) 1
-unfolding bit
-low_bit w = let whole : w / 2 ^ 0 ≡ w = omega arith in ap (λ (n : ℕ). eqb (n % 2) 1) whole
-
--- a word's next bit is a bit of its half
-half_bit : (w k : ℕ) → bit (w / 2) k ≡ bit w (suc k)
-unfolding bit
-half_bit w k = ap (λ (n : ℕ). eqb (n % 2) 1) (shr-shr w 1 k ∙ ap (λ (n : ℕ). w / 2 ^ n) (omega arith))
-
 equal_low : (x y : ℕ) → eqb (x % 2) 1 ≡ eqb (y % 2) 1 → x % 2 ≡ y % 2
 equal_low x y e = go (ℕ_discrete (x % 2) 1)
   where
@@ -42,10 +34,5 @@ equal_low x y e = go (ℕ_discrete (x % 2) 1)
     go (no h) = omega (arith, eqb-false (y % 2) 1 (sym e ∙ ne_eqb (x % 2) 1 h))
 
 pub equal_bits : (n x y : ℕ) → x < 2 ^ n → y < 2 ^ n → ((k : ℕ) → k < n → bit x k ≡ bit y k) → x ≡ y
-equal_bits zero x y h j e = omega arith
-equal_bits (suc n) x y h j e =
-    let low : x % 2 ≡ y % 2 = equal_low x y (sym (low_bit x) ∙ e 0 (omega arith) ∙ low_bit y) in
-    let high : x / 2 ≡ y / 2 =
-    equal_bits n (x / 2) (y / 2) (omega (arith, pow-suc 2 n)) (omega (arith, pow-suc 2 n))
-    (λ k l. half_bit x k ∙ e (suc k) (omega arith) ∙ sym (half_bit y k)) in
-    omega arith
+unfolding bit
+equal_bits n x y h j e = same_from_bits_below n x y h j (λ i l. equal_low (x / 2 ^ i) (y / 2 ^ i) (e i l))

@@ -9,7 +9,7 @@ ghost use Rattle.bits.specs.LowestBit.{LowestBit};
 pub fn wide(number: u16) -> usize
     ensures { result ≡ number }
 {
-    number as usize
+    usize::from(number)
 }
 
 // The value where the bit stands, else 0.
@@ -24,5 +24,5 @@ pub fn lowest_bit(word: u64) -> usize
     requires { word ≡ 0 → ⊥ }
     ensures { LowestBit word result }
 {
-    u64::trailing_zeros(word) as usize
+    word.trailing_zeros() as usize
 }

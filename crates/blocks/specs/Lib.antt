@@ -5,3 +5,4 @@ pub mod Gathering
 pub mod Growing
 pub mod Waking
 pub mod Turn
+pub mod Columned

@@ -9,13 +9,13 @@ use Rattle.formula.specs.Columns.{column, kind_column, a_column, b_column, colum
 use Rattle.formula.specs.Spelled.{Spelled, marked, marked_of, table_by, by_length, by_more}
 use Rattle.formula.specs.Claim.{Form, fewest}
 use Rattle.encoding.specs.Parse.{Got, fault, times, listed, count, two}
+use Rattle.encoding.specs.Parsed.{Parsed}
 use Rattle.claim_files.specs.ReadClaim.{early, entry, entries}
 use Rattle.encoding.specs.Walk.{Reached, Walking, walk_begins, walk_steps, walk_stops, walk_ends, counted_starts, counted_cut}
 use Rattle.encoding.specs.Places.{InFile}
 use Rattle.file_parts.specs.Numbers.{count_at_lem, count_inside}
 use Rattle.claim_entries.specs.ClaimEntry.{entry_at, EntryGot}
 use Rattle.file_parts.specs.Parts.{ListRead, PartTells, part_as}
-use Rattle.file_parts.specs.declared.Part.{Part}
 
 -- arrays of 256 elements: so is every `[T; 256]`, but of one behind a reference the logic does not tell it
 pub record EntryArrays (ks xs ys : List ℕ) : Type 0 where
@@ -57,7 +57,7 @@ module _ (least : ℕ) (s : List ℕ) {n o : ℕ} (h : Reached s (4 + 2) (count_
   pub entries_place : InFile s 6 o × (n ≤ 256)
   entries_place = (record { within = h.inside; low = h.near }, (count_inside early s 4 least 256 12 h).1)
 
-  pub entries_tell : (Stored : List Spelled → Type 0) (r : Part) → PartTells s (o + 6 * n) 256 (entries_from n s o) Stored r → PartTells s 1542 256 (entries_at least s 4) Stored r
+  pub entries_tell : (Stored : List Spelled → Type 0) (r : Parsed ℕ) → PartTells s (o + 6 * n) 256 (entries_from n s o) Stored r → PartTells s 1542 256 (entries_at least s 4) Stored r
   entries_tell Stored r t = part_as s 256 Stored r (omega (arith, h.near, count_inside early s 4 least 256 12 h)) (entries_start least s 4 h) t
 
 -- i of n entries are read and stored

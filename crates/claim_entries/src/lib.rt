@@ -12,35 +12,24 @@ ghost use Rattle.claim_entries.specs.ClaimEntry.{entry_at, EntryTells};
 ghost use Rattle.claim_entries.specs.ClaimEntries.{EntryArrays, EntriesStored, entries_at, entries_from};
 
 use claim_files::ClaimFault;
-use file_parts::{Number, Part, count_at, field_at};
+use encoding::{Parsed, Read};
+use file_parts::{count_at, field_at};
 use formula::Kind;
+use verdict::Fault;
 
-// An entry as the columns hold it, and the place after it.
+// An entry as the columns hold it.
 #[derive(Clone, Copy)]
-pub enum EntryRead {
-    Read {
-        kind: u8,
-        a: u16,
-        b: u16,
-        next: usize,
-    },
-    Refused {
-        number: u16,
-        place: u16,
-    },
+pub struct HeldEntry {
+    pub kind: u8,
+    pub a: u16,
+    pub b: u16,
 }
 
 // A known kind, and the map of its fields: that of the kind, or with B for the action of a box or diamond.
 fn kind_fits(map: u8, kind: u8) -> bool
     ensures { result ≡ kind_fits (map, kind) }
 {
-    if Kind::NAME < kind {
-        return false;
-    }
-    if map == Kind::map(kind) {
-        return true;
-    }
-    Kind::is_modal(kind) && map == 3
+    kind <= Kind::NAME && (map == Kind::map(kind) || (Kind::is_modal(kind) && map == 3))
 }
 
 // Whether A stands.
@@ -62,54 +51,37 @@ fn b_stands(map: u8) -> bool
 fn held_b(kind: u8, stands: bool, b: u16) -> u16
     ensures { result ≡ choose (is_modal_lem kind && (stands && eqb b 0)) 65535 b }
 {
-    if b != 0 {
-        return b;
-    }
-    if !stands {
-        return b;
-    }
-    if Kind::is_modal(kind) {
+    if b == 0 && stands && Kind::is_modal(kind) {
         return 65535;
     }
     b
 }
 
 // Map and kind are judged before fields, once both are there; an unfit pair is refused at the map.
-pub fn entry_at(bytes: &[u8], start: usize) -> EntryRead
+pub fn entry_at(bytes: &[u8], start: usize) -> Parsed<HeldEntry>
     requires { InFile bytes.now 65000 start }
     ensures { EntryTells bytes.now (start + 6) (entry_at bytes.now start) result }
 {
     if bytes.len() - start < 2 {
-        return EntryRead::Refused {
-            number: ClaimFault::LENGTH,
-            place: bytes.len() as u16,
-        };
+        return Err(ClaimFault::Length.at(bytes.len() as u16));
     }
     let map = bytes[start];
     let kind = bytes[start + 1];
     let fields = start + 2;
     if !kind_fits(map, kind) {
-        return EntryRead::Refused {
-            number: ClaimFault::KIND,
-            place: start as u16,
-        };
+        return Err(ClaimFault::Kind.at(start as u16));
     }
-    match field_at(bytes, fields, a_stands(map), ClaimFault::LENGTH) {
-        Number::Refused { number, place } => EntryRead::Refused { number, place },
-        Number::Read {
-            value: a,
-            next: b_at,
-        } => {
-            let second = b_stands(map);
-            match field_at(bytes, b_at, second, ClaimFault::LENGTH) {
-                Number::Refused { number, place } => EntryRead::Refused { number, place },
-                Number::Read { value, next } => {
-                    let b = held_b(kind, second, value);
-                    EntryRead::Read { kind, a, b, next }
-                }
-            }
-        }
-    }
+    let a = field_at(bytes, fields, a_stands(map), ClaimFault::Length as u16)?;
+    let second = b_stands(map);
+    let b = field_at(bytes, a.next, second, ClaimFault::Length as u16)?;
+    Ok(Read {
+        value: HeldEntry {
+            kind,
+            a: a.value,
+            b: held_b(kind, second, b.value),
+        },
+        next: b.next,
+    })
 }
 
 // The entries' columns are stored while they are read.
@@ -120,32 +92,24 @@ fn store_entries(
     kinds: &mut [u8; 256],
     a: &mut [u16; 256],
     b: &mut [u16; 256],
-) -> Part
+) -> Parsed<usize>
     requires entry_arrays { EntryArrays kinds.old a.old b.old }
     requires in_file { (InFile bytes.now 6 from) × (count ≤ 256) }
     ensures { PartTells bytes.now (from + 6 * count) 256 (entries_from count bytes.now from)
         (λ es. EntriesStored kinds.old kinds.new a.old a.new b.old b.new (marked_of es)) result }
 {
     let mut at = from;
-    let mut i = 0;
-    while i < count {
-        match entry_at(bytes, at) {
-            EntryRead::Refused { number, place } => return Part::Refused { number, place },
-            EntryRead::Read {
-                kind,
-                a: a_field,
-                b: b_field,
-                next,
-            } => {
-                kinds[i] = kind;
-                a[i] = a_field;
-                b[i] = b_field;
-                at = next;
-                i += 1;
-            }
-        }
+    for i in 0..count {
+        let entry = entry_at(bytes, at)?;
+        kinds[i] = entry.value.kind;
+        a[i] = entry.value.a;
+        b[i] = entry.value.b;
+        at = entry.next;
     }
-    Part::Read { count, next: at }
+    Ok(Read {
+        value: count,
+        next: at,
+    })
 }
 
 // Two bytes, the entry count (from the least to 256); the entries.
@@ -155,14 +119,19 @@ pub fn read_entries(
     kinds: &mut [u8; 256],
     a: &mut [u16; 256],
     b: &mut [u16; 256],
-) -> Part
+) -> Parsed<usize>
     requires entry_arrays { EntryArrays kinds.old a.old b.old }
     requires in_bounds { 4 ≤ length bytes.now }
     ensures { PartTells bytes.now 1542 256 (entries_at least bytes.now 4)
         (λ es. EntriesStored kinds.old kinds.new a.old a.new b.old b.new (marked_of es)) result }
 {
-    match count_at(bytes, 4, least, 256, ClaimFault::COUNT, ClaimFault::LENGTH) {
-        Number::Refused { number, place } => Part::Refused { number, place },
-        Number::Read { value, next } => store_entries(bytes, next, value as usize, kinds, a, b),
-    }
+    let count = count_at(
+        bytes,
+        4,
+        least,
+        256,
+        ClaimFault::Count as u16,
+        ClaimFault::Length as u16,
+    )?;
+    store_entries(bytes, count.next, count.value as usize, kinds, a, b)
 }

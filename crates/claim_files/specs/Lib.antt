@@ -4,3 +4,4 @@ pub mod ClaimExact
 pub mod ClaimDocument
 pub mod ClaimFaults
 pub mod ClaimRecords
+pub mod FaultNumbers

@@ -2,25 +2,30 @@
 // Here only the numbers that code above goes by.
 #![tactic(auto)]
 
+ghost use Rattle.claim_files.specs.FaultNumbers.{number_of};
+
+use verdict::Fault;
+
 // The first four bytes of a claim file: with one goal, and with several.
 pub const CLAIM_OPENING: [u8; 4] = *b"CLM1";
 
 pub const GOALS_OPENING: [u8; 4] = *b"CLM2";
 
 // What the bytes of a claim earn.
-#[derive(Clone, Copy)]
-pub struct ClaimFault;
+#[derive(Clone, Copy, PartialEq, Eq)]
+pub enum ClaimFault {
+    Opening = 10,
+    Length = 11,
+    Count = 12,
+    Kind = 13,
+    Member = 14,
+    Goals = 72,
+}
 
-impl ClaimFault {
-    pub const OPENING: u16 = 10;
+impl Fault for ClaimFault {
+    ghost number_of = { number_of };
 
-    pub const LENGTH: u16 = 11;
-
-    pub const COUNT: u16 = 12;
-
-    pub const KIND: u16 = 13;
-
-    pub const MEMBER: u16 = 14;
-
-    pub const GOALS: u16 = 72;
+    fn number(self) -> u16 {
+        self as u16
+    }
 }

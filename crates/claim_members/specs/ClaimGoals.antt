@@ -14,11 +14,11 @@ use Rattle.formula.specs.Columns.{kind_column}
 use Rattle.formula.specs.Spelled.{Spelled, marked_of}
 use Rattle.encoding.specs.Parse.{Got, fault, Parser, times, listed}
 use Rattle.encoding.specs.GotLaws.{same_value}
+use Rattle.encoding.specs.Parsed.{Parsed}
 use Rattle.encoding.specs.Places.{InFile}
 use Rattle.encoding.specs.Walk.{Reached, Walking, walk_begins, walk_steps, walk_stops, walk_ends, counted_starts, counted_cut}
 use Rattle.file_parts.specs.Numbers.{count_at_lem, count_inside}
 use Rattle.file_parts.specs.Parts.{ListRead, PartTells, part_as}
-use Rattle.file_parts.specs.declared.Part.{Part}
 use Rattle.claim_files.specs.ReadClaim.{early, goal_count, goals}
 use Rattle.claim_members.specs.ClaimMembers.{members_by, members_at, MembersStored, members_same}
 use Rattle.claim_members.specs.GoalColumns.{joined, ends_from, starts_of, joined-more, ends_more, ends_length, GoalsStored, columns_stored}
@@ -67,7 +67,7 @@ module _ (f : Form) (ks : List ℕ) (n : ℕ) (s : List ℕ) (at : ℕ) where
 
   module _ {k o : ℕ} (h : Reached s (at + 2) (goal_count_at f s at) k o) where
     -- a goal takes 50 bytes at most: none lies past offset 2,344
-    pub goals_tell : InFile s 1542 at → (Stored : List (List ℕ) → Type 0) (r : Part) → PartTells s (o + 50 * k) 16 (goals_from ks n k s o) Stored r → PartTells s 2344 16 (goals_at f ks n s at) Stored r
+    pub goals_tell : InFile s 1542 at → (Stored : List (List ℕ) → Type 0) (r : Parsed ℕ) → PartTells s (o + 50 * k) 16 (goals_from ks n k s o) Stored r → PartTells s 2344 16 (goals_at f ks n s at) Stored r
     unfolding goals_at goals_from goal_count_at times
     goals_tell p Stored r t =
         part_as s 16 Stored r (omega (arith, h.near, p.low, (goals_place s at f p h).1))

@@ -21,10 +21,10 @@ use Rattle.formula.specs.Members.{is_formula, formula_tells}
 use Rattle.claim_files.specs.ReadClaim.{early, members}
 use Rattle.encoding.specs.Walk.{Reached, guard_passes, guard_fails, guard_cut, Walking, walk_begins, walk_steps, walk_stops, walk_ends, counted_starts, counted_cut}
 use Rattle.verdict.specs.WrittenLaws.{sets_more}
+use Rattle.encoding.specs.Parsed.{Parsed}
 use Rattle.encoding.specs.Places.{InFile}
 use Rattle.file_parts.specs.Numbers.{two_at_lem, count_at_lem, count_inside}
 use Rattle.file_parts.specs.Parts.{ListRead, PartTells, part_as}
-use Rattle.file_parts.specs.declared.Part.{Part}
 
 -- an entry of the n whose kinds these are, and no name
 unfoldable pub plain_formula : List ℕ → ℕ → ℕ → Bool
@@ -101,7 +101,7 @@ module _ (ks : List ℕ) (n : ℕ) (s : List ℕ) (at : ℕ) where
   members_cut h = counted_cut (λ c. guard (fits_from (plain_formula ks n) c) 14 (two early)) (λ _ x. suc x) (count 1 24 12 (two early)) (drop at s) at h
 
   module _ {m o : ℕ} (h : Reached s (at + 2) (count_at_lem 1 24 12 early s at) m o) where
-    pub members_tell : (Stored : List ℕ → Type 0) (r : Part) → PartTells s (o + 2 * m) 24 (members_from ks n m s o) Stored r → PartTells s (at + 50) 24 (members_at ks n s at) Stored r
+    pub members_tell : (Stored : List ℕ → Type 0) (r : Parsed ℕ) → PartTells s (o + 2 * m) 24 (members_from ks n m s o) Stored r → PartTells s (at + 50) 24 (members_at ks n s at) Stored r
     unfolding members_at members_from count_at_lem plain_formula times
     members_tell Stored r t =
         part_as s 24 Stored r (omega (arith, h.near, count_inside early s at 1 24 12 h))

@@ -9,17 +9,25 @@ ghost use Rattle.claim_members.specs.ClaimGoals.{goal_count_at, goals_from, goal
 
 use super::read_members;
 use claim_files::ClaimFault;
-use file_parts::{Number, Part, count_at};
+use encoding::{Parsed, Read};
+use file_parts::count_at;
 
 // Two bytes, the goal count (0 to 16); where there is one goal, nothing.
-fn goal_count(bytes: &[u8], at: usize, several: bool) -> Number
+fn goal_count(bytes: &[u8], at: usize, several: bool) -> Parsed<u16>
     requires { InFile bytes.now 1542 at }
     ensures { NumberTells bytes.now (at + 2) (goal_count_at (form_by several) bytes.now at) result }
 {
     if several {
-        return count_at(bytes, at, 0, 16, ClaimFault::GOALS, ClaimFault::LENGTH);
+        return count_at(
+            bytes,
+            at,
+            0,
+            16,
+            ClaimFault::Goals as u16,
+            ClaimFault::Length as u16,
+        );
     }
-    Number::Read { value: 1, next: at }
+    Ok(Read { value: 1, next: at })
 }
 
 // The members of each goal follow those of the one before.
@@ -31,7 +39,7 @@ fn store_goals(
     entries: usize,
     starts: &mut [u16; 17],
     members: &mut [u16; 384],
-) -> Part
+) -> Parsed<usize>
     requires starts_len { (length starts.old ≡ 17) × (length members.old ≡ 384) × (entries ≤ 256) }
     requires in_file { (InFile bytes.now 1544 from) × (count ≤ 16) }
     ensures { PartTells bytes.now (from + 50 * count) 16 (goals_from kinds.now entries count bytes.now from)
@@ -40,22 +48,16 @@ fn store_goals(
     starts[0] = 0;
     let mut at = from;
     let mut start = 0;
-    let mut i = 0;
-    while i < count {
-        match read_members(bytes, at, kinds, entries, members, start) {
-            Part::Refused { number, place } => return Part::Refused { number, place },
-            Part::Read {
-                count: listed,
-                next,
-            } => {
-                start += listed;
-                at = next;
-                i += 1;
-                starts[i] = start as u16;
-            }
-        }
+    for i in 0..count {
+        let listed = read_members(bytes, at, kinds, entries, members, start)?;
+        start += listed.value;
+        at = listed.next;
+        starts[i + 1] = start as u16;
     }
-    Part::Read { count, next: at }
+    Ok(Read {
+        value: count,
+        next: at,
+    })
 }
 
 // The goals from a place on. The members of goal i stand from its start up to the next goal's.
@@ -67,22 +69,20 @@ pub fn read_goals(
     entries: usize,
     starts: &mut [u16; 17],
     members: &mut [u16; 384],
-) -> Part
+) -> Parsed<usize>
     requires starts_len { (length starts.old ≡ 17) × (length members.old ≡ 384) × (entries ≤ 256) }
     requires in_file { InFile bytes.now 1542 at }
     ensures { PartTells bytes.now 2344 16 (goals_at (form_by several) kinds.now entries bytes.now at)
         (GoalsStored starts.new members.new) result }
 {
-    match goal_count(bytes, at, several) {
-        Number::Refused { number, place } => Part::Refused { number, place },
-        Number::Read { value, next } => store_goals(
-            bytes,
-            next,
-            value as usize,
-            kinds,
-            entries,
-            starts,
-            members,
-        ),
-    }
+    let count = goal_count(bytes, at, several)?;
+    store_goals(
+        bytes,
+        count.next,
+        count.value as usize,
+        kinds,
+        entries,
+        starts,
+        members,
+    )
 }

@@ -8,8 +8,10 @@ ghost use Rattle.file_parts.specs.Parts.{PartTells};
 ghost use Rattle.claim_members.specs.ClaimMembers.{may_follow_lem, member_at_lem, MembersStored, members_at, members_from};
 
 use claim_files::ClaimFault;
-use file_parts::{Number, Part, count_at, two_at};
+use encoding::{Parsed, Read};
+use file_parts::{count_at, two_at};
 use formula::Kind;
+use verdict::Fault;
 
 pub mod goal_lists;
 
@@ -18,32 +20,25 @@ pub fn may_follow(kinds: &[u8; 256], entries: usize, floor: usize, member: usize
     requires { entries ≤ 256 }
     ensures { result ≡ may_follow_lem kinds.now entries floor member }
 {
-    if member < floor {
-        return false;
-    }
-    if entries <= member {
-        return false;
-    }
-    kinds[member] != Kind::NAME
+    floor <= member && member < entries && kinds[member] != Kind::NAME
 }
 
 // A member that may not stand there is refused at its own place.
-fn member_at(bytes: &[u8], at: usize, kinds: &[u8; 256], entries: usize, floor: usize) -> Number
+fn member_at(
+    bytes: &[u8],
+    at: usize,
+    kinds: &[u8; 256],
+    entries: usize,
+    floor: usize,
+) -> Parsed<u16>
     requires { (InFile bytes.now 65500 at) × (entries ≤ 256) }
     ensures { NumberTells bytes.now (at + 2) (member_at_lem kinds.now entries floor bytes.now at) result }
 {
-    match two_at(bytes, at, ClaimFault::LENGTH) {
-        Number::Refused { number, place } => Number::Refused { number, place },
-        Number::Read { value, next } => {
-            if !may_follow(kinds, entries, floor, value as usize) {
-                return Number::Refused {
-                    number: ClaimFault::MEMBER,
-                    place: at as u16,
-                };
-            }
-            Number::Read { value, next }
-        }
+    let member = two_at(bytes, at, ClaimFault::Length as u16)?;
+    if !may_follow(kinds, entries, floor, member.value as usize) {
+        return Err(ClaimFault::Member.at(at as u16));
     }
+    Ok(member)
 }
 
 // The members are stored while they are read, from a start on.
@@ -55,7 +50,7 @@ fn store_members(
     entries: usize,
     members: &mut [u16; 384],
     start: usize,
-) -> Part
+) -> Parsed<usize>
     requires members_len { (length members.old ≡ 384) × (start ≤ 360) × (entries ≤ 256) }
     requires in_file { (InFile bytes.now 2296 from) × (count ≤ 24) }
     ensures { PartTells bytes.now (from + 2 * count) 24 (members_from kinds.now entries count bytes.now from)
@@ -63,19 +58,16 @@ fn store_members(
 {
     let mut at = from;
     let mut floor = 0;
-    let mut i = 0;
-    while i < count {
-        match member_at(bytes, at, kinds, entries, floor) {
-            Number::Refused { number, place } => return Part::Refused { number, place },
-            Number::Read { value, next } => {
-                members[start + i] = value;
-                floor = value as usize + 1;
-                at = next;
-                i += 1;
-            }
-        }
+    for i in 0..count {
+        let member = member_at(bytes, at, kinds, entries, floor)?;
+        members[start + i] = member.value;
+        floor = member.value as usize + 1;
+        at = member.next;
     }
-    Part::Read { count, next: at }
+    Ok(Read {
+        value: count,
+        next: at,
+    })
 }
 
 // Two bytes, the member count (1 to 24); the members. They are stored from a start on.
@@ -86,22 +78,27 @@ pub fn read_members(
     entries: usize,
     members: &mut [u16; 384],
     start: usize,
-) -> Part
+) -> Parsed<usize>
     requires members_len { (length members.old ≡ 384) × (start ≤ 360) × (entries ≤ 256) }
     requires in_file { InFile bytes.now 2294 at }
     ensures { PartTells bytes.now (at + 50) 24 (members_at kinds.now entries bytes.now at)
         (MembersStored start members.old members.new) result }
 {
-    match count_at(bytes, at, 1, 24, ClaimFault::COUNT, ClaimFault::LENGTH) {
-        Number::Refused { number, place } => Part::Refused { number, place },
-        Number::Read { value, next } => store_members(
-            bytes,
-            next,
-            value as usize,
-            kinds,
-            entries,
-            members,
-            start,
-        ),
-    }
+    let count = count_at(
+        bytes,
+        at,
+        1,
+        24,
+        ClaimFault::Count as u16,
+        ClaimFault::Length as u16,
+    )?;
+    store_members(
+        bytes,
+        count.next,
+        count.value as usize,
+        kinds,
+        entries,
+        members,
+        start,
+    )
 }

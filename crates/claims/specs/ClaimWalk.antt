@@ -1,9 +1,10 @@
 -- a whole claim file, as the program walks over it: what its answer tells, and what it leaves in each array
-use Rattle.std.specs.Prelude.{◌≡◌, List, Bool, ℕ, ◌<◌, ◌≤◌, length, drop}
+use Rattle.std.specs.Prelude.{◌≡◌, List, Bool, ℕ, ◌<◌, ◌≤◌, length, drop, Ok, Err, Result}
 use Rattle.std.proofs.Math.Path.{refl, sym, ap}
 use Rattle.std.proofs.Common.{◌∙◌, arith, length-append}
 use Rattle.std.proofs.Math.Bool.{true, false}
 use Rattle.verdict.specs.Lists.{written}
+use Rattle.verdict.specs.declared.Refusal.{Refusal}
 use Rattle.verdict.specs.Tests.{choose}
 use Rattle.formula.specs.Table.{Entry, Table}
 use Rattle.formula.specs.Claim.{Form, clm1, clm2, form_number, fewest, Claim, SpelledClaim, marked_claim}
@@ -25,8 +26,7 @@ use Rattle.file_parts.specs.Parts.{ListRead}
 use Rattle.claim_entries.specs.ClaimEntries.{EntryArrays, EntriesStored, entries_at, form_entries}
 use Rattle.claim_members.specs.GoalColumns.{GoalsStored}
 use Rattle.claim_members.specs.ClaimGoals.{goals_at, goals_same}
-use Rattle.claims.specs.declared.ClaimRead.{ClaimRead}
-use Rattle.claims.specs.declared.ClaimRead.TheVariants.{Read, Refused}
+use Rattle.claims.specs.declared.ClaimCounts.{ClaimCounts}
 
 -- the arrays that a claim is decoded into
 pub record ClaimArrays (ks xs ys gs ms : List ℕ) : Type 0 where
@@ -46,25 +46,25 @@ pub record ClaimGot (r : Reading Claim) (ks xs ys gs ms : List ℕ) (f n k : ℕ
   pub form : form_number claim.form ≡ f
   pub held : ClaimHeld claim ks xs ys n gs ms k
 
+-- what the walk answers: the form's number and the counts, or a refusal
+abbrev pub ClaimRead : Type 0
+ClaimRead = Result ClaimCounts (Refusal ℕ)
+
 -- the answer of one walk; a refused file may leave a part of its decoding
 abbrev pub ClaimTells : Reading Claim → List ℕ → List ℕ → List ℕ → List ℕ → List ℕ → ClaimRead → Type 0
-ClaimTells r ks xs ys gs ms (Read f n k) = ClaimGot r ks xs ys gs ms f n k
-ClaimTells r ks xs ys gs ms (Refused n q) = RefusedWith r n q
+ClaimTells r ks xs ys gs ms (Ok c) = ClaimGot r ks xs ys gs ms c.form c.entries c.goals
+ClaimTells r ks xs ys gs ms (Err e) = RefusedWith r e.number e.place
 
 -- what holds of the answer in an arm that knows which it is
 module _ {r : Reading Claim} (ks xs ys gs ms : List ℕ) {w : ClaimRead} (t : ClaimTells r ks xs ys gs ms w) where
-  pub claim_as_read : {f n k : ℕ} → w ≡ Read f n k → ClaimGot r ks xs ys gs ms f n k
+  pub claim_as_read : {c : ClaimCounts} → w ≡ Ok c → ClaimGot r ks xs ys gs ms c.form c.entries c.goals
   claim_as_read e = rw e at t
 
-  pub claim_as_refused : {n q : ℕ} → w ≡ Refused n q → RefusedWith r n q
+  pub claim_as_refused : {e : Refusal ℕ} → w ≡ Err e → RefusedWith r e.number e.place
   claim_as_refused e = rw e at t
 
-abbrev pub refusal : ℕ → ℕ → ClaimRead
-refusal n q = Refused n q
-
-pub claim_refused : {r : Reading SpelledClaim} (ks xs ys gs ms : List ℕ) {w : ClaimRead} {n q : ℕ} → (w ≡ refusal n q) × (n < 65536) × (q < 65536) → r ≡ refused n q
-    → ClaimTells (held_reading r) ks xs ys gs ms w
-claim_refused ks xs ys gs ms (e, a, b) h = rw e (record { was = ap held_reading h; small = (a, b) })
+pub claim_refused : {r : Reading SpelledClaim} {n q : ℕ} → (n < 65536) × (q < 65536) → r ≡ refused n q → RefusedWith (held_reading r) n q
+claim_refused l h = record { was = ap held_reading h; small = l }
 
 -- a column that was written is there whole
 column_there : (f : Entry → ℕ) (t : Table) (old : List ℕ) → length t ≤ length (written (column f t) old)

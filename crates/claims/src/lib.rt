@@ -2,82 +2,44 @@
 // numbers mean is in the crate claim_files.
 #![tactic(auto)]
 
-ghost use Rattle.std.specs.Prelude.{◌≡◌, ◌<◌};
+ghost use Rattle.std.specs.Prelude.{◌≡◌};
 ghost use Rattle.encoding.specs.Opening.{opens};
 ghost use Rattle.formula.specs.Claim.{clm1, clm2};
 ghost use Rattle.claim_files.specs.ClaimFile.{claim_opening};
 ghost use Rattle.claim_files.specs.ReadClaim.{read_claim_lem};
-ghost use Rattle.claims.specs.ClaimWalk.{ClaimArrays, ClaimTells, held_reading, refusal, opening_form_lem};
+ghost use Rattle.claims.specs.ClaimWalk.{ClaimArrays, ClaimTells, held_reading, opening_form_lem};
 ghost use Rattle.claims.specs.ClaimBeginning.{Begun};
-ghost use Rattle.verdict.specs.Shown.{shown};
+ghost use Rattle.verdict.specs.Shown.{earned, shown};
 
-use claim_entries::{EntryRead, entry_at, read_entries};
+use claim_entries::{entry_at, read_entries};
 use claim_files::{CLAIM_OPENING, ClaimFault, GOALS_OPENING};
 use claim_members::goal_lists::read_goals;
-use encoding::opens;
-use file_parts::{Number, Part, count_at};
+use encoding::opens_with;
+use file_parts::count_at;
 use formula::Form;
-use verdict::Verdict;
+use verdict::{Fault, Refusal, Verdict};
 
-// A claim's form and its counts, or its refusal. Number and place are whole words: what is stored in halves and loaded at once has to wait.
+// A claim's form and its counts.
 #[derive(Clone, Copy)]
-pub enum ClaimRead {
-    Read {
-        form: u8,
-        entries: usize,
-        goals: usize,
-    },
-    Refused {
-        number: usize,
-        place: usize,
-    },
+pub struct ClaimCounts {
+    pub form: u8,
+    pub entries: usize,
+    pub goals: usize,
 }
 
-// Whether the bytes open as a claim of one goal does, and as one of several.
-fn opens_claim(bytes: &[u8]) -> bool
-    ensures { result ≡ opens (claim_opening clm1) bytes.now }
-{
-    opens(
-        bytes,
-        CLAIM_OPENING[0],
-        CLAIM_OPENING[1],
-        CLAIM_OPENING[2],
-        CLAIM_OPENING[3],
-    )
-}
+pub type ClaimRead = Result<ClaimCounts, Refusal>;
 
-fn opens_goals(bytes: &[u8]) -> bool
-    ensures { result ≡ opens (claim_opening clm2) bytes.now }
+// The form by whose letters the bytes open.
+fn opening_form(bytes: &[u8]) -> Option<u8>
+    ensures { result ≡ earned (opening_form_lem bytes.now) }
 {
-    opens(
-        bytes,
-        GOALS_OPENING[0],
-        GOALS_OPENING[1],
-        GOALS_OPENING[2],
-        GOALS_OPENING[3],
-    )
-}
-
-// The form by whose letters the bytes open; 0 is none.
-fn opening_form(bytes: &[u8]) -> u8
-    ensures { result ≡ opening_form_lem bytes.now }
-{
-    if opens_claim(bytes) {
-        return Form::CLM1;
+    if opens_with(bytes, &CLAIM_OPENING) {
+        return Some(Form::CLM1);
     }
-    if opens_goals(bytes) {
-        return Form::CLM2;
+    if opens_with(bytes, &GOALS_OPENING) {
+        return Some(Form::CLM2);
     }
-    0
-}
-
-fn refuse(number: u16, place: u16) -> ClaimRead
-    ensures { (result ≡ refusal number place) × (number < 65536) × (place < 65536) }
-{
-    ClaimRead::Refused {
-        number: number as usize,
-        place: place as usize,
-    }
+    None
 }
 
 // The whole file in one walk. A refused file may leave a part of its decoding in the arrays.
@@ -93,35 +55,28 @@ pub fn read_claim(
     ensures { ClaimTells (held_reading (read_claim_lem bytes.now)) kinds.new a.new b.new starts.new
         members.new result }
 {
-    let form = opening_form(bytes);
-    if form == 0 {
-        return refuse(ClaimFault::OPENING, 0);
+    let Some(form) = opening_form(bytes) else {
+        return Err(ClaimFault::Opening.at(0));
+    };
+    let entries = read_entries(bytes, Form::fewest(form), kinds, a, b)?;
+    let several = form == Form::CLM2;
+    let goals = read_goals(
+        bytes,
+        entries.next,
+        several,
+        kinds,
+        entries.value,
+        starts,
+        members,
+    )?;
+    if goals.next < bytes.len() {
+        return Err(ClaimFault::Length.at(goals.next as u16));
     }
-    match read_entries(bytes, Form::fewest(form), kinds, a, b) {
-        Part::Refused { number, place } => refuse(number, place),
-        Part::Read {
-            count: entries,
-            next,
-        } => {
-            let several = form == Form::CLM2;
-            match read_goals(bytes, next, several, kinds, entries, starts, members) {
-                Part::Refused { number, place } => refuse(number, place),
-                Part::Read {
-                    count: goals,
-                    next: end,
-                } => {
-                    if end < bytes.len() {
-                        return refuse(ClaimFault::LENGTH, end as u16);
-                    }
-                    ClaimRead::Read {
-                        form,
-                        entries,
-                        goals,
-                    }
-                }
-            }
-        }
-    }
+    Ok(ClaimCounts {
+        form,
+        entries: entries.value,
+        goals: goals.value,
+    })
 }
 
 // What the first bytes of a claim earn: its opening, its entry count and its first entry, if there is one. That takes no arrays, so a claim
@@ -129,31 +84,20 @@ pub fn read_claim(
 pub fn judge_beginning(bytes: &[u8]) -> Verdict
     ensures { Begun bytes.now (shown result) }
 {
-    let form = opening_form(bytes);
-    if form == 0 {
-        return Verdict::Refused {
-            number: ClaimFault::OPENING,
-            place: 0,
-        };
-    }
+    let Some(form) = opening_form(bytes) else {
+        return Err(ClaimFault::Opening.at(0));
+    };
     let count = count_at(
         bytes,
         4,
         Form::fewest(form),
         256,
-        ClaimFault::COUNT,
-        ClaimFault::LENGTH,
-    );
-    match count {
-        Number::Refused { number, place } => Verdict::Refused { number, place },
-        Number::Read { value, next } => {
-            if value == 0 {
-                return Verdict::Accepted;
-            }
-            match entry_at(bytes, next) {
-                EntryRead::Refused { number, place } => Verdict::Refused { number, place },
-                EntryRead::Read { .. } => Verdict::Accepted,
-            }
-        }
+        ClaimFault::Count as u16,
+        ClaimFault::Length as u16,
+    )?;
+    if count.value == 0 {
+        return Ok(());
     }
+    entry_at(bytes, count.next)?;
+    Ok(())
 }

@@ -5,20 +5,14 @@ ghost use Rattle.std.specs.Prelude.{◌+◌, ◌*◌, ◌<◌, length};
 ghost use Rattle.companions.specs.Companions.{Companion};
 
 use bits::wide;
-use formula::Rule;
-use spans::is_spanned;
+use formula::{LinkColumns, Rule};
+use spans::SpanColumns;
 
 // Whether the back link of v is a proper ancestor of rule 10. The two sequents are not compared here.
-pub fn companion(rules: &[u8], links: &[u16], entries: &[u16], exits: &[u16], v: usize) -> bool
-    requires { (v < length rules.now) × (4 * v + 3 < length links.now) × (v < length entries.now) × (v < length exits.now) }
-    ensures { Companion rules.now links.now entries.now exits.now v result }
+pub fn companion(tree: &LinkColumns, spans: &SpanColumns, v: usize) -> bool
+    requires { (v < length tree.now.rules.now) × (4 * v + 3 < length tree.now.links.now) × (v < length spans.now.entries.now) × (v < length spans.now.exits.now) }
+    ensures { Companion tree.now.rules.now tree.now.links.now spans.now.entries.now spans.now.exits.now v result }
 {
-    let link = wide(links[4 * v + 3]);
-    if v <= link {
-        return false;
-    }
-    if !is_spanned(entries, exits, link, v) {
-        return false;
-    }
-    rules[link] == Rule::D
+    let link = wide(tree.links[4 * v + 3]);
+    link < v && spans.is_spanned(link, v) && tree.rules[link] == Rule::D
 }

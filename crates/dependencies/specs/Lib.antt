@@ -6,3 +6,5 @@ pub mod Tops
 pub mod Operands
 pub mod Users
 pub mod Actions
+pub mod Prepared
+pub mod Columned

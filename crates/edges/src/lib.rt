@@ -10,7 +10,7 @@ ghost use Rattle.edges.specs.Edges.{PutOf, From};
 use bits::lowest_bit;
 use entry_sets::cleared;
 use marks::four;
-use successors::row_words;
+use successors::{SuccessorTable, row_words};
 
 // Bit `column` of a row, unless it lies past the last of n states.
 fn put_one(rows: &mut [u64], row: usize, column: usize, n: usize)
@@ -18,7 +18,7 @@ fn put_one(rows: &mut [u64], row: usize, column: usize, n: usize)
     ensures { Added (At row column n) rows.old rows.new }
 {
     if column < n {
-        rows[row] = rows[row] | (1u64 << column);
+        rows[row] |= 1u64 << column;
     }
 }
 
@@ -43,27 +43,24 @@ fn four_times(used: u16) -> u64
 }
 
 // The edges from s by the actions that are used.
-fn state_edges(marks: &[[u16; 64]; 64], used: u16, n: usize, s: usize, rows: &mut [u64])
-    requires { (length rows.old ≡ 1024) × (s < 64) × (n ≤ 64) }
-    ensures { Added (From s marks.now used n) rows.old rows.new }
+fn state_edges(table: &SuccessorTable, used: u16, s: usize, rows: &mut [u64])
+    requires { (length rows.old ≡ 1024) × (s < 64) }
+    ensures { Added (From s table.now.marks.now used table.now.n) rows.old rows.new }
 {
+    let n = table.n;
     let wanted = four_times(used);
-    let mut u: usize = 0;
-    while u < n {
-        put_four(rows, four(marks, s, u) & wanted, s, u, n);
-        u += 4;
+    for u in (0..n).step_by(4) {
+        put_four(rows, four(table.marks, s, u) & wanted, s, u, n);
     }
 }
 
 // All edges by the actions that are used.
-fn edge_rows(marks: &[[u16; 64]; 64], used: u16, n: usize, rows: &mut [u64])
-    requires { (rows.old ≡ replicate 1024 0) × (n ≤ 64) }
-    ensures { RowWords marks.now used n rows.old 16 rows.new }
+fn edge_rows(table: &SuccessorTable, used: u16, rows: &mut [u64])
+    requires { rows.old ≡ replicate 1024 0 }
+    ensures { RowWords table.now.marks.now used table.now.n rows.old 16 rows.new }
 {
-    let mut s: usize = 0;
-    while s < n {
-        state_edges(marks, used, n, s, rows);
-        s += 1;
+    for s in 0..table.n {
+        state_edges(table, used, s, rows);
     }
 }
 
@@ -71,32 +68,18 @@ fn edge_rows(marks: &[[u16; 64]; 64], used: u16, n: usize, rows: &mut [u64])
 fn actions_in(used: u16) -> usize
     ensures { result ≤ 16 }
 {
-    let mut count: usize = 0;
-    let mut a: usize = 0;
-    while a < 16 {
-        if (used >> a) & 1 == 1 {
-            count += 1;
-        }
-        a += 1;
-    }
-    count
+    used.count_ones() as usize
 }
 
 // The successors of each state by the actions that are used, in the way that is quicker for a model file of so many bytes: an edge takes
 // two. Nothing is asked of their number: whichever way is taken, the words are the same.
-pub fn sparse_or_dense(
-    marks: &[[u16; 64]; 64],
-    used: u16,
-    model_bytes: usize,
-    n: usize,
-    rows: &mut [u64],
-)
-    requires { (rows.old ≡ replicate 1024 0) × (n ≤ 64) }
-    ensures { RowWords marks.now used n rows.old 16 rows.new }
+pub fn sparse_or_dense(table: &SuccessorTable, used: u16, model_bytes: usize, rows: &mut [u64])
+    requires { rows.old ≡ replicate 1024 0 }
+    ensures { RowWords table.now.marks.now used table.now.n rows.old 16 rows.new }
 {
     if model_bytes < 512 * actions_in(used) {
-        edge_rows(marks, used, n, rows);
+        edge_rows(table, used, rows);
     } else {
-        row_words(marks, used, n, rows);
+        row_words(table, used, rows);
     }
 }

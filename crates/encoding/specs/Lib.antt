@@ -5,6 +5,7 @@ pub mod Chain
 pub mod Stages
 pub mod File
 pub mod Outcome
+pub mod Parsed
 -- laws
 pub mod GotLaws
 pub mod ParseLaws

@@ -36,7 +36,12 @@ opens_tells (c ∷ l) (x ∷ s) =
     tells_as (λ (e, (r, i)). (r, rw (e, i) refl)) (λ (r, e). (ap (λ (u : List ℕ). get_or u 0 0) e, (r, ap (λ (u : List ℕ). drop 1 u) e)))
     (and_tells (eqb_tells x c) (opens_tells l s))
 
--- for the program's returns
+-- for the program's return
+pub opens_as : (l s : List ℕ) (test : Bool) → (test ≡ true → Opens l s) → (Opens l s → test ≡ true) → test ≡ opens l s
+opens_as l s true f g = sym ((opens_tells l s).holds (f refl))
+opens_as l s false f g = sym (fails_holds (opens_tells l s) (λ o. false≢true (g o)))
+
+-- byte by byte
 pub differs : (l s : List ℕ) → (Begins l s → ⊥) → false ≡ opens l s
 differs l s n = sym (fails_holds (begins_tells l s) n)
 

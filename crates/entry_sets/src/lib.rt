@@ -19,15 +19,14 @@ pub fn insert(set: &mut [u64], k: usize)
     requires { k < 64 * length set.old }
     ensures { Inserted set.old k set.new }
 {
-    let i = k / 64;
-    set[i] = set[i] | (1u64 << (k % 64));
+    set[k / 64] |= 1u64 << (k % 64);
 }
 
 // A word without bit k % 64.
 pub fn cleared(word: u64, k: usize) -> u64
     ensures { result ≡ without_bit word (k % 64) }
 {
-    word ^ (word & (1u64 << (k % 64)))
+    word & !(1u64 << (k % 64))
 }
 
 // Each word at a fixed place: a set that is only used in this way stays in registers. One that is stored to at a place worked out by the
@@ -38,27 +37,21 @@ pub fn remove(set: &mut [u64; 4], k: usize)
 {
     if k < 64 {
         set[0] = cleared(set[0], k);
-        return;
-    }
-    if k < 128 {
+    } else if k < 128 {
         set[1] = cleared(set[1], k);
-        return;
-    }
-    if k < 192 {
+    } else if k < 192 {
         set[2] = cleared(set[2], k);
-        return;
+    } else {
+        set[3] = cleared(set[3], k);
     }
-    set[3] = cleared(set[3], k);
 }
 
 pub fn join(set: &mut [u64; 4], more: &[u64; 4])
     requires { length set.old ≡ 4 }
     ensures { Joined set.old more.now set.new }
 {
-    let mut i: usize = 0;
-    while i < 4 {
-        set[i] = set[i] | more[i];
-        i += 1;
+    for i in 0..4 {
+        set[i] |= more[i];
     }
 }
 
@@ -68,16 +61,14 @@ pub fn lowest(set: &[u64; 4]) -> usize
     ensures { Lowest set.now result }
 {
     if set[0] != 0 {
-        return lowest_bit(set[0]);
+        lowest_bit(set[0])
+    } else if set[1] != 0 {
+        64 + lowest_bit(set[1])
+    } else if set[2] != 0 {
+        128 + lowest_bit(set[2])
+    } else if set[3] != 0 {
+        192 + lowest_bit(set[3])
+    } else {
+        256
     }
-    if set[1] != 0 {
-        return 64 + lowest_bit(set[1]);
-    }
-    if set[2] != 0 {
-        return 128 + lowest_bit(set[2]);
-    }
-    if set[3] != 0 {
-        return 192 + lowest_bit(set[3]);
-    }
-    256
 }

@@ -1,5 +1,5 @@
 -- an evaluation as the program runs it over plain tables: the lengths, the claim, the model, the words
-use Rattle.std.specs.Prelude.{◌≡◌, List, Bool, true, false, ◌||◌, ℕ, ◌<◌, ◌≤◌, length, get_or}
+use Rattle.std.specs.Prelude.{◌≡◌, List, Bool, true, false, ◌||◌, ℕ, ◌<◌, ◌≤◌, length, get_or, Ok}
 use Rattle.std.proofs.Math.Path.{refl, ap}
 use Rattle.std.proofs.Common.{sym, subst, ◌∙◌, arith, lt-ltb, le-ltb}
 use Rattle.std.proofs.Math.Bool.{or-true}
@@ -7,7 +7,7 @@ use Rattle.std.proofs.Math.Decide.{dec_lt}
 use Rattle.std.proofs.Math.Dec.{ltb}
 use Rattle.std.proofs.Math.ListN.{get_or-eq_default}
 use Rattle.verdict.specs.Verdict as verdicts
-use Rattle.verdict.specs.Verdict.{packed_wide, Within}
+use Rattle.verdict.specs.Verdict.{Within}
 use Rattle.verdict.specs.Lists.{written, values_from, values_from_length, values_from_at}
 use Rattle.encoding.specs.Encode.{Bytes}
 use Rattle.encoding.specs.File.{Reading, refused, good}
@@ -32,13 +32,12 @@ use Rattle.reader.specs.FormedLaws.{kind_known}
 use Rattle.reader.specs.FilesExact.{formed_exactly}
 use Rattle.demands.specs.Slices.{LentWords}
 use Rattle.demands.specs.Evaluate.{Evaluated, unevaluated, in_model, evaluated, if_long, evaluating}
-use Rattle.evaluation.specs.EvaluateFiles.{Right, EvaluatedFiles, Staged, refusal, Refuses, after_model_lem}
-use Rattle.evaluation.specs.declared.Evaluation.{Evaluation}
+use Rattle.evaluation.specs.EvaluateFiles.{Evaluation, Right, EvaluatedFiles, Staged, refusal, Refuses, after_model_lem}
 
 -- what is right by y is right by x that says the same
 right_same : {ks xs ys : List ℕ} {x y : Evaluated} {es : Table} {r : Evaluation} {ws : List ℕ} → x ≡ y → Right ks xs ys y es r ws → Right ks xs ys x es r ws
 right_same h g = record {
-  answer = g.answer ∙ ap (λ (v : Evaluated). packed_wide v.answer) (sym h);
+  answer = g.answer ∙ ap (λ (v : Evaluated). v.answer) (sym h);
   within = subst (λ (v : Evaluated). Within 4294967296 v.answer) (sym h) g.within;
   words = g.words ∙ ap (λ (v : Evaluated). v.lent.words) (sym h);
   entries = ap (λ (v : Evaluated). v.lent.entries) h ∙ g.entries;
@@ -86,7 +85,7 @@ module _ (ks xs ys : List ℕ) (k : ℕ) (s : List ℕ) where
     -- over the letter masks, the successor table and the state count as they were decoded
     pub model_evaluated : {masks : List ℕ} {marks : List (List ℕ)} {n : ℕ} {ws₀ ws : List ℕ}
         → masks ≡ mask_table (states_of s) → marks ≡ successor_table (states_of s) → n ≡ length (states_of s) → k ≤ 256 → ws ≡ written (words_in masks marks n t) ws₀
-        → Staged (after_model_lem t (read_model s)) ws₀ (record { answer = 0; entries = k }) ks xs ys ws
+        → Staged (after_model_lem t (read_model s)) ws₀ (Ok k) ks xs ys ws
     model_evaluated {ws₀ = ws₀} by_masks by_marks many few e = record {
       few = few;
       right = λ es. right_same (ap (λ (r : Reading (List State)). after_model_lem t r (record { entries = es; words = ws₀ })) (good_states s g)) (record {

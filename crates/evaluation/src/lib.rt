@@ -8,28 +8,17 @@ ghost use Rattle.claim_entries.specs.ClaimEntries.{EntryArrays};
 ghost use Rattle.model_files.specs.ReadModel.{read_model};
 ghost use Rattle.forming.specs.Claim.{Given};
 ghost use Rattle.demands.specs.Evaluate.{in_model, evaluated};
-ghost use Rattle.evaluation.specs.EvaluateFiles.{EvaluatedFiles, Staged, Refuses, after_model_lem};
+ghost use Rattle.evaluation.specs.EvaluateFiles.{EvaluatedFiles, Staged, after_model_lem};
 
-use claims::ClaimRead;
 use evaluator::evaluate;
-use model::judge::{Judged, judge_model};
+use model::judge::judge_model;
 use model::tables::{decode_model, state_count};
 use reader::read_formed;
+use verdict::{Fault, Refusal, SliceFault};
 
-// How many entries' records are to be stored, and what is answered: 0, or refusal × 2^32 + place.
-#[derive(Clone, Copy)]
-pub struct Evaluation {
-    pub answer: u64,
-    pub entries: usize,
-}
-
-// "Refusals 1 to 34 and 60 to 64 write nothing to lent slices."
-fn refuse(number: u16, place: u32) -> Evaluation
-    ensures { Refuses number place result }
-{
-    let answer = verdict::pack_wide(number, place);
-    Evaluation { answer, entries: 0 }
-}
+// How many entries' records are to be stored, or what is refused: "Refusals 1 to 34 and 60 to 64 write nothing to lent slices." A place in
+// a model can lie above 65,535.
+pub type Evaluation = Result<usize, Refusal<u32>>;
 
 // 60 to 64: the model's bytes, and then "one 64-bit word per entry".
 // The successor table goes by value, from the model reader to the evaluator.
@@ -45,29 +34,22 @@ fn after_model(
     ensures { Staged (after_model_lem (table_of kinds.now a.now b.now count) (read_model model.now))
         words.old result kinds.now a.now b.now words.new }
 {
-    match judge_model(model) {
-        Judged::Refused { number, place } => refuse(number, place),
-        Judged::Accepted => {
-            let mut masks = [0u32; 64];
-            let marks = decode_model(model, &mut masks);
-            let states = state_count(model);
-            evaluate(
-                kinds,
-                a,
-                b,
-                count,
-                &masks,
-                marks,
-                model.len(),
-                states,
-                words,
-            );
-            Evaluation {
-                answer: 0,
-                entries: count,
-            }
-        }
-    }
+    judge_model(model)?;
+    let mut masks = [0u32; 64];
+    let marks = decode_model(model, &mut masks);
+    let states = state_count(model);
+    evaluate(
+        kinds,
+        a,
+        b,
+        count,
+        &masks,
+        marks,
+        model.len(),
+        states,
+        words,
+    );
+    Ok(count)
 }
 
 // 10 to 23 and 71: the claim's bytes and its table, and then the model.
@@ -85,14 +67,8 @@ fn after_lengths(
 {
     let mut bounds = [0u16; 17];
     let mut members = [0u16; 384];
-    match read_formed(claim, kinds, a, b, &mut bounds, &mut members) {
-        ClaimRead::Refused { number, place } => refuse(number as u16, place as u32),
-        ClaimRead::Read {
-            form: _,
-            entries,
-            goals: _,
-        } => after_model(model, kinds, a, b, entries, words),
-    }
+    let counts = read_formed(claim, kinds, a, b, &mut bounds, &mut members)?;
+    after_model(model, kinds, a, b, counts.entries, words)
 }
 
 // An evaluation of a claim in a model, for so many lent entry records. 1 comes before the files.
@@ -109,11 +85,8 @@ pub fn evaluate_files(
     ensures { EvaluatedFiles lent claim.now model.now words.old result kinds.new a.new
         b.new words.new }
 {
-    if lent < 256 {
-        return refuse(1, 0);
-    }
-    if words.len() < 256 {
-        return refuse(1, 0);
+    if lent < 256 || words.len() < 256 {
+        return Err(SliceFault::Short.at(0));
     }
     after_lengths(claim, model, kinds, a, b, words)
 }

@@ -1,1 +1,2 @@
 pub mod Swept
+pub mod Columned

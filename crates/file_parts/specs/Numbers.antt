@@ -1,16 +1,17 @@
 -- numbers at a place of a file: what the program's answers tell, and the step laws that they rest on
-use Rattle.std.specs.Prelude.{◌≡◌, List, Bool, true, false, ℕ, ◌+◌, ◌-◌, ◌<◌, ◌≤◌, length, drop}
+use Rattle.std.specs.Prelude.{◌≡◌, List, Bool, true, false, ℕ, ◌+◌, ◌-◌, ◌<◌, ◌≤◌, length, drop, Ok, Err}
 use Rattle.std.proofs.Math.Path.{refl, ap}
 use Rattle.std.proofs.Common.{sym, ◌∙◌}
 use native.Mathlib.Omega.{arith}
 use Rattle.verdict.specs.Tells.{fails_holds}
+use Rattle.verdict.specs.declared.Refusal.{Refusal}
 use Rattle.encoding.specs.Encode.{Counts}
 use Rattle.encoding.specs.Parse.{Got, fault, got, two, field, in_range, count}
+use Rattle.encoding.specs.Parsed.{Parsed}
+use Rattle.encoding.specs.declared.Read.{Read}
 use Rattle.encoding.specs.ListLaws.{range_tells}
 use Rattle.encoding.specs.Places.{InFile, word_at, two_at, two_end}
 use Rattle.encoding.specs.Walk.{Reached, guard_passes, guard_fails, guard_cut, guard_holds}
-use Rattle.file_parts.specs.declared.Number.{Number}
-use Rattle.file_parts.specs.declared.Number.TheVariants.{Read, Refused}
 
 -- what stands at a place of a file that is indexed
 unfoldable pub two_at_lem : ℕ → List ℕ → ℕ → Got ℕ
@@ -22,16 +23,16 @@ field_at early b s at = field early b (drop at s) at
 unfoldable pub count_at_lem : ℕ → ℕ → ℕ → ℕ → List ℕ → ℕ → Got ℕ
 count_at_lem least top unfit early s at = count least top unfit (two early) (drop at s) at
 
-abbrev pub NumberTells : List ℕ → ℕ → Got ℕ → Number → Type 0
-NumberTells s limit g (Read v o) = Reached s limit g v o
-NumberTells s limit g (Refused n q) = g ≡ fault n q
+abbrev pub NumberTells : List ℕ → ℕ → Got ℕ → Parsed ℕ → Type 0
+NumberTells s limit g (Ok r) = Reached s limit g r.value r.next
+NumberTells s limit g (Err e) = g ≡ fault e.number e.place
 
 -- what holds of the answer in an arm that knows which it is
-module _ (s : List ℕ) (limit : ℕ) {g : Got ℕ} {r : Number} (t : NumberTells s limit g r) where
-  pub number_read : {v o : ℕ} → r ≡ Read v o → Reached s limit g v o
+module _ (s : List ℕ) (limit : ℕ) {g : Got ℕ} {r : Parsed ℕ} (t : NumberTells s limit g r) where
+  pub number_read : {v : Read ℕ} → r ≡ Ok v → Reached s limit g v.value v.next
   number_read e = rw e at t
 
-  pub number_refused : {n q : ℕ} → r ≡ Refused n q → g ≡ fault n q
+  pub number_refused : {e : Refusal ℕ} → r ≡ Err e → g ≡ fault e.number e.place
   number_refused e = rw e at t
 
 module _ (early : ℕ) (s : List ℕ) (at : ℕ) where

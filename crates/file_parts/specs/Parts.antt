@@ -1,10 +1,11 @@
 -- the part of a file that lists entries or members: what the program's answer tells
-use Rattle.std.specs.Prelude.{◌≡◌, List, ℕ, ◌≤◌, length}
+use Rattle.std.specs.Prelude.{◌≡◌, List, ℕ, ◌≤◌, length, Ok, Err}
 use Rattle.std.proofs.Common.{◌∙◌, arith}
+use Rattle.verdict.specs.declared.Refusal.{Refusal}
 use Rattle.encoding.specs.Parse.{Got, fault}
+use Rattle.encoding.specs.Parsed.{Parsed}
+use Rattle.encoding.specs.declared.Read.{Read}
 use Rattle.encoding.specs.Walk.{Reached}
-use Rattle.file_parts.specs.declared.Part.{Part}
-use Rattle.file_parts.specs.declared.Part.TheVariants.{Read, Refused}
 
 -- a list of n was read, no longer than the top, up to a place, and is stored
 pub record ListRead {A : Type 0} (s : List ℕ) (limit top : ℕ) (g : Got (List A)) (Stored : List A → Type 0) (n o : ℕ) : Type 0 where
@@ -14,22 +15,22 @@ pub record ListRead {A : Type 0} (s : List ℕ) (limit top : ℕ) (g : Got (List
   pub reached : Reached s limit g list o
   pub stored : Stored list
 
-abbrev pub PartTells : {A : Type 0} → List ℕ → ℕ → ℕ → Got (List A) → (List A → Type 0) → Part → Type 0
-PartTells s limit top g Stored (Read n o) = ListRead s limit top g Stored n o
-PartTells s limit top g Stored (Refused n q) = g ≡ fault n q
+abbrev pub PartTells : {A : Type 0} → List ℕ → ℕ → ℕ → Got (List A) → (List A → Type 0) → Parsed ℕ → Type 0
+PartTells s limit top g Stored (Ok r) = ListRead s limit top g Stored r.value r.next
+PartTells s limit top g Stored (Err e) = g ≡ fault e.number e.place
 
 -- what holds of the answer in an arm that knows which it is
-module _ {A : Type 0} (s : List ℕ) (limit top : ℕ) {g : Got (List A)} (Stored : List A → Type 0) {r : Part} (t : PartTells s limit top g Stored r) where
-  pub part_read : {n o : ℕ} → r ≡ Read n o → ListRead s limit top g Stored n o
+module _ {A : Type 0} (s : List ℕ) (limit top : ℕ) {g : Got (List A)} (Stored : List A → Type 0) {r : Parsed ℕ} (t : PartTells s limit top g Stored r) where
+  pub part_read : {v : Read ℕ} → r ≡ Ok v → ListRead s limit top g Stored v.value v.next
   part_read e = rw e at t
 
-  pub part_refused : {n q : ℕ} → r ≡ Refused n q → g ≡ fault n q
+  pub part_refused : {e : Refusal ℕ} → r ≡ Err e → g ≡ fault e.number e.place
   part_refused e = rw e at t
 
 -- said of the whole of which a part was read, up to a wider limit
-pub part_as : {A : Type 0} (s : List ℕ) (top : ℕ) {limit wide : ℕ} {g whole : Got (List A)} (Stored : List A → Type 0) (r : Part)
+pub part_as : {A : Type 0} (s : List ℕ) (top : ℕ) {limit wide : ℕ} {g whole : Got (List A)} (Stored : List A → Type 0) (r : Parsed ℕ)
     → limit ≤ wide → whole ≡ g → PartTells s limit top g Stored r → PartTells s wide top whole Stored r
-part_as s top Stored (Read n o) l e t =
+part_as s top Stored (Ok r) l e t =
     record {
       list = t.list;
       many = t.many;
@@ -37,4 +38,4 @@ part_as s top Stored (Read n o) l e t =
       reached = record { found = e ∙ t.reached.found; inside = t.reached.inside; near = omega (arith, t.reached.near) };
       stored = t.stored;
     }
-part_as s top Stored (Refused n q) l e t = e ∙ t
+part_as s top Stored (Err r) l e t = e ∙ t

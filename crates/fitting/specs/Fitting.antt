@@ -1,41 +1,35 @@
 -- two goals over one table: what is asked of them, and what is told of the joined goal
-use Rattle.std.specs.Prelude.{◌≡◌, Bool, true, false, not, ◌&&◌, List, ◌∷◌, ℕ, ◌+◌, ◌<◌, ◌≤◌, length, get_or, take}
+use Rattle.std.specs.Prelude.{◌≡◌, Bool, true, false, not, ◌&&◌, List, ◌∷◌, ℕ, ◌+◌, ◌<◌, ◌≤◌, length, get_or, take, Option, Some, None}
 use Rattle.std.proofs.Math.Path.{refl}
 use borrow.Author.Tests.{eq-eqb, ne_eqb, lt-ltb, le-ltb}
 use Rattle.verdict.specs.Lists.{Rising}
 use Rattle.verdict.specs.Tells.{tells_self, eqb_tells, ltb_tells, and_tells}
 use Rattle.formula.specs.Kind
 use Rattle.formula.specs.Table.{Table, kind}
-use Rattle.formula.specs.Plain.{table_of}
 use Rattle.formula.specs.Target.{target, target_a, target_b}
 use Rattle.conditions.specs.WellFormed.{WellFormed}
+use Rattle.sequents.specs.declared.numbered.NumberedTable.{NumberedTable}
+use Rattle.sequents.specs.Columned.{numbered}
 use Rattle.sequents.specs.CodeSet.{Holds}
-use Rattle.sequents.specs.Keys.{Numbers}
 use Rattle.sequents.specs.Part.{part}
 use Rattle.sequents.specs.Placed.{Members}
 use Rattle.joining.specs.Goals.{holds, rest, joined_goal}
 use Rattle.joining.specs.FitTest.{same_formulas, fits}
 use Rattle.fitting.specs.Focused.{focused_keys}
-use Rattle.fitting.specs.declared.Goal.{Goal}
-use Rattle.fitting.specs.declared.Goal.TheVariants.{Joined, Unfit}
 
--- entry e is "A and B" in a table that has passed 20 to 23, whose formulas are numbered
-pub record Numbered (ks xs ys ns : List ℕ) (n e : ℕ) : Type 0 where
-  pub well : WellFormed (table_of ks xs ys n)
-  pub numbers : Numbers (table_of ks xs ys n) ns
-  pub small : n ≤ 256
-  pub inside : e < n
-  pub of_kind : get_or ks e 0 ≡ Kind.AND
+-- entry e is "A and B" in a table that has passed 20 to 23
+pub record IsAnd (t : NumberedTable) (e : ℕ) : Type 0 where
+  pub well : WellFormed (numbered t)
+  pub inside : e < t.columns.count
+  pub of_kind : get_or t.columns.kinds.now e 0 ≡ Kind.AND
 
 -- two goals over such a table, of which the first rises and has at most 24 members
-pub record Goals (ks xs ys ns : List ℕ) (n : ℕ) (ms : List ℕ) (i j : ℕ) (os : List ℕ) (h k : ℕ) : Type 0 where
-  pub well : WellFormed (table_of ks xs ys n)
-  pub numbers : Numbers (table_of ks xs ys n) ns
-  pub small : n ≤ 256
-  pub first : Members n ms i j
+pub record Goals (t : NumberedTable) (ms : List ℕ) (i j : ℕ) (os : List ℕ) (h k : ℕ) : Type 0 where
+  pub well : WellFormed (numbered t)
+  pub first : Members t.columns.count ms i j
   pub few : j ≤ i + 24
   pub rising : Rising (part ms i j)
-  pub second : Members n os h k
+  pub second : Members t.columns.count os h k
 
 -- the words hold the formulas of two goals
 pub record RestHeld (t : Table) (w l v m : List ℕ) : Type 0 where
@@ -54,9 +48,9 @@ pub record GoalJoined (t : Table) (e : ℕ) (l r : List ℕ) (n : ℕ) (new : Li
   pub stands : take n new ≡ joined_goal t e l r
   pub long : length new ≡ 24
 
-abbrev pub Fitted : Table → ℕ → List ℕ → List ℕ → Goal → List ℕ → Type 0
-Fitted t e l r (Joined n) new = GoalJoined t e l r n new
-Fitted t e l r Unfit new = fits t e l r ≡ false
+abbrev pub Fitted : Table → ℕ → List ℕ → List ℕ → Option ℕ → List ℕ → Type 0
+Fitted t e l r (Some n) new = GoalJoined t e l r n new
+Fitted t e l r None new = fits t e l r ≡ false
 
 module _ (t : Table) (e : ℕ) (l r : List ℕ) where
   -- no "A and B"
@@ -111,9 +105,9 @@ module _ (t : Table) (e : ℕ) (l r : List ℕ) where
     few_left h = rw (eq-eqb (kind t e) Kind.AND k, lt-ltb (length (rest t l r)) 24 h) (in_order first_fits second_fits apart)
 
 -- what holds of the answer in an arm that knows which it is
-module _ (t : Table) (e : ℕ) (l r new : List ℕ) {w : Goal} (f : Fitted t e l r w new) where
-  pub as_joined : {n : ℕ} → w ≡ Joined n → GoalJoined t e l r n new
+module _ (t : Table) (e : ℕ) (l r new : List ℕ) {w : Option ℕ} (f : Fitted t e l r w new) where
+  pub as_joined : {n : ℕ} → w ≡ Some n → GoalJoined t e l r n new
   as_joined q = rw q at f
 
-  pub as_unfit : w ≡ Unfit → fits t e l r ≡ false
+  pub as_unfit : w ≡ None → fits t e l r ≡ false
   as_unfit q = rw q at f

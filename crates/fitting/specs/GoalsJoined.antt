@@ -11,7 +11,9 @@ use Rattle.verdict.specs.Sets.{elements}
 use Rattle.verdict.specs.Tests.{member, keep, each}
 use Rattle.verdict.specs.WrittenLaws.{written_length}
 use Rattle.formula.specs.Table.{Table}
-use Rattle.formula.specs.Plain.{table_of, table_of_length}
+use Rattle.formula.specs.Plain.{table_of_length}
+use Rattle.sequents.specs.declared.numbered.NumberedTable.{NumberedTable}
+use Rattle.sequents.specs.Columned.{numbered}
 use Rattle.sequents.specs.CodeSet.{Holds}
 use Rattle.sequents.specs.Keys.{in_focus, key_at_lem}
 use Rattle.sequents.specs.Part.{part, part_length}
@@ -38,9 +40,15 @@ sift_fewer ok (x ∷ l) = go (ok x) (sift_fewer ok l)
     go true h = omega arith
     go false h = omega arith
 
-module _ {ks xs ys ns : List ℕ} {n : ℕ} {ms : List ℕ} {i j : ℕ} {os : List ℕ} {h k : ℕ} (G : Goals ks xs ys ns n ms i j os h k) where
+module _ {columns : NumberedTable} {ms : List ℕ} {i j : ℕ} {os : List ℕ} {h k : ℕ} (G : Goals columns ms i j os h k) where
   abbrev t : Table
-  t = table_of ks xs ys n
+  t = numbered columns
+
+  abbrev ns : List ℕ
+  ns = columns.canon.now
+
+  abbrev n : ℕ
+  n = columns.columns.count
 
   abbrev l : List ℕ
   l = part ms i j
@@ -49,19 +57,19 @@ module _ {ks xs ys ns : List ℕ} {n : ℕ} {ms : List ℕ} {i j : ℕ} {os : Li
   r = part os h k
 
   first_inside : (e : ℕ) → elements l e → e < length t
-  first_inside e m = omega (arith, G.first.inside e m, table_of_length ks xs ys n)
+  first_inside e m = omega (arith, G.first.inside e m, table_of_length columns.columns.kinds.now columns.columns.a.now columns.columns.b.now n)
 
   second_inside : (e : ℕ) → elements r e → e < length t
-  second_inside e m = omega (arith, G.second.inside e m, table_of_length ks xs ys n)
+  second_inside e m = omega (arith, G.second.inside e m, table_of_length columns.columns.kinds.now columns.columns.a.now columns.columns.b.now n)
 
   pub goals_held : {w v : List ℕ} → Holds w (each (in_focus ns) l) → Holds v (each (in_focus ns) r) → RestHeld t w l v r
-  goals_held x y = record { first = rw (← column_keys t G.numbers l first_inside) x; second = rw (← column_keys t G.numbers r second_inside) y }
+  goals_held x y = record { first = rw (← column_keys t columns.numbers l first_inside) x; second = rw (← column_keys t columns.numbers r second_inside) y }
 
   -- the program's test is whether the second goal holds the formula
   tests_agree : sift (λ e. member (each (in_focus ns) r) (in_focus ns e)) l ≡ rest t l r
   unfolding rest
   tests_agree = sift_same (λ e. member (each (in_focus ns) r) (in_focus ns e)) (holds t r) l (λ e m.
-      ap₂ {C = Bool} member (column_keys t G.numbers r second_inside) (key_at_lem G.numbers e 1 (first_inside e m)) ∙ focused_holds t r e)
+      ap₂ {C = Bool} member (column_keys t columns.numbers r second_inside) (key_at_lem columns.numbers e 1 (first_inside e m)) ∙ focused_holds t r e)
 
   module _ {old new : List ℕ} {m : ℕ} (room : length old ≡ 24) (s : Sifted (λ e. member (each (in_focus ns) r) (in_focus ns e)) l old m new) where
     pub rest_many : m ≡ length (rest t l r)

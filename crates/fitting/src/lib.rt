@@ -5,7 +5,8 @@
 ghost use Rattle.std.specs.Prelude.{◌≡◌, List, true, ℕ, ◌+◌, ◌<◌, ◌≤◌, length, take};
 ghost use Rattle.verdict.specs.Lists.{Rising, written};
 ghost use Rattle.verdict.specs.Tests.{member};
-ghost use Rattle.formula.specs.Plain.{table_of};
+ghost use Rattle.formula.specs.Columned.{entries};
+ghost use Rattle.sequents.specs.Columned.{numbered};
 ghost use Rattle.sequents.specs.CodeSet.{Holds};
 ghost use Rattle.sequents.specs.Keys.{Narrow, in_focus};
 ghost use Rattle.sequents.specs.Part.{part};
@@ -13,45 +14,36 @@ ghost use Rattle.sequents.specs.Placed.{Members};
 ghost use Rattle.joining.specs.FitTest.{same_entries_lem};
 ghost use Rattle.joining.specs.Goals as goals;
 ghost use Rattle.fitting.specs.Sifting.{Sifted};
-ghost use Rattle.fitting.specs.Fitting.{Numbered, Goals, RestHeld, rest_fits_lem, Fitted};
+ghost use Rattle.fitting.specs.Fitting.{IsAnd, Goals, RestHeld, rest_fits_lem, Fitted};
 
 use bits::wide;
-use formula::Kind;
+use formula::{EntryColumns, Kind};
 use operand_rules::and_kept;
+use sequents::numbered::NumberedTable;
 use sequents::sets::{code_of, has, key, put_goal};
 
 // Whether two claims have the same entries, record by record.
-pub fn same_entries(
-    kinds: &[u8; 256],
-    a: &[u16; 256],
-    b: &[u16; 256],
-    count: usize,
-    other_kinds: &[u8; 256],
-    other_a: &[u16; 256],
-    other_b: &[u16; 256],
-    other_count: usize,
-) -> bool
-    requires { count ≤ 256 }
-    ensures { result ≡ same_entries_lem (table_of kinds.now a.now b.now count)
-        (table_of other_kinds.now other_a.now other_b.now other_count) }
+pub fn same_entries(table: &EntryColumns, other: &EntryColumns) -> bool
+    ensures { result ≡ same_entries_lem (entries table.now) (entries other.now) }
 {
-    if count != other_count {
-        return false;
-    }
-    let mut i: usize = 0;
-    while i < count {
-        if kinds[i] != other_kinds[i] {
-            return false;
-        }
-        if a[i] != other_a[i] {
-            return false;
-        }
-        if b[i] != other_b[i] {
-            return false;
-        }
-        i += 1;
-    }
-    true
+    let EntryColumns {
+        kinds,
+        a,
+        b,
+        count,
+        ..
+    } = *table;
+    let EntryColumns {
+        kinds: other_kinds,
+        a: other_a,
+        b: other_b,
+        count: other_count,
+        ..
+    } = *other;
+    count == other_count
+        && kinds[..count] == other_kinds[..count]
+        && a[..count] == other_a[..count]
+        && b[..count] == other_b[..count]
 }
 
 // The rest: the members of the first goal, under their numbers, whose formula the second goal holds too. How many there are.
@@ -68,14 +60,12 @@ fn find_rest(
         (part members.now from to) rest.old result rest.new }
 {
     let mut found: usize = 0;
-    let mut i = from;
-    while i < to {
+    for i in from..to {
         let member = members[i];
         if has(second, key(canon, wide(member), 1)) {
             rest[found] = member;
             found += 1;
         }
-        i += 1;
     }
     found
 }
@@ -86,67 +76,41 @@ fn enter(entry: u16, members: &mut [u16; 24], count: usize)
     ensures { members.new ≡ written (goals.enter entry (take count members.old)) members.old }
 {
     let mut held = entry;
-    let mut i: usize = 0;
-    while i < count {
+    for i in 0..count {
         let next = members[i];
         if held < next {
             members[i] = held;
             held = next;
         }
-        i += 1;
     }
     members[count] = held;
 }
 
 // Whether the entry is no member of the rest, and the new root keeps rule 3: the rest with A's target is the first goal, with B's the second.
 fn rest_fits(
-    kinds: &[u8; 256],
-    a: &[u16; 256],
-    b: &[u16; 256],
-    canon: &[u16; 256],
-    entries: usize,
+    table: &NumberedTable,
     entry: u16,
     first: &[u64; 8],
     second: &[u64; 8],
     rest: &[u16; 24],
     count: usize,
 ) -> bool
-    requires { Numbered kinds.now a.now b.now canon.now entries entry × Members entries rest.now 0 count }
-    ensures { (l m : List ℕ) → RestHeld (table_of kinds.now a.now b.now entries) first.now l second.now m
-        → result ≡ rest_fits_lem (table_of kinds.now a.now b.now entries) entry l m (part rest.now 0 count) }
+    requires { IsAnd table.now entry × Members table.now.columns.count rest.now 0 count }
+    ensures { (l m : List ℕ) → RestHeld (numbered table.now) first.now l second.now m
+        → result ≡ rest_fits_lem (numbered table.now) entry l m (part rest.now 0 count) }
 {
     let mut side = [0u64; 8];
-    put_goal(&mut side, canon, rest, 0, count);
-    if has(&side, key(canon, wide(entry), 1)) {
+    put_goal(&mut side, table.canon, rest, 0, count);
+    if has(&side, key(table.canon, wide(entry), 1)) {
         return false;
     }
-    and_kept(
-        kinds,
-        a,
-        b,
-        canon,
-        entries,
-        code_of(entry, 1),
-        &side,
-        first,
-        second,
-    )
+    and_kept(table, code_of(entry, 1), &side, first, second)
 }
 
-// How many members the joined goal has, or that the two do not fit.
-#[derive(Clone, Copy)]
-pub enum Goal {
-    Joined { members: usize },
-    Unfit,
-}
-
-// The joined goal of two goals over one table: the members of each, from a place of its list up to another.
+// The joined goal of two goals over one table: the members of each, from a place of its list up to another. How many members it has, where
+// the two fit.
 pub fn join_goals(
-    kinds: &[u8; 256],
-    a: &[u16; 256],
-    b: &[u16; 256],
-    canon: &[u16; 256],
-    entries: usize,
+    table: &NumberedTable,
     entry: u16,
     members: &[u16; 384],
     from: usize,
@@ -155,31 +119,28 @@ pub fn join_goals(
     others_from: usize,
     others_to: usize,
     goal: &mut [u16; 24],
-) -> Goal
-    requires { Goals kinds.now a.now b.now canon.now entries members.now from to others.now others_from others_to
-        × (length goal.old ≡ 24) }
-    ensures { Fitted (table_of kinds.now a.now b.now entries) entry (part members.now from to)
-        (part others.now others_from others_to) result goal.new }
+) -> Option<usize>
+    requires { Goals table.now members.now from to others.now others_from others_to × (length goal.old ≡ 24) }
+    ensures { Fitted (numbered table.now) entry (part members.now from to) (part others.now others_from others_to) result goal.new }
 {
-    if entries <= wide(entry) {
-        return Goal::Unfit;
+    if table.columns.count <= wide(entry) {
+        return None;
     }
-    if kinds[wide(entry)] != Kind::AND {
-        return Goal::Unfit;
+    if table.columns.kinds[wide(entry)] != Kind::AND {
+        return None;
     }
+    let canon = table.canon;
     let mut first = [0u64; 8];
     put_goal(&mut first, canon, members, from, to);
     let mut second = [0u64; 8];
     put_goal(&mut second, canon, others, others_from, others_to);
     let found = find_rest(canon, members, from, to, &second, goal);
     if 24 <= found {
-        return Goal::Unfit;
+        return None;
     }
-    if !rest_fits(
-        kinds, a, b, canon, entries, entry, &first, &second, goal, found,
-    ) {
-        return Goal::Unfit;
+    if !rest_fits(table, entry, &first, &second, goal, found) {
+        return None;
     }
     enter(entry, goal, found);
-    Goal::Joined { members: found + 1 }
+    Some(found + 1)
 }

@@ -11,7 +11,7 @@ ghost use Rattle.io.specs.Counts.{IsPrefixLen};
 use std::io::Read;
 use std::rt::Files;
 use std::{fs, io};
-use verdict::Verdict;
+use verdict::{Refusal, Verdict};
 
 // Reads the file to its end, to the buffer's, or to the first read that fails, as one does that a signal interrupts: how many bytes came,
 // and no count where a read failed. A read that brings less than was asked is no end: a pipe's bytes come in pieces.
@@ -38,8 +38,8 @@ fn read_named(files: &impl Files, name: &str, buf: &mut [u8]) -> io::Result<usiz
 
 fn write_verdict(rt: &impl Print, verdict: Verdict) -> io::Result<()> {
     match verdict {
-        Verdict::Accepted => println!(rt; "accept"),
-        Verdict::Refused { number, place } => println!(rt; "refuse {number} at {place}"),
+        Ok(()) => println!(rt; "accept"),
+        Err(Refusal { number, place }) => println!(rt; "refuse {number} at {place}"),
     }
 }
 

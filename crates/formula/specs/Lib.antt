@@ -24,3 +24,4 @@ pub mod PlainNodes
 pub mod NodeColumns
 pub mod Held
 pub mod CodeCounts
+pub mod Columned

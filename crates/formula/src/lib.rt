@@ -1,7 +1,7 @@
 // The entry kinds and the rules, each with one named constant for each number and the fields that it has; and the target of an operand.
 #![tactic(auto)]
 
-ghost use Rattle.std.specs.Prelude.{◌≡◌, List, ℕ, ◌+◌, ◌<◌, ◌≤◌};
+ghost use Rattle.std.specs.Prelude.{◌≡◌, List, ℕ, ◌+◌, ◌*◌, ◌<◌, ◌≤◌, length};
 ghost use Rattle.bits.specs.IfSet.{if_set_lem};
 ghost use Rattle.formula.specs.Claim as claims;
 ghost use Rattle.formula.specs.NamedForm.{named_form};
@@ -180,6 +180,35 @@ impl Rule {
     {
         Rule::field_sum(rule, 2, 2, 2, 2)
     }
+}
+
+// An entry table as columns, of which the first entries count.
+#[derive(Clone, Copy)]
+pub struct EntryColumns<'a> {
+    pub kinds: &'a [u8; 256],
+    pub a: &'a [u16; 256],
+    pub b: &'a [u16; 256],
+    pub count: usize,
+    pub ghost few: { count ≤ 256 },
+}
+
+// A proof's nodes as columns: their rules, and four links each.
+#[derive(Clone, Copy)]
+pub struct LinkColumns<'a> {
+    pub rules: &'a [u8],
+    pub links: &'a [u16],
+    pub nodes: usize,
+    pub ghost few: { nodes ≤ 1024 },
+    pub ghost room: { (nodes ≤ length rules.now) × (4 * nodes ≤ length links.now) },
+}
+
+// With their sequents: the codes of all, and where each node's start.
+#[derive(Clone, Copy)]
+pub struct NodeColumns<'a> {
+    pub tree: LinkColumns<'a>,
+    pub starts: &'a [u16],
+    pub codes: &'a [u16],
+    pub ghost starts_room: { tree.nodes < length starts.now },
 }
 
 // The target of an operand: the operand, or its fixpoint if it is a name. It is the same whatever the B fields and the table's length.

@@ -15,8 +15,8 @@ use Rattle.demands.specs.EvaluationEarned.{EvaluationEarned, Evaluable}
 use Rattle.demands.proofs.EvaluateExact as exactly
 use Rattle.demands.specs.RefusedAs.{RefusedAs, wide_decoded, refused_as, zero_accepts}
 use Rattle.demands.specs.Numbered.{evaluation_number}
-use Rattle.evaluation.specs.declared.Evaluation.{Evaluation}
-use Rattle.evaluation.specs.EvaluateFiles.{EvaluatedFiles}
+use Rattle.evaluation.specs.EvaluateFiles as files
+use Rattle.evaluation.specs.EvaluateFiles.{Evaluation, EvaluatedFiles, to_store}
 use Rattle.gate.specs.LentWords.{lent_words_of}
 
 -- the promise of an evaluation: the answer, what every lent slice holds afterwards, and what the answer says of the input
@@ -45,14 +45,15 @@ module _ {claim model : List ℕ} (bc : Bytes claim) (bm : Bytes model) (l : Len
   refuses = refused_as 4294967296 wide_decoded answered (λ n q. exactly.refusal claim model l bc bm) r answer within
 
 -- the records that are stored from the columns show the entries that the definition leaves
-pub evaluate_call : {claim model : List ℕ} {es es' : List Entry} {ks xs ys ws ws' : List ℕ} {r : Evaluation} → EvaluatedFiles (length es) claim model ws r ks xs ys ws'
-    → es' ≡ written (entries_of ks xs ys r.entries) es → EvaluateCall claim model es ws r.answer es' ws'
-evaluate_call {es = es} {ks = ks} {xs = xs} {ys = ys} {ws = ws} {r = r} done stored =
+pub evaluate_call : {claim model : List ℕ} {es es' : List Entry} {ks xs ys ws ws' : List ℕ} {r : Evaluation} {n : ℕ} → EvaluatedFiles (length es) claim model ws r ks xs ys ws'
+    → n ≡ packed_wide (files.answered r) → es' ≡ written (entries_of ks xs ys (to_store r)) es → EvaluateCall claim model es ws n es' ws'
+evaluate_call {es = es} {ks = ks} {xs = xs} {ys = ys} {ws = ws} {r = r} done number stored =
     let right = done.right (shown_entries es) (length-map es shown_entry) in
-    let shown = ap shown_entries stored ∙ map_written shown_entry (entries_of ks xs ys r.entries) es ∙ ap (λ (t : Table). written t (shown_entries es)) (entries_shown ks xs ys r.entries) in
+    let answer = number ∙ ap packed_wide right.answer in
+    let shown = ap shown_entries stored ∙ map_written shown_entry (entries_of ks xs ys (to_store r)) es ∙ ap (λ (t : Table). written t (shown_entries es)) (entries_shown ks xs ys (to_store r)) in
     record {
-      answer = right.answer;
+      answer = answer;
       lent = rw (shown, sym right.entries, right.words) refl;
-      exact = finishes done.claim_bytes_lem done.model_bytes (lent_words_of es ws) right.answer right.within;
-      refuses = refuses done.claim_bytes_lem done.model_bytes (lent_words_of es ws) right.answer right.within;
+      exact = finishes done.claim_bytes_lem done.model_bytes (lent_words_of es ws) answer right.within;
+      refuses = refuses done.claim_bytes_lem done.model_bytes (lent_words_of es ws) answer right.within;
     }

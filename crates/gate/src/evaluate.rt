@@ -3,6 +3,7 @@ ghost use Rattle.gate.specs.EvaluateCall.{EvaluateCall};
 
 use evaluation::evaluate_files;
 use records::{Entry, store_entries};
+use verdict::pack_wide;
 
 // Each entry's word in the model, and the claim's entries as records: 0, or refusal × 2^32 + place, since a place in a model can be wider
 // than two bytes.
@@ -19,7 +20,7 @@ pub extern "C" fn focus_evaluate(
     let mut kinds = [0u8; 256];
     let mut a = [0u16; 256];
     let mut b = [0u16; 256];
-    let done = evaluate_files(
+    match evaluate_files(
         entries.len(),
         claim,
         model,
@@ -27,7 +28,11 @@ pub extern "C" fn focus_evaluate(
         &mut a,
         &mut b,
         words,
-    );
-    store_entries(entries, &kinds, &a, &b, done.entries);
-    done.answer
+    ) {
+        Ok(count) => {
+            store_entries(entries, &kinds, &a, &b, count);
+            0
+        }
+        Err(refusal) => pack_wide(refusal.number, refusal.place),
+    }
 }

@@ -1,2 +1,3 @@
 pub mod Goals
 pub mod GoalStages
+pub mod Columned

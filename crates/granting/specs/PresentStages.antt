@@ -19,7 +19,7 @@ abbrev pub settled_state : Verdict → ℕ → State → State
 settled_state accepted tag s = record { phase = 2; tag = tag }
 settled_state (refused n q) tag s = s
 
-pub record Settled (s : State) (tag : ℕ) (v : Verdict) (r : Numbered) : Type 0 where
+pub record Settled (s : State) (tag : ℕ) (v : Verdict) (r : Numbered ℕ) : Type 0 where
   pub answer : r.answer ≡ packed v
   pub within : Within 65536 v
   pub state : r.state ≡ settled_state v tag s

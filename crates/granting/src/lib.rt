@@ -3,43 +3,26 @@
 
 ghost use Rattle.std.specs.Prelude.{◌≡◌};
 ghost use Rattle.verdict.specs.Shown.{shown};
-ghost use Rattle.verdict.specs.declared.Verdict.TheVariants.{Refused};
 ghost use Rattle.permit.specs.Plain.{state_of};
 ghost use Rattle.granting.specs.PresentStages.{stands_before_lem, Settled};
 
-use permit::{Numbered, Phase, State};
-use verdict::{Verdict, pack};
-
-fn refused(number: u16) -> Verdict
-    ensures { result ≡ Refused number 0 }
-{
-    Verdict::Refused {
-        number: number,
-        place: 0,
-    }
-}
+use permit::{GateFault, Numbered, Phase, State};
+use verdict::{Fault, SliceFault, Verdict, pack};
 
 // 50, 51 and 1, which stand before the files.
 pub fn stands_before(state: State, entries: usize, nodes: usize, codes: usize) -> Verdict
     ensures { shown result ≡ stands_before_lem (state_of state) entries nodes codes }
 {
-    let phase = state.phase;
-    if phase == Phase::HOLDING {
-        return refused(51);
+    if state.phase == Phase::HOLDING {
+        return Err(GateFault::Holding.at(0));
     }
-    if phase != Phase::OPEN {
-        return refused(50);
+    if state.phase != Phase::OPEN {
+        return Err(GateFault::Closed.at(0));
     }
-    if entries < 256 {
-        return refused(1);
+    if entries < 256 || nodes < 1024 || codes < 24576 {
+        return Err(SliceFault::Short.at(0));
     }
-    if nodes < 1024 {
-        return refused(1);
-    }
-    if codes < 24576 {
-        return refused(1);
-    }
-    Verdict::Accepted
+    Ok(())
 }
 
 // "On acceptance it holds that tag", and "no input refusal alters the gate state".
@@ -48,19 +31,13 @@ pub fn settle(state: State, tag: u32, verdict: Verdict) -> Numbered
 {
     let answer = pack(verdict);
     match verdict {
-        Verdict::Accepted => Numbered {
+        Ok(()) => Numbered {
             state: State {
                 phase: Phase::HOLDING,
-                tag: tag,
+                tag,
             },
-            answer: answer,
+            answer,
         },
-        Verdict::Refused {
-            number: _,
-            place: _,
-        } => Numbered {
-            state: state,
-            answer: answer,
-        },
+        Err(_) => Numbered { state, answer },
     }
 }

@@ -1,3 +1,5 @@
+pub mod FaultNumbers
 pub mod Wholly
 pub mod Ready
 pub mod Paired
+pub mod Columned

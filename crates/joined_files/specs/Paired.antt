@@ -14,7 +14,7 @@ use Rattle.formula.specs.Plain.{table_of, table_of_length}
 use Rattle.reader.specs.Files.{firstly}
 use Rattle.sequents.specs.Part.{part, part_length}
 use Rattle.sequents.specs.Placed as placed
-use Rattle.sequents.specs.Keys.{Numbers}
+use Rattle.sequents.specs.declared.numbered.NumberedTable.{NumberedTable}
 use Rattle.numbers.specs.Numbered.{Numberable}
 use Rattle.joining.specs.Goals.{rest, joined_goal}
 use Rattle.joining.specs.GoalLaws.{enter_lists, rest_members, joined_length}
@@ -56,19 +56,13 @@ pub fitted_as : {t t' : Table} {l l' r r' : List ℕ} {p p' q q' : Proof} → t 
     → (e claim_room proof_room : ℕ) → fitted t l r p q e claim_room proof_room ≡ fitted t' l' r' p' q' e claim_room proof_room
 fitted_as i j k m n e claim_room proof_room = rw (i, j, k, m, n) refl
 
+-- of a numbered table
+pub goals_given : {t : NumberedTable} {len : ℕ} {ms : List ℕ} {i j : ℕ} {os : List ℕ} {h k : ℕ} {first second : List ℕ}
+    → Paired t.columns.kinds.now t.columns.a.now t.columns.b.now t.columns.count len ms i j os h k first second → Goals t ms i j os h k
+goals_given P = record { well = P.table.wf; first = P.first_goal; few = P.few; rising = P.rising; second = P.second_goal }
+
 module _ {ks xs ys : List ℕ} {n len : ℕ} {ms : List ℕ} {i j : ℕ} {os : List ℕ} {h k : ℕ} {first second : List ℕ}
     (P : Paired ks xs ys n len ms i j os h k first second) where
-  pub goals_given : {ns : List ℕ} → Numbers (table_of ks xs ys n) ns → Goals ks xs ys ns n ms i j os h k
-  goals_given N = record {
-    well = P.table.wf;
-    numbers = N;
-    small = P.table.small;
-    first = P.first_goal;
-    few = P.few;
-    rising = P.rising;
-    second = P.second_goal;
-  }
-
   abbrev t : Table
   t = table_of ks xs ys n
 

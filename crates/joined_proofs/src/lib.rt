@@ -21,10 +21,8 @@ fn put_focused(members: &[u16; 24], count: usize, codes: &mut [u16; 24])
     requires { Members members.now count × (length codes.old ≡ 24) }
     ensures { codes.new ≡ written (in_focus (take count members.now)) codes.old }
 {
-    let mut i: usize = 0;
-    while i < count {
+    for i in 0..count {
         codes[i] = code_of(members[i], 1);
-        i += 1;
     }
 }
 
@@ -34,10 +32,7 @@ fn put_root(out: &mut [u8], entry: u16, members: &[u16; 24], count: usize, nodes
         × Fits out.old 6 (encode_node (joined_root entry (take count members.now) nodes)) }
     ensures { Put out.old 6 (encode_node (joined_root entry (take count members.now) nodes)) result out.new }
 {
-    let mut links = [0u16; 4];
-    links[0] = code_of(entry, 1);
-    links[1] = 1;
-    links[2] = (nodes + 1) as u16;
+    let links = [code_of(entry, 1), 1, (nodes + 1) as u16, 0];
     let mut codes = [0u16; 24];
     put_focused(members, count, &mut codes);
     put_node(out, AFTER_COUNT, Rule::AND, &links, 0, &codes, 0, count)

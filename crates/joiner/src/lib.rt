@@ -5,6 +5,7 @@
 ghost use Rattle.std.specs.Prelude.{◌≡◌, length};
 ghost use Rattle.verdict.specs.Verdict.{accepted};
 ghost use Rattle.verdict.specs.Shown.{shown};
+ghost use Rattle.verdict.specs.ScanLaws.{after};
 ghost use Rattle.formula.specs.Claim.{clm1, Claim};
 ghost use Rattle.formula.specs.Held.{ClaimHeld};
 ghost use Rattle.claims.specs.ClaimWalk.{ClaimArrays};
@@ -15,30 +16,21 @@ ghost use Rattle.joiner.specs.Reading.{both_read_lem};
 
 use bits::wide;
 use claim_files::{CLAIM_OPENING, ClaimFault};
-use claims::ClaimRead;
-use encoding::opens;
+use encoding::opens_with;
 use fitting::same_entries;
+use formula::EntryColumns;
 use joined_files::{JoinFault, join_goals_of};
 use reader::read_formed;
 use single::judge_files;
-use verdict::Verdict;
+use verdict::{Fault, Verdict};
 use writer::refuse;
 
 // An input, in the forms for one goal only: of another opening the proof's is refused beside a claim of that form, the claim's here.
 fn judge_half(claim: &[u8], proof: &[u8]) -> Verdict
     ensures { shown result ≡ half_verdict claim.now proof.now }
 {
-    if !opens(
-        claim,
-        CLAIM_OPENING[0],
-        CLAIM_OPENING[1],
-        CLAIM_OPENING[2],
-        CLAIM_OPENING[3],
-    ) {
-        return Verdict::Refused {
-            number: ClaimFault::OPENING,
-            place: 0,
-        };
+    if !opens_with(claim, &CLAIM_OPENING) {
+        return Err(ClaimFault::Opening.at(0));
     }
     judge_files(claim, proof)
 }
@@ -57,8 +49,8 @@ fn read_half(
         bounds.new members.new 1 }
 {
     match read_formed(claim, kinds, a, b, bounds, members) {
-        ClaimRead::Read { entries, .. } => entries,
-        ClaimRead::Refused { .. } => 0,
+        Ok(counts) => counts.entries,
+        Err(_) => 0,
     }
 }
 
@@ -102,24 +94,24 @@ fn join_accepted(
         &mut other_bounds,
         &mut others,
     );
-    if !same_entries(
-        &kinds,
-        &a,
-        &b,
-        entries,
-        &other_kinds,
-        &other_a,
-        &other_b,
-        other_entries,
-    ) {
-        return refuse(JoinFault::UNFIT, entry);
+    let table = EntryColumns {
+        kinds: &kinds,
+        a: &a,
+        b: &b,
+        count: entries,
+    };
+    let other = EntryColumns {
+        kinds: &other_kinds,
+        a: &other_a,
+        b: &other_b,
+        count: other_entries,
+    };
+    if !same_entries(&table, &other) {
+        return refuse(JoinFault::Unfit as u16, entry);
     }
     join_goals_of(
         entry,
-        &kinds,
-        &a,
-        &b,
-        entries,
+        &table,
         claim1.len(),
         &members,
         wide(bounds[0]),
@@ -135,6 +127,14 @@ fn join_accepted(
 }
 
 // The first input is judged whole before the second.
+fn judge_halves(claim1: &[u8], proof1: &[u8], claim2: &[u8], proof2: &[u8]) -> Verdict
+    ensures { shown result ≡ after (half_verdict claim1.now proof1.now) (half_verdict claim2.now proof2.now) }
+{
+    judge_half(claim1, proof1)?;
+    judge_half(claim2, proof2)
+}
+
+// What two accepted inputs get, or the first refusal.
 pub fn join_files(
     entry: u16,
     claim1: &[u8],
@@ -147,13 +147,8 @@ pub fn join_files(
     ensures { Wholly (join_files_lem entry claim1.now proof1.now claim2.now proof2.now
         (length claim.old) (length proof.old)) claim.old proof.old result claim.new proof.new }
 {
-    match judge_half(claim1, proof1) {
-        Verdict::Refused { number, place } => refuse(number, place),
-        Verdict::Accepted => match judge_half(claim2, proof2) {
-            Verdict::Refused { number, place } => refuse(number, place),
-            Verdict::Accepted => {
-                join_accepted(entry, claim1, proof1, claim2, proof2, claim, proof)
-            }
-        },
+    match judge_halves(claim1, proof1, claim2, proof2) {
+        Ok(()) => join_accepted(entry, claim1, proof1, claim2, proof2, claim, proof),
+        Err(refusal) => refuse(refusal.number, refusal.place),
     }
 }

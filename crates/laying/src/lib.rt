@@ -26,8 +26,7 @@ fn put_two(out: &mut [u8], at: usize, value: u16)
     requires { at + 2 ≤ length out.old }
     ensures { out.new ≡ sets out.old at (encode_two value) }
 {
-    out[at] = (value % 256) as u8;
-    out[at + 1] = (value / 256) as u8;
+    out[at..at + 2].copy_from_slice(&value.to_le_bytes());
 }
 
 // A field whose bit does not stand takes no bytes. The place after it.
@@ -35,11 +34,12 @@ fn put_field(out: &mut [u8], at: usize, stands: bool, value: u16) -> usize
     requires { Fits out.old at (encode_field stands value) }
     ensures { Put out.old at (encode_field stands value) result out.new }
 {
-    if !stands {
-        return at;
+    if stands {
+        put_two(out, at, value);
+        at + 2
+    } else {
+        at
     }
-    put_two(out, at, value);
-    at + 2
 }
 
 // So many two-byte numbers of a list, one after the other. The place after them.
@@ -48,24 +48,19 @@ fn put_numbers(out: &mut [u8], from: usize, numbers: &[u16], start: usize, count
     ensures { Put out.old from (numbers_left numbers.now start count) result out.new }
 {
     let mut at = from;
-    let mut i: usize = 0;
-    while i < count {
-        put_two(out, at, numbers[start + i]);
+    for number in &numbers[start..start + count] {
+        put_two(out, at, *number);
         at += 2;
-        i += 1;
     }
     at
 }
 
 // The letters that open a file, and the count after them.
-fn put_opening(out: &mut [u8], a: u8, b: u8, c: u8, d: u8, count: usize)
+fn put_opening(out: &mut [u8], letters: &[u8; 4], count: usize)
     requires { (6 ≤ length out.old) × (count < 65536) }
-    ensures { out.new ≡ sets out.old 0 ((a ∷ b ∷ c ∷ d ∷ []) ++ encode_two count) }
+    ensures { out.new ≡ sets out.old 0 (letters.now ++ encode_two count) }
 {
-    out[0] = a;
-    out[1] = b;
-    out[2] = c;
-    out[3] = d;
+    out[..4].copy_from_slice(letters);
     put_two(out, 4, count as u16);
 }
 
@@ -73,13 +68,11 @@ fn put_opening(out: &mut [u8], a: u8, b: u8, c: u8, d: u8, count: usize)
 fn map_for(kind: u8, b: u16) -> u8
     ensures { result ≡ map_for_lem kind b }
 {
-    if b == 0 {
-        return Kind::map(kind);
+    if b != 0 && Kind::is_modal(kind) {
+        3
+    } else {
+        Kind::map(kind)
     }
-    if Kind::is_modal(kind) {
-        return 3;
-    }
-    Kind::map(kind)
 }
 
 // A bit map byte, a kind byte, then only the fields whose bit stands.
@@ -105,10 +98,8 @@ fn put_entries(
     ensures { Put out.old 6 (entries_left kinds.now a.now b.now 0 count) result out.new }
 {
     let mut at: usize = 6;
-    let mut i: usize = 0;
-    while i < count {
+    for i in 0..count {
         at = put_entry(out, at, kinds[i], a[i], b[i]);
-        i += 1;
     }
     at
 }
@@ -118,25 +109,12 @@ fn open_claim(out: &mut [u8], form: u8, count: usize)
     requires { Fits out.old 0 (claim_opening (named_form form) ++ encode_two count) × (count < 65536) }
     ensures { Put out.old 0 (claim_opening (named_form form) ++ encode_two count) 6 out.new }
 {
-    if form == formula::Form::CLM2 {
-        put_opening(
-            out,
-            claim_files::GOALS_OPENING[0],
-            claim_files::GOALS_OPENING[1],
-            claim_files::GOALS_OPENING[2],
-            claim_files::GOALS_OPENING[3],
-            count,
-        );
+    let letters = if form == formula::Form::CLM2 {
+        &claim_files::GOALS_OPENING
     } else {
-        put_opening(
-            out,
-            CLAIM_OPENING[0],
-            CLAIM_OPENING[1],
-            CLAIM_OPENING[2],
-            CLAIM_OPENING[3],
-            count,
-        );
-    }
+        &CLAIM_OPENING
+    };
+    put_opening(out, letters, count);
 }
 
 // The goal count, which the form for one goal does not write. The place after it.
@@ -163,12 +141,9 @@ fn put_goals(out: &mut [u8], from: usize, counts: &[u16], members: &[u16])
 {
     let mut at = from;
     let mut start: usize = 0;
-    let mut i: usize = 0;
-    while i < counts.len() {
-        let count = counts[i];
-        at = put_goal(out, at, members, start, count);
-        start += wide(count);
-        i += 1;
+    for count in counts {
+        at = put_goal(out, at, members, start, *count);
+        start += wide(*count);
     }
 }
 
@@ -211,10 +186,11 @@ fn put_codes(out: &mut [u8], at: usize, codes: &[u16], start: usize, count: usiz
     ensures { Put out.old at (codes_part codes.now start count) result out.new }
 {
     if count == 0 {
-        return at;
+        at
+    } else {
+        out[at] = count as u8;
+        put_numbers(out, at + 1, codes, start, count)
     }
-    out[at] = count as u8;
-    put_numbers(out, at + 1, codes, start, count)
 }
 
 // A bit map byte, a rule byte, then the fields whose bit stands; bit 4 where codes follow.
@@ -254,12 +230,10 @@ fn put_nodes(
 {
     let mut at = from;
     let mut start: usize = 0;
-    let mut v: usize = 0;
-    while v < nodes {
+    for v in 0..nodes {
         let count = wide(counts[v]);
         at = put_node(out, at, rules[v], links, v, codes, start, count);
         start += count;
-        v += 1;
     }
 }
 
@@ -268,25 +242,12 @@ pub fn open_proof(out: &mut [u8], form: u8, nodes: usize)
     requires { Fits out.old 0 (proof_opening (named_form form) ++ encode_two nodes) × (nodes < 65536) }
     ensures { Put out.old 0 (proof_opening (named_form form) ++ encode_two nodes) 6 out.new }
 {
-    if form == formula::Form::CLM2 {
-        put_opening(
-            out,
-            proof_files::GOALS_OPENING[0],
-            proof_files::GOALS_OPENING[1],
-            proof_files::GOALS_OPENING[2],
-            proof_files::GOALS_OPENING[3],
-            nodes,
-        );
+    let letters = if form == formula::Form::CLM2 {
+        &proof_files::GOALS_OPENING
     } else {
-        put_opening(
-            out,
-            PROOF_OPENING[0],
-            PROOF_OPENING[1],
-            PROOF_OPENING[2],
-            PROOF_OPENING[3],
-            nodes,
-        );
-    }
+        &PROOF_OPENING
+    };
+    put_opening(out, letters, nodes);
 }
 
 // The roots, which the form for one goal does not write. The place after them.
@@ -295,9 +256,10 @@ fn put_roots(out: &mut [u8], form: u8, roots: &[u16]) -> usize
     ensures { Put out.old 6 (encode_roots (named_form form) roots.now) result out.new }
 {
     if form == formula::Form::CLM2 {
-        return put_numbers(out, AFTER_COUNT, roots, 0, roots.len());
+        put_numbers(out, AFTER_COUNT, roots, 0, roots.len())
+    } else {
+        AFTER_COUNT
     }
-    AFTER_COUNT
 }
 
 // A proof file of the form.

@@ -1,5 +1,5 @@
 -- the files behind what stands before them, judged as they stand in the lent slices
-use Rattle.std.specs.Prelude.{◌≡◌, refl, List, ℕ, ◌≤◌, T, length}
+use Rattle.std.specs.Prelude.{◌≡◌, refl, List, ℕ, ◌≤◌, T, length, Ok, Err}
 use Rattle.std.proofs.Common.{sym, ap, ◌∙◌, arith}
 use Rattle.verdict.specs.Verdict as verdicts
 use Rattle.verdict.specs.Verdict.{Verdict, accepted}
@@ -7,6 +7,7 @@ use Rattle.verdict.specs.Lists.{written}
 use Rattle.verdict.specs.Shown.{shown}
 use Rattle.encoding.specs.Encode.{Bytes}
 use Rattle.encoding.specs.File.{Reading, refused, good}
+use Rattle.encoding.specs.FileLaws.{refused_not_good}
 use Rattle.formula.specs.Table.{Table}
 use Rattle.formula.specs.Claim.{Form, clm1, clm2, Claim, Derivation}
 use Rattle.formula.specs.Plain.{table_of, table_of_length}
@@ -19,8 +20,9 @@ use Rattle.records.specs.declared.Entry.{Entry}
 use Rattle.records.specs.declared.Node.{Node}
 use Rattle.reader.specs.Files.{Files, firstly, files}
 use Rattle.reader.specs.Begins.{Begins, refusal}
-use Rattle.reader.specs.Found.{FilesGot, Tells}
-use Rattle.reader.specs.declared.Found.{Found}
+use Rattle.reader.specs.Found.{FilesGot, FilesTell}
+use Rattle.reader.specs.declared.FileCounts.{FileCounts}
+use Rattle.verdict.specs.declared.Refusal.{Refusal}
 use Rattle.laid.specs.Numbering.{numberable_as}
 use Rattle.laid.specs.Readable.{Readable, proof_at, count, same_proof, same_entries, readable, readable_judged}
 use Rattle.standing.specs.Standing.{RoomFor, JudgedStored}
@@ -52,36 +54,17 @@ pub early_stands : {before : Verdict} (claim proof : List ℕ) (es : List Entry)
 early_stands claim proof es vs cs accepted begun h = absurd h
 early_stands claim proof es vs cs (verdicts.refused n q) begun h = rw (begun.stands n q refl proof) (record { answer = λ tag. refl; lent = λ tag. refl })
 
--- nodes begin after the opening, also where there are none
-after_opening : (f : Form) (k : ℕ) → 4 ≤ nodes_place_lem f k
-after_opening clm1 k = omega arith
-after_opening clm2 k = omega arith
+module _ (claim proof : List ℕ) (ks xs ys gs ms os : List ℕ) where
+  -- there are counts: nothing was refused, neither before the files nor in them
+  pub nothing_refused : {c : FileCounts} (before : Verdict) → FilesTell (firstly before (files claim proof)) ks xs ys gs ms os (Ok c)
+      → (before ≡ accepted) × FilesGot (files claim proof) ks xs ys gs ms os c.entries c.goals c.nodes c.at
+  nothing_refused accepted told = (refl, told)
+  nothing_refused (verdicts.refused n q) told = absurd (refused_not_good told.was)
 
-module _ (claim proof : List ℕ) (bc : Bytes claim) (bp : Bytes proof) (ks xs ys gs ms os : List ℕ) (f : Found) where
-  abbrev Got : Type 0
-  Got = FilesGot (files claim proof) ks xs ys gs ms os f.entries f.goals f.nodes f.at
-
-  -- a place was found: nothing was refused, neither before the files nor in them
-  passed : (x : Reading (Files Derivation)) → files claim proof ≡ x → Tells x ks xs ys gs ms os f → (f.at ≡ 0 → ⊥) → Got
-  passed (refused n q) e u some = absurd (some u.place)
-  passed (good fs) e g some = rw e g
-
-  pub nothing_refused : (before : Verdict) → Tells (firstly before (files claim proof)) ks xs ys gs ms os f → (f.at ≡ 0 → ⊥) → (before ≡ accepted) × Got
-  nothing_refused accepted told some = (refl, passed (files claim proof) refl told some)
-  nothing_refused (verdicts.refused n q) u some = absurd (some u.place)
-
-  module _ (es : List Entry) (vs : List Node) (cs : List ℕ) (none : f.at ≡ 0) where
-    -- no place was found: the files were refused
-    unread : (x : Reading (Files Derivation)) → files claim proof ≡ x → Tells x ks xs ys gs ms os f → LentJudged x es vs cs (shown f.verdict) es vs cs
-    unread (refused n q) e u = record { answer = λ tag. u.verdict; lent = λ tag. refl }
-    unread (good fs) e g =
-        let got : Got = rw e g in absurd (omega (arith, none, got.place, after_opening got.files.claim.form f.goals))
-
-    -- a refusal leaves the slices as they were
-    pub refusal_stands : (before : Verdict) → Tells (firstly before (files claim proof)) ks xs ys gs ms os f
-        → LentJudged (firstly before (files claim proof)) es vs cs (shown f.verdict) es vs cs
-    refusal_stands accepted told = unread (files claim proof) refl told
-    refusal_stands (verdicts.refused n q) u = record { answer = λ tag. u.verdict; lent = λ tag. refl }
+  -- a refusal leaves the slices as they were
+  pub refusal_stands : (es : List Entry) (vs : List Node) (cs : List ℕ) {e : Refusal ℕ} (before : Verdict) → FilesTell (firstly before (files claim proof)) ks xs ys gs ms os (Err e)
+      → LentJudged (firstly before (files claim proof)) es vs cs (verdicts.refused e.number e.place) es vs cs
+  refusal_stands es vs cs before told = rw told.was (record { answer = λ tag. refl; lent = λ tag. refl })
 
 -- both files are read: their entries are stored, loaded from where they stand, and judged with the nodes
 module _ (claim proof : List ℕ) (bc : Bytes claim) (bp : Bytes proof) {ks xs ys gs ms os : List ℕ} {n k m at : ℕ} (g : FilesGot (files claim proof) ks xs ys gs ms os n k m at)

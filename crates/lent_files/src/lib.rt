@@ -7,12 +7,15 @@ ghost use Rattle.verdict.specs.Verdict.{accepted};
 ghost use Rattle.verdict.specs.Shown.{shown};
 ghost use Rattle.lent_files.specs.LentJudged.{AllLong, LentTold};
 
+use formula::EntryColumns;
+use goals::columns::GoalColumns;
+use laid::ReadProof;
 use reader::find_files;
 use records::{Entry, Node, load_entries, store_entries};
 use standing::judge_stored;
 use verdict::Verdict;
 
-// The files behind what stands before them. A refusal before the rules finds no place of nodes.
+// The files behind what stands before them.
 pub fn judge_read(
     before: Verdict,
     claim: &[u8],
@@ -31,7 +34,7 @@ pub fn judge_read(
     let mut bounds = [0u16; 17];
     let mut members = [0u16; 384];
     let mut roots = [0u16; 16];
-    let found = find_files(
+    let counts = find_files(
         before,
         claim,
         proof,
@@ -41,25 +44,26 @@ pub fn judge_read(
         &mut bounds,
         &mut members,
         &mut roots,
-    );
-    if found.at == 0 {
-        return found.verdict;
-    }
-    store_entries(entries, &kinds, &a, &b, found.entries);
-    load_entries(entries, found.entries, &mut kinds, &mut a, &mut b);
-    judge_stored(
-        proof,
-        found.at,
-        &kinds,
-        &a,
-        &b,
-        found.entries,
-        &bounds,
-        &members,
-        found.goals,
-        &roots,
-        found.nodes,
-        nodes,
-        codes,
-    )
+    )?;
+    store_entries(entries, &kinds, &a, &b, counts.entries);
+    load_entries(entries, counts.entries, &mut kinds, &mut a, &mut b);
+    let columns = EntryColumns {
+        kinds: &kinds,
+        a: &a,
+        b: &b,
+        count: counts.entries,
+    };
+    let goals = GoalColumns {
+        bounds: &bounds,
+        members: &members,
+        roots: &roots,
+        count: counts.goals,
+    };
+    let read = ReadProof {
+        goals,
+        bytes: proof,
+        at: counts.at,
+        nodes: counts.nodes,
+    };
+    judge_stored(&columns, &read, nodes, codes)
 }

@@ -19,7 +19,7 @@ module _ (cs : List ℕ) (end : ℕ) where
   part i = take (end - i) (drop i cs)
 
   -- past the codes the code reads 0, which is out of focus
-  part_step : (i : ℕ) → i < end → any in_focus (part i) ≡ (in_focus (get_or cs i 0) || any in_focus (part (i + 1)))
+  pub part_step : (i : ℕ) → i < end → any in_focus (part i) ≡ (in_focus (get_or cs i 0) || any in_focus (part (i + 1)))
   unfolding any
   part_step i h = rw (more, add-one i) (go (dec_lt i (length cs)))
     where

@@ -5,10 +5,12 @@ use Rattle.verdict.specs.Verdict.{Verdict, accepted, scan}
 use Rattle.formula.specs.Rule
 use Rattle.formula.specs.Nodes.{Proof, node}
 use Rattle.formula.specs.PlainNodes.{proof_of}
+use Rattle.formula.specs.declared.NodeColumns.{NodeColumns}
 use Rattle.calculus.specs.View.{plain}
 use Rattle.calculus.specs.Judge.{ancestor, on_loop, good_path, loop}
 use Rattle.tree.specs.Owners.{Owned}
-use Rattle.spans.specs.Spans.{at_parent_lem, Upward}
+use Rattle.spans.specs.Spans.{at_parent_lem}
+use Rattle.spans.specs.declared.Owners.{Owners}
 use Rattle.spans.specs.Climbs.{path}
 
 -- a box; a node that may lie on a loop path, and one that may not
@@ -34,11 +36,11 @@ nearest_at owners table v marked = choose marked (v + 1) (at_parent_lem owners t
 abbrev pub clear : List ℕ → List ℕ → ℕ → ℕ → Bool
 clear bars boxes c v = leb (get_or bars v 0) c && ltb c (get_or boxes v 0)
 
--- the columns of n nodes with their parents, and the two tables
-pub record Tabled (rs ss cs : List ℕ) (n : ℕ) (owners bars boxes : List ℕ) : Type 0 where
-  pub upward : Upward owners n
-  pub room : (n ≤ length rs) × (n < length ss) × (n ≤ length bars) × (n ≤ length boxes)
-  pub within : (v : ℕ) → v < n → get_or ss (v + 1) 0 ≤ length cs
+-- the columns of a proof with the parents of its nodes, and the two tables
+pub record Tabled (p : NodeColumns) (o : Owners) (bars boxes : List ℕ) : Type 0 where
+  pub same : o.nodes ≡ p.tree.nodes
+  pub room : (p.tree.nodes ≤ length bars) × (p.tree.nodes ≤ length boxes)
+  pub within : (v : ℕ) → v < p.tree.nodes → get_or p.starts.now (v + 1) 0 ≤ length p.codes.now
 
 -- the tables tell the path down to each node from each of its ancestors
 pub record PathsTold (p : Proof) (bars boxes : List ℕ) : Type 0 where
@@ -47,6 +49,9 @@ pub record PathsTold (p : Proof) (bars boxes : List ℕ) : Type 0 where
 -- of every proof with these columns and parents
 abbrev pub PathsFilled : List ℕ → List ℕ → List ℕ → ℕ → List ℕ → List ℕ → List ℕ → Type 0
 PathsFilled rs ss cs n owners bars boxes = (ls : List ℕ) → Owned (proof_of rs ls ss cs n) n owners → PathsTold (proof_of rs ls ss cs n) bars boxes
+
+abbrev pub Filled : NodeColumns → Owners → List ℕ → List ℕ → Type 0
+Filled p o bars boxes = PathsFilled p.tree.rules.now p.starts.now p.codes.now p.tree.nodes o.table.now bars boxes
 
 -- what refusal 38 has ensured before 39
 abbrev pub Linked : Proof → Type 0

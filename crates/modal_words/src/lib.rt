@@ -7,20 +7,14 @@ ghost use Rattle.bits.specs.Bits.{bit};
 ghost use Rattle.states.specs.Words.{word};
 ghost use Rattle.states.specs.StateWords.{Inside};
 
-use letters::push;
+use letters::word_where;
 
 // Where some successor is in w.
 pub fn diamond_word(rows: &[u64], n: usize, w: u64) -> u64
     requires { (n ≤ 64) × (n ≤ length rows.now) × Inside n n rows.now }
     ensures { result ≡ word n (λ s. some n (λ u. bit (get_or rows.now s 0) u && bit w u)) }
 {
-    let mut r: u64 = 0;
-    let mut s = n;
-    while 0 < s {
-        s -= 1;
-        r = push(r, rows[s] & w != 0);
-    }
-    r
+    word_where(n, |s| rows[s] & w != 0)
 }
 
 // Where all successors are in w: also where there is none.
@@ -28,12 +22,5 @@ pub fn box_word(rows: &[u64], n: usize, w: u64) -> u64
     requires { (n ≤ 64) × (n ≤ length rows.now) × Inside n n rows.now }
     ensures { result ≡ word n (λ s. every n (λ u. not (bit (get_or rows.now s 0) u) || bit w u)) }
 {
-    let mut r: u64 = 0;
-    let mut s = n;
-    while 0 < s {
-        s -= 1;
-        let row = rows[s];
-        r = push(r, row & w == row);
-    }
-    r
+    word_where(n, |s| rows[s] & w == rows[s])
 }

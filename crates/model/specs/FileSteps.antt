@@ -1,5 +1,5 @@
 -- a state and the whole file at a place of a file that is indexed: what the program's steps find is what the parsers find there
-use Rattle.std.specs.Prelude.{◌≡◌, Bool, true, false, length, get_or, drop}
+use Rattle.std.specs.Prelude.{◌≡◌, Bool, true, false, length, get_or, drop, Ok, Err}
 use Rattle.std.proofs.Math.Path.{refl, ap}
 use Rattle.std.proofs.Common.{sym, ◌∙◌, arith}
 use mathlib.Core.List.{List}
@@ -15,9 +15,7 @@ use Rattle.model_files.specs.Actions.{ACTIONS}
 use Rattle.model_files.specs.ModelFile.{Form, mdl1, mdl2, State, opening}
 use Rattle.model_files.specs.Header.{Head, Begun}
 use Rattle.model_files.specs.ReadModel.{early, header, lists, begun, made, state, state_count, states, body, read_form, form_by, read_model}
-use Rattle.model.specs.ListSteps.{Finds}
-use Rattle.model.specs.declared.judge.Step.{Step}
-use Rattle.model.specs.declared.judge.Step.TheVariants.{Next, Stop}
+use Rattle.model.specs.ListSteps.{Step, Finds}
 
 -- n states after the opening and the state count
 unfoldable pub states_from : Form → ℕ → List ℕ → Got (List State)
@@ -51,8 +49,8 @@ module _ (f : Form) (n : ℕ) (s : List ℕ) (at : ℕ) where
 
   pub finds_state : {h : Head} {o : ℕ} → Reached s (at + 7) (header f (drop at s) at) h o
       → (r : Step) → Finds s (o + 1040) (lists at n h.1 ACTIONS (drop o s) o) r → Finds s (at + 1047) (state f n (drop at s) at) r
-  finds_state w (Next z) (l, i) = (_, record { found = state_lists w.found i.found; inside = i.inside; near = omega (arith, i.near, w.near) })
-  finds_state w (Stop k q) e = state_lists_stop w.found e
+  finds_state w (Ok z) (l, i) = (_, record { found = state_lists w.found i.found; inside = i.inside; near = omega (arith, i.near, w.near) })
+  finds_state w (Err r) e = state_lists_stop w.found e
 
 -- a file of one form
 module _ (f : Form) (s : List ℕ) (begins : opens (opening f) s ≡ true) where

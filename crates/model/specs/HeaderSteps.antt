@@ -1,5 +1,5 @@
 -- the header of a state at a place of a file that is indexed: what the program's answers tell, and the laws that they rest on
-use Rattle.std.specs.Prelude.{◌≡◌, refl, ◌≢◌, List, Bool, true, false, ℕ, ◌+◌, ◌%◌, ◌<◌, ◌≤◌, length, get_or, drop}
+use Rattle.std.specs.Prelude.{◌≡◌, refl, ◌≢◌, List, Bool, true, false, ℕ, ◌+◌, ◌%◌, ◌<◌, ◌≤◌, length, get_or, drop, Result, Ok, Err}
 use Rattle.std.proofs.Common.{sym, ap, ◌∙◌, arith, eq-eqb, ne_eqb, le-leb}
 use Rattle.std.proofs.lemmas.Bool.{lt-leb}
 use Rattle.encoding.specs.Places.{InFile, word_at, byte_at, byte_end, two_at, two_end}
@@ -10,10 +10,9 @@ use Rattle.encoding.specs.Walk.{Reached, guard_passes, guard_fails, guard_cut}
 use Rattle.model_files.specs.ModelFile.{Form, mdl1, mdl2}
 use Rattle.model_files.specs.Header.{letters_stand, list_stands, MapAndMask}
 use Rattle.model_files.specs.ReadModel.{early, map_fits_lem, map, mask_fits, masked, actions, actions_fit, header}
+use Rattle.verdict.specs.declared.Refusal.{Refusal}
 use Rattle.model.specs.declared.header.Masked.{Masked}
-use Rattle.model.specs.declared.header.Masked.TheVariants as masked_answers
 use Rattle.model.specs.declared.header.Header.{Header}
-use Rattle.model.specs.declared.header.Header.TheVariants as header_answers
 
 -- a place of the file; those shortly after it still fit four bytes
 abbrev pub InModel : List ℕ → ℕ → Type 0
@@ -25,17 +24,17 @@ pub record MaskFollows (s : List ℕ) (at : ℕ) : Type 0 where
   pub fits : map_fits_lem (get_or s at 0) ≡ true
   pub odd : get_or s at 0 % 2 ≢ 0
 
-abbrev pub MaskedTells : List ℕ → ℕ → Masked → Type 0
-MaskedTells s at (masked_answers.Read m x o) = Reached s (at + 5) (masked (drop at s) at) (m, x) o
-MaskedTells s at (masked_answers.Refused n q) = masked (drop at s) at ≡ fault n q
+abbrev pub MaskedTells : List ℕ → ℕ → Result Masked (Refusal ℕ) → Type 0
+MaskedTells s at (Ok m) = Reached s (at + 5) (masked (drop at s) at) (m.map, m.mask) m.next
+MaskedTells s at (Err r) = masked (drop at s) at ≡ fault r.number r.place
 
 -- the map is told no more once the header is read
 abbrev pub HeaderRead : Form → List ℕ → ℕ → ℕ → ℕ → ℕ → Type 0
 HeaderRead f s at x a o = (m : ℕ) × Reached s (at + 7) (header f (drop at s) at) ((m, x), a) o
 
-abbrev pub HeaderTells : Form → List ℕ → ℕ → Header → Type 0
-HeaderTells f s at (header_answers.Read x a o) = HeaderRead f s at x a o
-HeaderTells f s at (header_answers.Refused n q) = header f (drop at s) at ≡ fault n q
+abbrev pub HeaderTells : Form → List ℕ → ℕ → Result Header (Refusal ℕ) → Type 0
+HeaderTells f s at (Ok h) = HeaderRead f s at h.mask h.actions h.next
+HeaderTells f s at (Err r) = header f (drop at s) at ≡ fault r.number r.place
 
 -- map and mask are read, and bit 1 stands
 abbrev pub ActionsFollow : List ℕ → ℕ → ℕ → ℕ → Type 0

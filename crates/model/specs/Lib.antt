@@ -1,5 +1,7 @@
 -- the program's steps over a file
 pub mod Judged
+pub mod Begins
+pub mod Slices
 pub mod HeaderSteps
 pub mod ListSteps
 pub mod SuccessorsRise

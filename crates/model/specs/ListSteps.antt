@@ -1,5 +1,5 @@
 -- the successors by one action at a place of a file that is indexed: what the program's steps find is what the parsers find there
-use Rattle.std.specs.Prelude.{◌≡◌, refl, ◌≢◌, List, false, ℕ, suc, ◌+◌, ◌<◌, ◌≤◌, ltb, length, get_or, drop}
+use Rattle.std.specs.Prelude.{◌≡◌, refl, ◌≢◌, List, false, ℕ, suc, ◌+◌, ◌<◌, ◌≤◌, ltb, length, get_or, drop, Result, Ok, Err}
 use Rattle.std.proofs.Math.Path.{ap}
 use Rattle.std.proofs.Common.{◌∙◌, arith}
 use borrow.Author.Tests.{eq-eqb, ne_eqb, le-leb, lt-leb, lt-ltb, le-ltb}
@@ -7,12 +7,15 @@ use Rattle.encoding.specs.Parse.{Got, fault, got, Parser, bind, guard, byte, tim
 use Rattle.encoding.specs.Places.{byte_at, byte_end}
 use Rattle.encoding.specs.Walk.{Reached, guard_passes, guard_fails, guard_cut}
 use Rattle.model_files.specs.ReadModel.{early, list_count, successors, list}
-use Rattle.model.specs.declared.judge.Step.{Step}
-use Rattle.model.specs.declared.judge.Step.TheVariants.{Next, Stop}
+use Rattle.verdict.specs.declared.Refusal.{Refusal}
+
+-- the place after what was read, or a refusal
+abbrev pub Step : Type 0
+Step = Result ℕ (Refusal ℕ)
 
 abbrev pub Finds : {A : Type 0} → List ℕ → ℕ → Got A → Step → Type 0
-Finds {A} s limit g (Next o) = (x : A) × Reached s limit g x o
-Finds s limit g (Stop n q) = g ≡ fault n q
+Finds {A} s limit g (Ok o) = (x : A) × Reached s limit g x o
+Finds s limit g (Err r) = g ≡ fault r.number r.place
 
 -- a successor that is at least c, in a model of n states, and the least that may follow it
 abbrev pub one_successor : ℕ → ℕ → Parser ℕ
@@ -68,5 +71,5 @@ module _ (begin n : ℕ) (s : List ℕ) (at : ℕ) where
 
     pub finds_list : get_or s at 0 ≢ 0 → (r : Step) → Finds s (at + 1 + 64) (successors n (get_or s at 0) (drop (at + 1) s) (at + 1)) r
         → Finds s (at + 65) (list begin n (drop at s) at) r
-    finds_list m (Next o) (l, w) = (l, record { found = list_counted m ∙ w.found; inside = w.inside; near = omega (arith, w.near) })
-    finds_list m (Stop k q) e = list_counted m ∙ e
+    finds_list m (Ok o) (l, w) = (l, record { found = list_counted m ∙ w.found; inside = w.inside; near = omega (arith, w.near) })
+    finds_list m (Err f) e = list_counted m ∙ e

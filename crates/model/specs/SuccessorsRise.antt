@@ -1,16 +1,15 @@
 -- successors that rise: they fit in every model that has a state for each of them
-use Rattle.std.specs.Prelude.{◌≡◌, List, [], ℕ, suc, ◌+◌, ◌<◌, ◌≤◌, length, get_or, drop}
+use Rattle.std.specs.Prelude.{◌≡◌, List, [], ℕ, suc, ◌+◌, ◌<◌, ◌≤◌, length, get_or, drop, Ok}
 use Rattle.std.proofs.Math.Nat.{add-zero}
 use native.Mathlib.Omega.{arith}
 use Rattle.encoding.specs.Parse.{times}
 use Rattle.encoding.specs.Walk.{Walking, walk_begins, walk_steps, walk_ends}
 use Rattle.model_files.specs.ReadModel.{successors}
 use Rattle.model.specs.ListSteps.{Finds, one_successor, after_successor, successor_fits}
-use Rattle.model.specs.declared.judge.Step.TheVariants.{Next}
 
 -- so many successors in a model of n states stand at a place
 abbrev pub SuccessorsStand : List ℕ → ℕ → ℕ → ℕ → Type 0
-SuccessorsStand s from k n = Finds s (from + 64) (successors n k (drop from s) from) (Next (from + k))
+SuccessorsStand s from k n = Finds s (from + 64) (successors n k (drop from s) from) (Ok (from + k))
 
 module _ (s : List ℕ) (from k : ℕ) where
   -- i of k successors are read, and each is below the least that may follow

@@ -7,24 +7,22 @@ ghost use Rattle.model_files.specs.ReadModel.{form_by};
 ghost use Rattle.model.specs.HeaderSteps.{InModel, MaskFollows, MaskedTells, ActionsFollow, HeaderTells};
 
 use model_files::ModelFault;
+use verdict::{Fault, Refusal};
 
+// A map and its letter mask, and the place of what follows them.
 #[derive(Clone, Copy)]
-pub enum Masked {
-    Read { map: u8, mask: u32, next: usize },
-    Refused { number: u16, place: u32 },
+pub struct Masked {
+    pub map: u8,
+    pub mask: u32,
+    pub next: usize,
 }
 
+// What a header tells, and the place of what follows it.
 #[derive(Clone, Copy)]
-pub enum Header {
-    Read {
-        mask: u32,
-        actions: u16,
-        next: usize,
-    },
-    Refused {
-        number: u16,
-        place: u32,
-    },
+pub struct Header {
+    pub mask: u32,
+    pub actions: u16,
+    pub next: usize,
 }
 
 // The number of the four bytes at a place.
@@ -32,112 +30,88 @@ fn four_at(bytes: &[u8], at: usize) -> u32
     requires { at + 3 < length bytes.now }
     ensures { result ≡ double_at bytes.now at }
 {
-    let low = encoding::join(bytes[at], bytes[at + 1]);
-    let high = encoding::join(bytes[at + 2], bytes[at + 3]);
-    encoding::join_words(low, high)
+    u32::from_le_bytes([bytes[at], bytes[at + 1], bytes[at + 2], bytes[at + 3]])
 }
 
 // The mask after a map with bit 0.
-fn mask_after(bytes: &[u8], at: usize) -> Masked
+fn mask_after(bytes: &[u8], at: usize) -> Result<Masked, Refusal<u32>>
     requires { (InModel bytes.now at) × (MaskFollows bytes.now at) }
     ensures { MaskedTells bytes.now at result }
 {
     if bytes.len() < at + 5 {
-        return Masked::Refused {
-            number: ModelFault::LENGTH,
-            place: bytes.len() as u32,
-        };
+        return Err(ModelFault::Length.at(bytes.len() as u32));
     }
     let mask = four_at(bytes, at + 1);
     if mask == 0 {
-        return Masked::Refused {
-            number: ModelFault::MAP,
-            place: at as u32,
-        };
+        return Err(ModelFault::Map.at(at as u32));
     }
-    Masked::Read {
+    Ok(Masked {
         map: bytes[at],
         mask,
         next: at + 5,
-    }
+    })
 }
 
 // The map, and the mask where bit 0 stands.
-fn masked_at(bytes: &[u8], at: usize) -> Masked
+fn masked_at(bytes: &[u8], at: usize) -> Result<Masked, Refusal<u32>>
     requires { InModel bytes.now at }
     ensures { MaskedTells bytes.now at result }
 {
     if bytes.len() <= at {
-        return Masked::Refused {
-            number: ModelFault::LENGTH,
-            place: bytes.len() as u32,
-        };
+        return Err(ModelFault::Length.at(bytes.len() as u32));
     }
     let map = bytes[at];
     if !super::map_fits(map) {
-        return Masked::Refused {
-            number: ModelFault::MAP,
-            place: at as u32,
-        };
+        return Err(ModelFault::Map.at(at as u32));
     }
     if map % 2 == 0 {
-        return Masked::Read {
+        return Ok(Masked {
             map,
             mask: 0,
             next: at + 1,
-        };
+        });
     }
     mask_after(bytes, at)
 }
 
 // The map of actions after a map with bit 1 and its mask.
-fn actions_after(bytes: &[u8], at: usize, mask: u32, next: usize) -> Header
+fn actions_after(bytes: &[u8], at: usize, mask: u32, next: usize) -> Result<Header, Refusal<u32>>
     requires { (InModel bytes.now at) × (ActionsFollow bytes.now at mask next) }
     ensures { HeaderTells mdl2 bytes.now at result }
 {
     if bytes.len() < next + 2 {
-        return Header::Refused {
-            number: ModelFault::LENGTH,
-            place: bytes.len() as u32,
-        };
+        return Err(ModelFault::Length.at(bytes.len() as u32));
     }
     let actions = encoding::word_at(bytes, next);
     if actions == 0 {
-        return Header::Refused {
-            number: ModelFault::MAP,
-            place: at as u32,
-        };
+        return Err(ModelFault::Map.at(at as u32));
     }
-    Header::Read {
+    Ok(Header {
         mask,
         actions,
         next: next + 2,
-    }
+    })
 }
 
 // Then the map of actions where bit 1 stands: two bytes, or action 0 in the form that does not write them.
-pub fn header_at(bytes: &[u8], at: usize, acts: bool) -> Header
+pub fn header_at(bytes: &[u8], at: usize, acts: bool) -> Result<Header, Refusal<u32>>
     requires { InModel bytes.now at }
     ensures { HeaderTells (form_by acts) bytes.now at result }
 {
-    match masked_at(bytes, at) {
-        Masked::Refused { number, place } => Header::Refused { number, place },
-        Masked::Read { map, mask, next } => {
-            if map < 2 {
-                return Header::Read {
-                    mask,
-                    actions: 0,
-                    next,
-                };
-            }
-            if !acts {
-                return Header::Read {
-                    mask,
-                    actions: 1,
-                    next,
-                };
-            }
-            actions_after(bytes, at, mask, next)
-        }
+    let Masked { map, mask, next } = masked_at(bytes, at)?;
+    if map < 2 {
+        return Ok(Header {
+            mask,
+            actions: 0,
+            next,
+        });
     }
+    if !acts {
+        return Ok(Header {
+            mask,
+            actions: 1,
+            next,
+        });
+    }
+    actions_after(bytes, at, mask, next)
 }

@@ -13,22 +13,15 @@ ghost use Rattle.model.specs.FileSteps.{states_from};
 ghost use Rattle.model.specs.SuccessorsRise.{SuccessorsStand};
 
 use super::FIRST_STATE;
-use super::header::{Header, header_at};
+use super::header::header_at;
 use model_files::{MODEL_OPENING, ModelFault, STATES};
+use verdict::{Fault, Refusal};
 
 // The verdict on a model: its places can lie above 65,535.
-#[derive(Clone, Copy)]
-pub enum Judged {
-    Accepted,
-    Refused { number: u16, place: u32 },
-}
+pub type Judged = Result<(), Refusal<u32>>;
 
 // What a step over the file finds: the place after what it read, or a refusal.
-#[derive(Clone, Copy)]
-enum Step {
-    Next(usize),
-    Stop { number: u16, place: u32 },
-}
+type Step = Result<usize, Refusal<u32>>;
 
 // Whether so many successors are there, rise, and are states, by one test for each. Where it says no, the next function says why.
 fn successors_fit(bytes: &[u8], from: usize, count: usize, states: usize) -> bool
@@ -39,14 +32,12 @@ fn successors_fit(bytes: &[u8], from: usize, count: usize, states: usize) -> boo
         return false;
     }
     let mut least: usize = 0;
-    let mut i: usize = 0;
-    while i < count {
-        let successor = bytes[from + i] as usize;
+    for &byte in &bytes[from..from + count] {
+        let successor = byte as usize;
         if successor < least {
             return false;
         }
         least = successor + 1;
-        i += 1;
     }
     least <= states
 }
@@ -56,34 +47,19 @@ fn successors_step(bytes: &[u8], from: usize, count: usize, states: usize) -> St
     requires { (InModel bytes.now from) × (states ≤ 64) }
     ensures { Finds bytes.now (from + 64) (successors states count (drop from bytes.now) from) result }
 {
-    let mut at = from;
     let mut least: usize = 0;
-    let mut i: usize = 0;
-    while i < count {
+    for i in 0..count {
+        let at = from + i;
         if bytes.len() <= at {
-            return Step::Stop {
-                number: ModelFault::LENGTH,
-                place: bytes.len() as u32,
-            };
+            return Err(ModelFault::Length.at(bytes.len() as u32));
         }
         let successor = bytes[at] as usize;
-        if successor < least {
-            return Step::Stop {
-                number: ModelFault::SUCCESSOR,
-                place: at as u32,
-            };
-        }
-        if states <= successor {
-            return Step::Stop {
-                number: ModelFault::SUCCESSOR,
-                place: at as u32,
-            };
+        if successor < least || states <= successor {
+            return Err(ModelFault::Successor.at(at as u32));
         }
         least = successor + 1;
-        at += 1;
-        i += 1;
     }
-    Step::Next(at)
+    Ok(from + count)
 }
 
 // The list of one action in the state that begins at a place: its count, which is not zero, and so many successors.
@@ -92,21 +68,15 @@ fn list_step(bytes: &[u8], begin: usize, from: usize, states: usize) -> Step
     ensures { Finds bytes.now (from + 65) (list begin states (drop from bytes.now) from) result }
 {
     if bytes.len() <= from {
-        return Step::Stop {
-            number: ModelFault::LENGTH,
-            place: bytes.len() as u32,
-        };
+        return Err(ModelFault::Length.at(bytes.len() as u32));
     }
     let count = bytes[from] as usize;
     if count == 0 {
-        return Step::Stop {
-            number: ModelFault::MAP,
-            place: begin as u32,
-        };
+        return Err(ModelFault::Map.at(begin as u32));
     }
     let first = from + 1;
     if successors_fit(bytes, first, count, states) {
-        return Step::Next(first + count);
+        return Ok(first + count);
     }
     successors_step(bytes, first, count, states)
 }
@@ -120,28 +90,19 @@ fn lists_step(bytes: &[u8], begin: usize, from: usize, actions: u16, states: usi
     let mut rest = actions;
     while rest != 0 {
         if rest % 2 == 1 {
-            match list_step(bytes, begin, at, states) {
-                Step::Stop { number, place } => return Step::Stop { number, place },
-                Step::Next(next) => at = next,
-            }
+            at = list_step(bytes, begin, at, states)?;
         }
-        rest = rest / 2;
+        rest /= 2;
     }
-    Step::Next(at)
+    Ok(at)
 }
 
 fn state_step(bytes: &[u8], at: usize, acts: bool, states: usize) -> Step
     requires { (at ≤ length bytes.now) × (at ≤ 66000) × (states ≤ 64) }
     ensures { Finds bytes.now (at + 1047) (state (form_by acts) states (drop at bytes.now) at) result }
 {
-    match header_at(bytes, at, acts) {
-        Header::Refused { number, place } => Step::Stop { number, place },
-        Header::Read {
-            mask: _,
-            actions,
-            next,
-        } => lists_step(bytes, at, next, actions, states),
-    }
+    let header = header_at(bytes, at, acts)?;
+    lists_step(bytes, at, header.next, header.actions, states)
 }
 
 // So many states, from the place after the state count on.
@@ -150,25 +111,17 @@ fn states_step(bytes: &[u8], acts: bool, states: usize) -> Step
     ensures { Finds bytes.now 67013 (states_from (form_by acts) states bytes.now) result }
 {
     let mut at = FIRST_STATE;
-    let mut i: usize = 0;
-    while i < states {
-        match state_step(bytes, at, acts, states) {
-            Step::Stop { number, place } => return Step::Stop { number, place },
-            Step::Next(next) => at = next,
-        }
-        i += 1;
+    for _ in 0..states {
+        at = state_step(bytes, at, acts, states)?;
     }
-    Step::Next(at)
+    Ok(at)
 }
 
 // Whether a model may have so many states.
 fn count_fits(states: usize) -> bool
     ensures { result ≡ in_range 1 64 states }
 {
-    if states == 0 {
-        return false;
-    }
-    states <= STATES
+    (1..=STATES).contains(&states)
 }
 
 // The verdict after the opening of a form.
@@ -177,31 +130,17 @@ fn judge_body(bytes: &[u8], acts: bool) -> Judged
     ensures { judged result ≡ verdict_of (read_form (form_by acts) bytes.now) }
 {
     if bytes.len() < 5 {
-        return Judged::Refused {
-            number: ModelFault::LENGTH,
-            place: bytes.len() as u32,
-        };
+        return Err(ModelFault::Length.at(bytes.len() as u32));
     }
     let states = bytes[4] as usize;
     if !count_fits(states) {
-        return Judged::Refused {
-            number: ModelFault::COUNT,
-            place: 4,
-        };
+        return Err(ModelFault::Count.at(4));
     }
-    match states_step(bytes, acts, states) {
-        Step::Stop { number, place } => Judged::Refused { number, place },
-        Step::Next(at) => {
-            if at < bytes.len() {
-                let place = at as u32;
-                return Judged::Refused {
-                    number: ModelFault::LENGTH,
-                    place,
-                };
-            }
-            Judged::Accepted
-        }
+    let at = states_step(bytes, acts, states)?;
+    if at < bytes.len() {
+        return Err(ModelFault::Length.at(at as u32));
     }
+    Ok(())
 }
 
 // The verdict on the bytes of a model.
@@ -209,20 +148,8 @@ pub fn judge_model(bytes: &[u8]) -> Judged
     ensures { judged result ≡ verdict_of (read_model bytes.now) }
 {
     let acts = super::for_actions(bytes);
-    if acts {
-        return judge_body(bytes, acts);
-    }
-    if !encoding::opens(
-        bytes,
-        MODEL_OPENING[0],
-        MODEL_OPENING[1],
-        MODEL_OPENING[2],
-        MODEL_OPENING[3],
-    ) {
-        return Judged::Refused {
-            number: ModelFault::OPENING,
-            place: 0,
-        };
+    if !acts && !bytes.starts_with(&MODEL_OPENING) {
+        return Err(ModelFault::Opening.at(0));
     }
     judge_body(bytes, acts)
 }

@@ -26,11 +26,5 @@ fn map_fits(map: u8) -> bool
 fn for_actions(bytes: &[u8]) -> bool
     ensures { result ≡ opens (opening mdl2) bytes.now }
 {
-    encoding::opens(
-        bytes,
-        ACTIONS_OPENING[0],
-        ACTIONS_OPENING[1],
-        ACTIONS_OPENING[2],
-        ACTIONS_OPENING[3],
-    )
+    bytes.starts_with(&ACTIONS_OPENING)
 }

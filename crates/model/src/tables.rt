@@ -11,14 +11,6 @@ ghost use Rattle.model.specs.Decoding.{HeaderThere, StateThere, SuccessorsAt, su
 use super::FIRST_STATE;
 use super::header::{Header, header_at};
 
-// A header with the place of what follows it.
-#[derive(Clone, Copy)]
-struct Known {
-    mask: u32,
-    actions: u16,
-    next: usize,
-}
-
 // A state's letter mask, and the place of what follows it.
 #[derive(Clone, Copy)]
 struct Put {
@@ -27,30 +19,12 @@ struct Put {
 }
 
 // The header at a place where one is known to be.
-fn known_header(bytes: &[u8], at: usize, acts: bool) -> Known
+fn known_header(bytes: &[u8], at: usize, acts: bool) -> Header
     requires { (InModel bytes.now at) × (HeaderThere (form_by acts) bytes.now at) }
     ensures { HeaderRead (form_by acts) bytes.now at result.mask result.actions result.next }
 {
-    match header_at(bytes, at, acts) {
-        Header::Read {
-            mask,
-            actions,
-            next,
-        } => Known {
-            mask,
-            actions,
-            next,
-        },
-        // never, by what is required
-        Header::Refused {
-            number: _,
-            place: _,
-        } => Known {
-            mask: 0,
-            actions: 0,
-            next: at,
-        },
-    }
+    // there is one, by what is required
+    header_at(bytes, at, acts).unwrap()
 }
 
 // The bit of an action, in the marks of its listed successors.
@@ -59,11 +33,8 @@ fn put_marks(bytes: &[u8], list: usize, count: usize, action: usize, marks: &mut
     ensures { RowMore action marks.old (successors_at bytes.now list count) marks.new }
 {
     let bit = 1u16 << action;
-    let mut i: usize = 0;
-    while i < count {
-        let successor = bytes[list + i] as usize;
-        marks[successor] = marks[successor] | bit;
-        i += 1;
+    for &successor in &bytes[list..list + count] {
+        marks[successor as usize] |= bit;
     }
 }
 
@@ -79,10 +50,11 @@ fn put_state(bytes: &[u8], at: usize, acts: bool, marks: &mut [u16; 64]) -> Put
     while rest != 0 {
         if rest % 2 == 1 {
             let count = bytes[next] as usize;
-            put_marks(bytes, next + 1, count, action, marks);
-            next = next + 1 + count;
+            let first = next + 1;
+            put_marks(bytes, first, count, action, marks);
+            next = first + count;
         }
-        rest = rest / 2;
+        rest /= 2;
         action += 1;
     }
     Put {
@@ -109,12 +81,10 @@ pub fn decode_model(bytes: &[u8], masks: &mut [u32; 64]) -> [[u16; 64]; 64]
     let acts = super::for_actions(bytes);
     let states = state_count(bytes);
     let mut at = FIRST_STATE;
-    let mut i: usize = 0;
-    while i < states {
+    for i in 0..states {
         let put = put_state(bytes, at, acts, &mut marks[i]);
         masks[i] = put.mask;
         at = put.next;
-        i += 1;
     }
     marks
 }

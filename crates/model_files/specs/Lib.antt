@@ -19,3 +19,4 @@ pub mod Described
 pub mod DescribedLaws
 pub mod Decoded
 pub mod ModelSamples
+pub mod FaultNumbers

@@ -2,6 +2,10 @@
 // Here only the numbers that code above goes by.
 #![tactic(auto)]
 
+ghost use Rattle.model_files.specs.FaultNumbers.{number_of};
+
+use verdict::Fault;
+
 // The first four bytes of a model file for action 0 alone, and of one for all actions.
 pub const MODEL_OPENING: [u8; 4] = *b"MDL1";
 
@@ -11,17 +15,19 @@ pub const ACTIONS_OPENING: [u8; 4] = *b"MDL2";
 pub const STATES: usize = 64;
 
 // What the bytes of a model earn.
-#[derive(Clone, Copy)]
-pub struct ModelFault;
+#[derive(Clone, Copy, PartialEq, Eq)]
+pub enum ModelFault {
+    Opening = 60,
+    Length = 61,
+    Count = 62,
+    Map = 63,
+    Successor = 64,
+}
 
-impl ModelFault {
-    pub const OPENING: u16 = 60;
+impl Fault for ModelFault {
+    ghost number_of = { number_of };
 
-    pub const LENGTH: u16 = 61;
-
-    pub const COUNT: u16 = 62;
-
-    pub const MAP: u16 = 63;
-
-    pub const SUCCESSOR: u16 = 64;
+    fn number(self) -> u16 {
+        self as u16
+    }
 }

@@ -56,12 +56,7 @@ pub fn with(x: Names, name: usize) -> Names
 pub fn less(x: Names, y: Names) -> Names
     ensures { Marks result (λ n. holds x n && not (holds y n)) }
 {
-    Names(
-        x.0 ^ (x.0 & y.0),
-        x.1 ^ (x.1 & y.1),
-        x.2 ^ (x.2 & y.2),
-        x.3 ^ (x.3 & y.3),
-    )
+    Names(x.0 & !y.0, x.1 & !y.1, x.2 & !y.2, x.3 & !y.3)
 }
 
 // Whether the two have a name in common.
@@ -83,18 +78,16 @@ pub fn lowest(x: Names) -> usize
     ensures { Lowest x result }
 {
     if x.0 != 0 {
-        return lowest_bit(x.0);
+        lowest_bit(x.0)
+    } else if x.1 != 0 {
+        64 + lowest_bit(x.1)
+    } else if x.2 != 0 {
+        128 + lowest_bit(x.2)
+    } else if x.3 != 0 {
+        192 + lowest_bit(x.3)
+    } else {
+        256
     }
-    if x.1 != 0 {
-        return 64 + lowest_bit(x.1);
-    }
-    if x.2 != 0 {
-        return 128 + lowest_bit(x.2);
-    }
-    if x.3 != 0 {
-        return 192 + lowest_bit(x.3);
-    }
-    256
 }
 
 // Of the 64 numbers from `from` on, those below k.
@@ -103,12 +96,12 @@ fn low_word(k: usize, from: usize) -> u64
     ensures { LowWord k from result }
 {
     if k <= from {
-        return 0;
+        0
+    } else if from + 64 <= k {
+        u64::MAX
+    } else {
+        (1u64 << (k - from)) - 1
     }
-    if from + 64 <= k {
-        return 18446744073709551615;
-    }
-    (1u64 << (k - from)) - 1
 }
 
 // The numbers below k.

@@ -21,10 +21,7 @@ fn field_at(bytes: &[u8], at: usize, stands: bool) -> u16
     requires { at + if_set_lem stands 2 ≤ length bytes.now }
     ensures { result ≡ field_at stands bytes.now at }
 {
-    if stands {
-        return word_at(bytes, at);
-    }
-    0
+    if stands { word_at(bytes, at) } else { 0 }
 }
 
 // The place after a field.
@@ -58,10 +55,8 @@ fn copy_words(bytes: &[u8], at: usize, n: usize, words: &mut [u16], start: usize
     requires { (at + 2 * n ≤ length bytes.now) × (at ≤ 58415) × (n ≤ 24) × (start + n ≤ length words.old) }
     ensures { words.new ≡ sets words.old start (words_at bytes.now at n) }
 {
-    let mut i: usize = 0;
-    while i < n {
+    for i in 0..n {
         words[start + i] = word_at(bytes, at + 2 * i);
-        i += 1;
     }
 }
 
@@ -120,11 +115,9 @@ pub fn decode_proof(
 {
     let n = node_count(bytes);
     let mut spot = Spot { at, start: 0 };
-    let mut i: usize = 0;
-    while i < n {
+    for i in 0..n {
         starts[i] = spot.start as u16;
         spot = decode_node(bytes, spot, i, rules, links, codes);
-        i += 1;
     }
     starts[n] = spot.start as u16;
     n
@@ -145,9 +138,10 @@ pub fn nodes_place(form: u8, goals: usize) -> usize
     ensures upper_bound { result ≤ 38 }
 {
     if form == formula::Form::CLM2 {
-        return AFTER_COUNT + 2 * goals;
+        AFTER_COUNT + 2 * goals
+    } else {
+        AFTER_COUNT
     }
-    AFTER_COUNT
 }
 
 // The roots of such a proof, written into the array that the caller lends.

@@ -6,6 +6,7 @@ use Rattle.std.proofs.Math.Bool.{false}
 use native.Mathlib.Omega.{arith}
 use Rattle.std.proofs.Math.Decide.{dec_lt, ℕ_discrete}
 use Rattle.std.proofs.Math.Dec.{leb}
+use Rattle.verdict.specs.Verdict.{Verdict, accepted, refused}
 use Rattle.verdict.specs.Tests.{choose}
 use Rattle.formula.specs.Kind
 use Rattle.formula.specs.Table.{Table}
@@ -44,6 +45,11 @@ pub record FirstFault (t : Table) (n k e : ℕ) : Type 0 where
   pub found : e < n → number_at_lem t e ≡ k
   pub told : k ≢ 0 → e < n
   pub none : k ≡ 0 → e ≡ n
+
+-- as a verdict: accepted where none does
+abbrev pub FirstRefused : Table → ℕ → Verdict → Type 0
+FirstRefused t n accepted = FirstFault t n 0 n
+FirstRefused t n (refused k e) = FirstFault t n k e × (k ≢ 0)
 
 -- an entry that earns neither
 pub number-none : (t : Table) (e : ℕ) → number_at_lem t e ≡ 0 → (out_of t e ≡ false) × (far (shape t e) ≡ false)

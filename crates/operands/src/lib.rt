@@ -2,14 +2,16 @@
 // above 15.
 #![tactic(auto)]
 
-ghost use Rattle.std.specs.Prelude.{◌≡◌, ◌<◌, ◌≤◌};
-ghost use Rattle.formula.specs.Plain.{table_of};
+ghost use Rattle.std.specs.Prelude.{◌≡◌, ◌<◌};
+ghost use Rattle.verdict.specs.Shown.{earned, shown};
+ghost use Rattle.formula.specs.Columned.{entries};
 ghost use Rattle.conditions.specs.Judge.{far};
 ghost use Rattle.conditions.specs.KindShapes.{plain_shape};
-ghost use Rattle.operands.specs.OperandBounds.{out_of, operands_out_lem, name_out_lem, number_at_lem, FirstFault};
+ghost use Rattle.operands.specs.OperandBounds.{out_of, operands_out_lem, name_out_lem, number_at_lem, FirstRefused};
 
 use bits::wide;
-use formula::Kind;
+use formula::{EntryColumns, Kind};
+use verdict::{Refusal, Verdict};
 
 // Whether a letter is 32 or more, or an operand or body does not lie below entry e. A name has neither.
 fn operands_out(kind: u8, first: usize, second: usize, e: usize) -> bool
@@ -24,31 +26,23 @@ fn operands_out(kind: u8, first: usize, second: usize, e: usize) -> bool
 }
 
 // Whether the fixpoint of the name e does not lie above it, or lies outside the table, or is none.
-fn name_out(kinds: &[u8; 256], count: usize, e: usize, fixpoint: usize) -> bool
-    requires { count ≤ 256 }
-    ensures { result ≡ name_out_lem kinds.now count e fixpoint }
+fn name_out(table: &EntryColumns, e: usize, fixpoint: usize) -> bool
+    ensures { result ≡ name_out_lem table.now.kinds.now table.now.count e fixpoint }
 {
-    if fixpoint <= e {
-        return true;
-    }
-    if count <= fixpoint {
-        return true;
-    }
-    !Kind::is_fixpoint(kinds[fixpoint])
+    fixpoint <= e || table.count <= fixpoint || !Kind::is_fixpoint(table.kinds[fixpoint])
 }
 
 // Whether entry e earns 20.
-fn out(kinds: &[u8; 256], a: &[u16; 256], b: &[u16; 256], count: usize, e: usize) -> bool
-    requires { (count ≤ 256) × (e < count) }
-    ensures { result ≡ out_of (table_of kinds.now a.now b.now count) e }
+fn out(table: &EntryColumns, e: usize) -> bool
+    requires { e < table.now.count }
+    ensures { result ≡ out_of (entries table.now) e }
 {
-    let kind = kinds[e];
-    let first = wide(a[e]);
+    let kind = table.kinds[e];
+    let first = wide(table.a[e]);
     if kind == Kind::NAME {
-        return name_out(kinds, count, e, first);
+        return name_out(table, e, first);
     }
-    let second = wide(b[e]);
-    operands_out(kind, first, second, e)
+    operands_out(kind, first, wide(table.b[e]), e)
 }
 
 // Whether a box or diamond has an action above 15.
@@ -61,42 +55,31 @@ fn acts_far(kind: u8, first: u16, action: u16) -> bool
     }
 }
 
-// 20 or 71, the first that entry e earns, or 0.
-fn number_at(kinds: &[u8; 256], a: &[u16; 256], b: &[u16; 256], count: usize, e: usize) -> u16
-    requires { (count ≤ 256) × (e < count) }
-    ensures { result ≡ number_at_lem (table_of kinds.now a.now b.now count) e }
+// 20 or 71, the first that entry e earns.
+fn number_at(table: &EntryColumns, e: usize) -> Option<u16>
+    requires { e < table.now.count }
+    ensures { result ≡ earned (number_at_lem (entries table.now) e) }
 {
-    if out(kinds, a, b, count, e) {
-        return 20;
+    if out(table, e) {
+        return Some(20);
     }
-    if acts_far(kinds[e], a[e], b[e]) {
-        return 71;
+    if acts_far(table.kinds[e], table.a[e], table.b[e]) {
+        return Some(71);
     }
-    0
+    None
 }
 
-// What the first entry with a fault earns, and which entry that is.
-#[derive(Clone, Copy)]
-pub struct Fault {
-    pub number: u16,
-    pub entry: usize,
-}
-
-// The first entry that earns 20 or 71; number 0 where none does.
-pub fn first_fault(kinds: &[u8; 256], a: &[u16; 256], b: &[u16; 256], count: usize) -> Fault
-    requires { count ≤ 256 }
-    ensures { FirstFault (table_of kinds.now a.now b.now count) count result.number result.entry }
+// Refused where an entry earns 20 or 71, at the first that does.
+pub fn first_fault(table: &EntryColumns) -> Verdict
+    ensures { FirstRefused (entries table.now) table.now.count (shown result) }
 {
-    let mut e: usize = 0;
-    while e < count {
-        let number = number_at(kinds, a, b, count, e);
-        if number != 0 {
-            return Fault { number, entry: e };
+    for e in 0..table.count {
+        if let Some(number) = number_at(table, e) {
+            return Err(Refusal {
+                number,
+                place: e as u16,
+            });
         }
-        e += 1;
     }
-    Fault {
-        number: 0,
-        entry: count,
-    }
+    Ok(())
 }

@@ -4,3 +4,4 @@ pub mod Numbers
 pub mod Plain
 -- what a lent state holds
 pub mod LentState
+pub mod FaultNumbers

@@ -1,18 +1,15 @@
 -- the gate state in plain numbers, and what a step on it answers and leaves
-use Rattle.std.specs.Prelude.{◌≡◌, Bool, true, false, ℕ, eqb}
+use Rattle.std.specs.Prelude.{◌≡◌, Bool, true, false, ℕ, eqb, Result, Ok, Err, ⊤}
 use Rattle.std.proofs.Math.Path.{refl}
 use borrow.Author.Tests.{eq-eqb, ne_eqb}
 use Rattle.verdict.specs.Verdict as verdicts
 use Rattle.verdict.specs.Verdict.{accepted}
-use Rattle.verdict.specs.Shown.{shown}
-use Rattle.verdict.specs.declared.Verdict.TheVariants.{Accepted, Refused}
+use Rattle.verdict.specs.Shown.{refusal, shown}
 use Rattle.permit.specs.GateState as gates
 use Rattle.permit.specs.GateState.{Gate, closed, opened, holding, granted, denied}
 use Rattle.permit.specs.declared.State.{State}
-use Rattle.permit.specs.declared.Changed.{Changed}
-use Rattle.permit.specs.declared.Permit.{Permit}
-use Rattle.permit.specs.declared.Permit.TheVariants.{Granted, Denied}
-use Rattle.permit.specs.declared.Taken.{Taken}
+use Rattle.permit.specs.declared.Step.{Step}
+use Rattle.verdict.specs.declared.Refusal.{Refusal}
 
 abbrev pub pick : Bool → Gate → Gate → Gate
 pick true g h = g
@@ -34,32 +31,29 @@ left_by_lem accepted g s = plain g
 left_by_lem (verdicts.refused n q) g s = s
 
 -- opening and closing
-pub record Stepped (right : gates.Changed) (s : State) (r : Changed) : Type 0 where
+pub record Stepped (right : gates.Changed) (s : State) (r : Step ⊤) : Type 0 where
   pub answer : shown r.answer ≡ right.answer
   pub state : r.state ≡ left_by_lem right.answer right.gate s
 
 -- the permit that an answer stands for
-abbrev pub shown_permit : Permit → gates.Permit
-shown_permit (Granted tag) = granted tag
-shown_permit (Denied number place) = denied number place
+abbrev pub shown_permit : Result ℕ (Refusal ℕ) → gates.Permit
+shown_permit (Ok tag) = granted tag
+shown_permit (Err r) = denied r.number r.place
 
 abbrev pub left_by_taking : gates.Permit → Gate → State → State
 left_by_taking (granted tag) g s = plain g
 left_by_taking (denied n q) g s = s
 
-pub record TookStep (right : gates.Taken) (s : State) (r : Taken) : Type 0 where
+pub record TookStep (right : gates.Taken) (s : State) (r : Step ℕ) : Type 0 where
   pub answer : shown_permit r.answer ≡ right.answer
   pub state : r.state ≡ left_by_taking right.answer right.gate s
 
 -- the answers of the steps
-abbrev pub refused_with : ℕ → State → Changed
-refused_with number s = record { answer = Refused number 0; state = s }
+abbrev pub refused_with : {A : Type 0} → ℕ → State → Step A
+refused_with number s = record { answer = Err (refusal number 0); state = s }
 
-abbrev pub moved_to : ℕ → Changed
-moved_to phase = record { answer = Accepted; state = record { phase = phase; tag = 0 } }
-
-abbrev pub denied_with : ℕ → State → Taken
-denied_with number s = record { answer = Denied number 0; state = s }
+abbrev pub moved_to : {A : Type 0} → ℕ → A → Step A
+moved_to phase answer = record { answer = Ok answer; state = record { phase = phase; tag = 0 } }
 
 module _ (s : State) where
   pub state_open : s.phase ≡ 1 → state_of s ≡ opened

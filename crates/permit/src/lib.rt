@@ -2,10 +2,11 @@
 #![tactic(auto)]
 
 ghost use Rattle.std.specs.Prelude.{◌≡◌};
+ghost use Rattle.permit.specs.FaultNumbers.{number_of};
 ghost use Rattle.permit.specs.GateState.{opening, closing, taking};
-ghost use Rattle.permit.specs.Plain.{state_of, Stepped, TookStep, refused_with, moved_to, denied_with};
+ghost use Rattle.permit.specs.Plain.{state_of, Stepped, TookStep, refused_with, moved_to};
 
-use verdict::Verdict;
+use verdict::{Fault, Refusal};
 
 #[repr(C)]
 #[derive(Clone, Copy)]
@@ -14,6 +15,7 @@ pub struct State {
     pub tag: u32,
 }
 
+// A state is lent by C, where any byte may stand for its phase.
 #[derive(Clone, Copy)]
 pub struct Phase;
 
@@ -25,112 +27,84 @@ impl Phase {
     pub const HOLDING: u8 = 2;
 }
 
+// What a call earns in a state that it is not for.
+#[derive(Clone, Copy, PartialEq, Eq)]
+pub enum GateFault {
+    Closed = 50,
+    Holding = 51,
+    NoPermit = 52,
+    NotClosed = 53,
+}
+
+impl Fault for GateFault {
+    ghost number_of = { number_of };
+
+    fn number(self) -> u16 {
+        self as u16
+    }
+}
+
 // The answer of a step and the state that it leaves.
 #[derive(Clone, Copy)]
-pub struct Changed {
-    pub answer: Verdict,
-    pub state: State,
-}
-
-#[derive(Clone, Copy)]
-pub enum Permit {
-    Granted { tag: u32 },
-    Denied { number: u16, place: u16 },
-}
-
-#[derive(Clone, Copy)]
-pub struct Taken {
-    pub answer: Permit,
+pub struct Step<T> {
+    pub answer: Result<T, Refusal>,
     pub state: State,
 }
 
 // The state that a step leaves, and the number that it answers.
 #[derive(Clone, Copy)]
-pub struct Numbered {
+pub struct Numbered<N = u32> {
     pub state: State,
-    pub answer: u32,
+    pub answer: N,
 }
 
-fn refuse(number: u16, state: State) -> Changed
-    ensures { result ≡ refused_with number state }
+fn refuse<T>(fault: GateFault, state: State) -> Step<T>
+    ensures { result ≡ refused_with (number_of fault) state }
 {
-    Changed {
-        answer: Verdict::Refused {
-            number: number,
-            place: 0,
-        },
-        state: state,
+    Step {
+        answer: Err(fault.at(0)),
+        state,
     }
 }
 
-fn enter(phase: u8) -> Changed
-    ensures { result ≡ moved_to phase }
+fn enter<T>(phase: u8, answer: T) -> Step<T>
+    ensures { result ≡ moved_to phase answer }
 {
-    Changed {
-        answer: Verdict::Accepted,
-        state: State {
-            phase: phase,
-            tag: 0,
-        },
-    }
-}
-
-fn deny(number: u16, state: State) -> Taken
-    ensures { result ≡ denied_with number state }
-{
-    Taken {
-        answer: Permit::Denied {
-            number: number,
-            place: 0,
-        },
-        state: state,
+    Step {
+        answer: Ok(answer),
+        state: State { phase, tag: 0 },
     }
 }
 
 // Opens a closed gate.
-pub fn open_step(state: State) -> Changed
+pub fn open_step(state: State) -> Step<()>
     ensures { Stepped (opening (state_of state)) state result }
 {
-    let phase = state.phase;
-    if phase == Phase::OPEN {
-        return refuse(53, state);
+    match state.phase {
+        Phase::OPEN => refuse(GateFault::NotClosed, state),
+        Phase::HOLDING => refuse(GateFault::NotClosed, state),
+        _ => enter(Phase::OPEN, ()),
     }
-    if phase == Phase::HOLDING {
-        return refuse(53, state);
-    }
-    enter(Phase::OPEN)
 }
 
 // Closes an open gate and drops any permit.
-pub fn close_step(state: State) -> Changed
+pub fn close_step(state: State) -> Step<()>
     ensures { Stepped (closing (state_of state)) state result }
 {
-    let phase = state.phase;
-    if phase == Phase::OPEN {
-        return enter(Phase::CLOSED);
+    match state.phase {
+        Phase::OPEN => enter(Phase::CLOSED, ()),
+        Phase::HOLDING => enter(Phase::CLOSED, ()),
+        _ => refuse(GateFault::Closed, state),
     }
-    if phase == Phase::HOLDING {
-        return enter(Phase::CLOSED);
-    }
-    refuse(50, state)
 }
 
 // Hands out the permit's tag and leaves the gate open.
-pub fn take_step(state: State) -> Taken
+pub fn take_step(state: State) -> Step<u32>
     ensures { TookStep (taking (state_of state)) state result }
 {
-    let phase = state.phase;
-    if phase == Phase::OPEN {
-        return deny(52, state);
+    match state.phase {
+        Phase::OPEN => refuse(GateFault::NoPermit, state),
+        Phase::HOLDING => enter(Phase::OPEN, state.tag),
+        _ => refuse(GateFault::Closed, state),
     }
-    if phase == Phase::HOLDING {
-        return Taken {
-            answer: Permit::Granted { tag: state.tag },
-            state: State {
-                phase: Phase::OPEN,
-                tag: 0,
-            },
-        };
-    }
-    deny(50, state)
 }

@@ -62,7 +62,7 @@ module _ (tag : ℕ) (claim proof : List ℕ) (bc : Bytes claim) (bp : Bytes pro
   presented_zero (holding old) z = absurd (omega arith)
 
 module _ {s : State} {tag : ℕ} {claim proof : List ℕ} {es : List Entry} {vs : List Node} {cs : List ℕ} (bc : Bytes claim) (bp : Bytes proof)
-    {n : Numbered} {es' : List Entry} {vs' : List Node} {cs' : List ℕ} (step : PresentedStep s tag claim proof es vs cs n es' vs' cs') where
+    {n : Numbered ℕ} {es' : List Entry} {vs' : List Node} {cs' : List ℕ} (step : PresentedStep s tag claim proof es vs cs n es' vs' cs') where
   abbrev answered : Verdict
   answered = (right s tag claim proof es vs cs).answer
 

@@ -29,7 +29,7 @@ module _ (s : State) (tag : ℕ) (claim proof : List ℕ) (es : List Entry) (vs 
   right = presenting (state_of s) tag claim proof (lent_of es vs cs)
 
   -- what a step of presenting answers, and what it leaves in the state and in the lent slices
-  pub record PresentedStep (r : Numbered) (es' : List Entry) (vs' : List Node) (cs' : List ℕ) : Type 0 where
+  pub record PresentedStep (r : Numbered ℕ) (es' : List Entry) (vs' : List Node) (cs' : List ℕ) : Type 0 where
     pub answer : r.answer ≡ packed right.answer
     pub within : Within 65536 right.answer
     pub state : r.state ≡ left_by_lem right.answer right.gate s
@@ -91,7 +91,7 @@ module _ (s : State) (tag : ℕ) (claim proof : List ℕ) (es : List Entry) (vs 
 
   -- the stages, one after the other
   pub presented_step : {first v : Verdict} → first ≡ first_of (state_of s) → {es' : List Entry} {vs' : List Node} {cs' : List ℕ} → LentJudged (firstly first (files claim proof)) es vs cs v es' vs' cs'
-      → {r : Numbered} → Settled s tag v r → PresentedStep s tag claim proof es vs cs r es' vs' cs'
+      → {r : Numbered ℕ} → Settled s tag v r → PresentedStep s tag claim proof es vs cs r es' vs' cs'
   presented_step {first} {v} e {es'} {vs'} {cs'} judged settled =
       let left = left_by (state_of s) in
       let is : LentJudged (firstly (first_of (state_of s)) (files claim proof)) es vs cs v es' vs' cs' = rw (sym e) judged in

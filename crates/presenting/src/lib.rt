@@ -11,7 +11,7 @@ ghost use Rattle.presenting.specs.PresentCall.{PresentCall};
 use granting::{settle, stands_before};
 use lent_files::judge_read;
 use permit::{Numbered, State};
-use reader::{begins, refuses};
+use reader::begins;
 use records::{Entry, Node};
 use verdict::Verdict;
 
@@ -28,10 +28,7 @@ fn judge_lent(
     ensures { LentTold (shown before) claim.now proof.now entries.old nodes.old codes.old
         (shown result) entries.new nodes.new codes.new }
 {
-    let early = begins(before, claim);
-    if refuses(early) {
-        return early;
-    }
+    begins(before, claim)?;
     judge_read(before, claim, proof, entries, nodes, codes)
 }
 

@@ -5,3 +5,4 @@ pub mod ProofDocument
 pub mod NodeFaults
 pub mod ProofRecords
 pub mod ProofParts
+pub mod FaultNumbers

@@ -2,6 +2,10 @@
 // Here only the numbers that code above goes by.
 #![tactic(auto)]
 
+ghost use Rattle.proof_files.specs.FaultNumbers.{number_of};
+
+use verdict::Fault;
+
 // The first four bytes of a proof file beside a claim for one goal, and of one beside a claim for several.
 pub const PROOF_OPENING: [u8; 4] = *b"PRF1";
 
@@ -11,18 +15,20 @@ pub const GOALS_OPENING: [u8; 4] = *b"PRF2";
 pub const AFTER_COUNT: usize = 6;
 
 // What the bytes of a proof earn.
-#[derive(Clone, Copy)]
-pub struct ProofFault;
-
-impl ProofFault {
-    pub const OPENING: u16 = 30;
-
-    pub const LENGTH: u16 = 31;
-
-    pub const COUNT: u16 = 32;
-
-    pub const RULE: u16 = 33;
-
+#[derive(Clone, Copy, PartialEq, Eq)]
+pub enum ProofFault {
+    Opening = 30,
+    Length = 31,
+    Count = 32,
+    Rule = 33,
     // A code, or a root.
-    pub const CODE: u16 = 34;
+    Code = 34,
+}
+
+impl Fault for ProofFault {
+    ghost number_of = { number_of };
+
+    fn number(self) -> u16 {
+        self as u16
+    }
 }

@@ -1,11 +1,12 @@
 -- the files as the program reads them, and what holds of files that are well formed
-use Rattle.std.specs.Prelude.{◌≡◌, List, [], ℕ, ◌<◌, ◌≤◌, length, take}
+use Rattle.std.specs.Prelude.{◌≡◌, List, [], ℕ, ◌<◌, ◌≤◌, length, take, Ok, Err}
 use Rattle.std.proofs.Math.Path.{refl}
 use Rattle.std.proofs.Common.{sym, subst, ap, ◌∙◌, arith, length-take}
 use Rattle.std.proofs.lemmas.List.{length-replicate}
 use Rattle.verdict.specs.Verdict as verdicts
 use Rattle.verdict.specs.Verdict.{Verdict, accepted}
 use Rattle.verdict.specs.VerdictLaws.{accepted_not_refused}
+use Rattle.verdict.specs.declared.Refusal.{Refusal}
 use Rattle.encoding.specs.File.{Reading, refused, good}
 use Rattle.encoding.specs.FileLaws.{good_same, refused_not_good}
 use Rattle.encoding.specs.Outcome.{verdict_of, RefusedWith}
@@ -27,10 +28,8 @@ use Rattle.nodes.specs.RootsStored.{RootsStored}
 use Rattle.nodes.specs.ProofGood.{good_decoded}
 use Rattle.reader.specs.Files.{Files, firstly, and_then, formed, read_formed_lem, beside_claim, files}
 use Rattle.reader.specs.Spellings.{held_judged, held_plainly}
-use Rattle.reader.specs.Found.{FilesGot, FilesTell, FewRead, Unread, Tells}
-use Rattle.reader.specs.declared.FilesRead.{FilesRead}
-use Rattle.reader.specs.declared.FilesRead.TheVariants.{Read, Refused}
-use Rattle.reader.specs.declared.Found.{Found}
+use Rattle.reader.specs.Found.{FilesRead, FilesGot, FilesTell, FewRead}
+use Rattle.reader.specs.declared.FileCounts.{FileCounts}
 
 -- what a reading was whose verdict is known
 pub refused_reading : {A : Type 0} (r : Reading A) {n q : ℕ} → verdict_of r ≡ verdicts.refused n q → r ≡ refused n q
@@ -159,24 +158,17 @@ module _ (claim proof : List ℕ) where
 
 -- in an arm that knows which answer it is
 module _ {r : Reading (Files Derivation)} (ks xs ys gs ms os : List ℕ) {w : FilesRead} (t : FilesTell r ks xs ys gs ms os w) where
-  pub files_as_read : {n k m at : ℕ} → w ≡ Read n k m at → FilesGot r ks xs ys gs ms os n k m at
+  pub files_as_read : {c : FileCounts} → w ≡ Ok c → FilesGot r ks xs ys gs ms os c.entries c.goals c.nodes c.at
   files_as_read e = rw e at t
 
-  pub files_as_refused : {n q : ℕ} → w ≡ Refused n q → RefusedWith r n q
+  pub files_as_refused : {e : Refusal ℕ} → w ≡ Err e → RefusedWith r e.number e.place
   files_as_refused e = rw e at t
 
--- what was found, by value
-module _ (r : Reading (Files Derivation)) (ks xs ys gs ms os : List ℕ) (f : Found) where
-  pub found_unread : {n q : ℕ} → RefusedWith r n q → Unread n q f → Tells r ks xs ys gs ms os f
-  found_unread u k = rw u.was k
+-- whatever stands first: when it refuses, and when it accepts
+module _ (before : Verdict) (next : Reading (Files Derivation)) where
+  pub first_unread : {n q : ℕ} → before ≡ verdicts.refused n q → (n < 65536) × (q < 65536) → RefusedWith (firstly before next) n q
+  first_unread h l = record { was = rw h refl; small = l }
 
-  pub found_read : FilesGot r ks xs ys gs ms os f.entries f.goals f.nodes f.at → Tells r ks xs ys gs ms os f
-  found_read g = rw g.was (record { files = g.files; was = refl; held = g.held; roots = g.roots; room = g.room; nodes = g.nodes; place = g.place; near = g.near })
-
--- whatever stands first, when it refuses
-module _ (before : Verdict) (next : Reading (Files Derivation)) (ks xs ys gs ms os : List ℕ) (f : Found) where
-  pub first_unread : {n q : ℕ} → before ≡ verdicts.refused n q → Unread n q f → Tells (firstly before next) ks xs ys gs ms os f
-  first_unread h u = rw h u
-
-  pub first_passed : before ≡ accepted → Tells next ks xs ys gs ms os f → Tells (firstly before next) ks xs ys gs ms os f
-  first_passed h d = rw h d
+  pub first_passed : before ≡ accepted → (ks xs ys gs ms os : List ℕ) (f : FilesRead) → FilesTell next ks xs ys gs ms os f
+      → FilesTell (firstly before next) ks xs ys gs ms os f
+  first_passed h ks xs ys gs ms os f d = rw h d

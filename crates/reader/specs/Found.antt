@@ -1,21 +1,21 @@
 -- what was found of a claim and a proof
-use Rattle.std.specs.Prelude.{◌≡◌, List, ℕ, ◌≤◌, length, take}
-use Rattle.verdict.specs.Verdict as verdicts
+use Rattle.std.specs.Prelude.{◌≡◌, List, ℕ, ◌≤◌, length, take, Result, Ok, Err}
 use Rattle.verdict.specs.Verdict.{Verdict}
-use Rattle.verdict.specs.Shown.{shown}
+use Rattle.verdict.specs.declared.Refusal.{Refusal}
 use Rattle.encoding.specs.Encode.{Bytes}
-use Rattle.encoding.specs.File.{Reading, refused, good}
+use Rattle.encoding.specs.File.{Reading, good}
 use Rattle.encoding.specs.Outcome.{RefusedWith}
 use Rattle.formula.specs.Claim.{Form, clm1, form_number, Derivation}
 use Rattle.formula.specs.Held.{ClaimHeld}
-use Rattle.claims.specs.ClaimWalk.{ClaimTells}
+use Rattle.claims.specs.ClaimWalk.{ClaimRead, ClaimTells}
 use Rattle.nodes.specs.ProofDecode.{nodes_place_lem}
-use Rattle.claims.specs.declared.ClaimRead.{ClaimRead}
-use Rattle.claims.specs.declared.ClaimRead.TheVariants as claims
+use Rattle.claims.specs.declared.ClaimCounts.{ClaimCounts}
 use Rattle.reader.specs.Files.{Files, files, firstly, read_formed_lem}
-use Rattle.reader.specs.declared.FilesRead.{FilesRead}
-use Rattle.reader.specs.declared.FilesRead.TheVariants.{Read, Refused}
-use Rattle.reader.specs.declared.Found.{Found}
+use Rattle.reader.specs.declared.FileCounts.{FileCounts}
+
+-- the counts of both files, or a refusal
+abbrev pub FilesRead : Type 0
+FilesRead = Result FileCounts (Refusal ℕ)
 
 -- both are well formed by bytes: n entries and k goals, which are held, their roots, and m nodes from a place on
 pub record FilesGot (r : Reading (Files Derivation)) (ks xs ys gs ms os : List ℕ) (n k m at : ℕ) : Type 0 where
@@ -29,8 +29,8 @@ pub record FilesGot (r : Reading (Files Derivation)) (ks xs ys gs ms os : List �
   pub near : at ≤ 38
 
 abbrev pub FilesTell : Reading (Files Derivation) → List ℕ → List ℕ → List ℕ → List ℕ → List ℕ → List ℕ → FilesRead → Type 0
-FilesTell r ks xs ys gs ms os (Read n k m at) = FilesGot r ks xs ys gs ms os n k m at
-FilesTell r ks xs ys gs ms os (Refused n q) = RefusedWith r n q
+FilesTell r ks xs ys gs ms os (Ok c) = FilesGot r ks xs ys gs ms os c.entries c.goals c.nodes c.at
+FilesTell r ks xs ys gs ms os (Err e) = RefusedWith r e.number e.place
 
 -- a claim that was read has a form, at most 256 entries and 16 goals, one in the form for one
 pub record FewRead (f n k : ℕ) : Type 0 where
@@ -41,27 +41,15 @@ pub record FewRead (f n k : ℕ) : Type 0 where
   pub one : form ≡ clm1 → k ≡ 1
 
 abbrev pub Few : ClaimRead → Type 0
-Few w = (f n k : ℕ) → w ≡ claims.Read f n k → FewRead f n k
+Few w = (c : ClaimCounts) → w ≡ Ok c → FewRead c.form c.entries c.goals
 
 -- what is told of a proof beside a claim, by what was told of the claim
 abbrev pub BesideTells : ClaimRead → List ℕ → List ℕ → List ℕ → FilesRead → Type 0
 BesideTells formed proof ks os r =
     (claim xs ys gs ms : List ℕ) → ClaimTells (read_formed_lem claim) ks xs ys gs ms formed → FilesTell (files claim proof) ks xs ys gs ms os r
 
--- the same by value. A refusal, and nothing else: no place of nodes
-pub record Unread (n q : ℕ) (f : Found) : Type 0 where
-  pub verdict : shown f.verdict ≡ verdicts.refused n q
-  pub entries : f.entries ≡ 0
-  pub goals : f.goals ≡ 0
-  pub nodes : f.nodes ≡ 0
-  pub place : f.at ≡ 0
-
-abbrev pub Tells : Reading (Files Derivation) → List ℕ → List ℕ → List ℕ → List ℕ → List ℕ → List ℕ → Found → Type 0
-Tells (refused n q) ks xs ys gs ms os f = Unread n q f
-Tells (good fs) ks xs ys gs ms os f = FilesGot (good fs) ks xs ys gs ms os f.entries f.goals f.nodes f.at
-
 -- what is told of two lent files behind what stands before them, and that a lent slice of bytes holds bytes
-pub record FilesTold (before : Verdict) (claim proof ks xs ys gs ms os : List ℕ) (f : Found) : Type 0 where
-  pub told : Tells (firstly before (files claim proof)) ks xs ys gs ms os f
+pub record FilesTold (before : Verdict) (claim proof ks xs ys gs ms os : List ℕ) (f : FilesRead) : Type 0 where
+  pub told : FilesTell (firstly before (files claim proof)) ks xs ys gs ms os f
   pub claim_bytes_lem : Bytes claim
   pub proof_bytes_lem : Bytes proof

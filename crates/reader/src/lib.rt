@@ -6,33 +6,22 @@ ghost use Rattle.std.specs.Prelude.{◌≡◌, length};
 ghost use Rattle.claims.specs.ClaimWalk.{ClaimArrays, ClaimTells};
 ghost use Rattle.reader.specs.Files.{read_formed_lem};
 ghost use Rattle.verdict.specs.Shown.{shown};
-ghost use Rattle.reader.specs.Found.{Few, BesideTells, Unread, FilesTold};
-ghost use Rattle.reader.specs.Begins.{Begins, refusal};
+ghost use Rattle.reader.specs.Found.{Few, BesideTells, FilesTold};
+ghost use Rattle.reader.specs.Begins.{Begins};
 
 use claims::{ClaimRead, judge_beginning, read_claim};
+use formula::EntryColumns;
 use nodes::{decode_roots, node_count, nodes_place};
 use proofs::judge_proof;
 use scopes::judge;
-use verdict::Verdict;
-
-// Whether a verdict is a refusal.
-pub fn refuses(verdict: Verdict) -> bool
-    ensures { result ≡ refusal (shown verdict) }
-{
-    match verdict {
-        Verdict::Accepted => false,
-        Verdict::Refused { .. } => true,
-    }
-}
+use verdict::{Refusal, Verdict};
 
 // What stands before the files, and then the claim's beginning: a caller asks for it before it makes room for the claim.
 pub fn begins(before: Verdict, claim: &[u8]) -> Verdict
     ensures { Begins (shown before) claim.now (shown result) }
 {
-    match before {
-        Verdict::Refused { number, place } => Verdict::Refused { number, place },
-        Verdict::Accepted => judge_beginning(claim),
-    }
+    before?;
+    judge_beginning(claim)
 }
 
 // 10 to 14: the claim's bytes; then 20 to 23 over its table.
@@ -47,42 +36,27 @@ pub fn read_formed(
     requires { ClaimArrays kinds.old a.old b.old bounds.old members.old }
     ensures { ClaimTells (read_formed_lem claim.now) kinds.new a.new b.new bounds.new members.new result }
 {
-    match read_claim(claim, kinds, a, b, bounds, members) {
-        ClaimRead::Refused { number, place } => ClaimRead::Refused { number, place },
-        ClaimRead::Read {
-            form,
-            entries,
-            goals,
-        } => {
-            match judge(kinds, a, b, entries) {
-                Verdict::Refused { number, place } => ClaimRead::Refused {
-                    number: number as usize,
-                    place: place as usize,
-                },
-                Verdict::Accepted => ClaimRead::Read {
-                    form,
-                    entries,
-                    goals,
-                },
-            }
-        }
-    }
+    let counts = read_claim(claim, kinds, a, b, bounds, members)?;
+    judge(&EntryColumns {
+        kinds,
+        a,
+        b,
+        count: counts.entries,
+    })?;
+    Ok(counts)
 }
 
-// How many entries, goals and nodes there are and where the nodes begin, or what comes before the rules.
+// How many entries, goals and nodes there are, and where the nodes begin.
 #[derive(Clone, Copy)]
-pub enum FilesRead {
-    Read {
-        entries: usize,
-        goals: usize,
-        nodes: usize,
-        at: usize,
-    },
-    Refused {
-        number: usize,
-        place: usize,
-    },
+pub struct FileCounts {
+    pub entries: usize,
+    pub goals: usize,
+    pub nodes: usize,
+    pub at: usize,
 }
+
+// The counts, or what comes before the rules.
+pub type FilesRead = Result<FileCounts, Refusal>;
 
 // Beside a claim that was read, 30 to 34: the proof's bytes, by the claim's form, its goals and the kinds of its entries; then the roots.
 pub fn read_beside(
@@ -94,53 +68,15 @@ pub fn read_beside(
     requires { Few formed × (length roots.old ≡ 16) }
     ensures { BesideTells formed proof.now kinds.now roots.new result }
 {
-    match formed {
-        ClaimRead::Refused { number, place } => FilesRead::Refused { number, place },
-        ClaimRead::Read {
-            form,
-            entries,
-            goals,
-        } => {
-            match judge_proof(proof, form, goals, kinds, entries) {
-                Verdict::Refused { number, place } => FilesRead::Refused {
-                    number: number as usize,
-                    place: place as usize,
-                },
-                Verdict::Accepted => {
-                    decode_roots(proof, form, goals, roots);
-                    FilesRead::Read {
-                        entries,
-                        goals,
-                        nodes: node_count(proof),
-                        at: nodes_place(form, goals),
-                    }
-                }
-            }
-        }
-    }
-}
-
-// What was found of a claim and a proof, by value: a refusal, and no place, or how many entries, goals and nodes there are, and where the
-// nodes begin, which is after the opening.
-#[derive(Clone, Copy)]
-pub struct Found {
-    pub verdict: Verdict,
-    pub entries: usize,
-    pub goals: usize,
-    pub nodes: usize,
-    pub at: usize,
-}
-
-fn unread(number: u16, place: u16) -> Found
-    ensures { Unread number place result }
-{
-    Found {
-        verdict: Verdict::Refused { number, place },
-        entries: 0,
-        goals: 0,
-        nodes: 0,
-        at: 0,
-    }
+    let claim = formed?;
+    judge_proof(proof, claim.form, claim.goals, kinds, claim.entries)?;
+    decode_roots(proof, claim.form, claim.goals, roots);
+    Ok(FileCounts {
+        entries: claim.entries,
+        goals: claim.goals,
+        nodes: node_count(proof),
+        at: nodes_place(claim.form, claim.goals),
+    })
 }
 
 // Both files, where nothing was refused before.
@@ -154,30 +90,12 @@ pub fn find_files(
     bounds: &mut [u16; 17],
     members: &mut [u16; 384],
     roots: &mut [u16; 16],
-) -> Found
+) -> FilesRead
     requires { ClaimArrays kinds.old a.old b.old bounds.old members.old × (length roots.old ≡ 16) }
     ensures { FilesTold (shown before) claim.now proof.now kinds.new a.new b.new
         bounds.new members.new roots.new result }
 {
-    match before {
-        Verdict::Refused { number, place } => unread(number, place),
-        Verdict::Accepted => {
-            let formed = read_formed(claim, kinds, a, b, bounds, members);
-            match read_beside(formed, proof, kinds, roots) {
-                FilesRead::Refused { number, place } => unread(number as u16, place as u16),
-                FilesRead::Read {
-                    entries,
-                    goals,
-                    nodes,
-                    at,
-                } => Found {
-                    verdict: Verdict::Accepted,
-                    entries,
-                    goals,
-                    nodes,
-                    at,
-                },
-            }
-        }
-    }
+    before?;
+    let formed = read_formed(claim, kinds, a, b, bounds, members);
+    read_beside(formed, proof, kinds, roots)
 }

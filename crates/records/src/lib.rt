@@ -28,34 +28,6 @@ pub struct Node {
     pub count: u8,
 }
 
-fn entry_at(entries: &[Entry], i: usize) -> Entry
-    requires { i < length entries.now }
-    ensures { result ≡ get_or entries.now i blank_entry }
-{
-    entries[i]
-}
-
-fn put_entry(entries: &mut [Entry], i: usize, entry: Entry)
-    requires { i < length entries.old }
-    ensures { entries.new ≡ set entries.old i entry }
-{
-    entries[i] = entry;
-}
-
-fn node_at(nodes: &[Node], i: usize) -> Node
-    requires { i < length nodes.now }
-    ensures { result ≡ get_or nodes.now i blank_node }
-{
-    nodes[i]
-}
-
-fn put_node(nodes: &mut [Node], i: usize, node: Node)
-    requires { i < length nodes.old }
-    ensures { nodes.new ≡ set nodes.old i node }
-{
-    nodes[i] = node;
-}
-
 // Entry i of the columns, in one record.
 fn entry_of(kinds: &[u8], a: &[u16], b: &[u16], i: usize) -> Entry
     requires { EntryRoom kinds.now a.now b.now (i + 1) }
@@ -83,11 +55,8 @@ pub fn store_entries(entries: &mut [Entry], kinds: &[u8], a: &[u16], b: &[u16], 
     requires { EntryRoom kinds.now a.now b.now count × (count ≤ length entries.old) }
     ensures { entries.new ≡ written (entries_of kinds.now a.now b.now count) entries.old }
 {
-    let mut i: usize = 0;
-    while i < count {
-        let entry = entry_of(kinds, a, b, i);
-        put_entry(entries, i, entry);
-        i += 1;
+    for i in 0..count {
+        entries[i] = entry_of(kinds, a, b, i);
     }
 }
 
@@ -97,11 +66,8 @@ pub fn load_entries(entries: &[Entry], count: usize, kinds: &mut [u8], a: &mut [
     ensures { EntriesLoaded entries.now count kinds.old a.old b.old kinds.new
         a.new b.new }
 {
-    let mut i: usize = 0;
-    while i < count {
-        let entry = entry_at(entries, i);
-        set_entry(kinds, a, b, i, entry);
-        i += 1;
+    for i in 0..count {
+        set_entry(kinds, a, b, i, entries[i]);
     }
 }
 
@@ -119,14 +85,6 @@ fn node_of(rules: &[u8], links: &[u16], starts: &[u16], v: usize) -> Node
         back: links[4 * v + 3],
         count: count as u8,
     }
-}
-
-// The codes of the first node start at 0.
-fn start_at_zero(starts: &mut [u16])
-    requires { 0 < length starts.old }
-    ensures { starts.new ≡ set starts.old 0 0 }
-{
-    starts[0] = 0;
 }
 
 fn set_links(links: &mut [u16], v: usize, node: Node)
@@ -166,11 +124,8 @@ pub fn store_nodes(nodes: &mut [Node], rules: &[u8], links: &[u16], starts: &[u1
     requires { NodeRoom rules.now links.now starts.now count × (count ≤ length nodes.old) × CountsFit starts.now count }
     ensures { nodes.new ≡ written (nodes_of rules.now links.now starts.now count) nodes.old }
 {
-    let mut i: usize = 0;
-    while i < count {
-        let node = node_of(rules, links, starts, i);
-        put_node(nodes, i, node);
-        i += 1;
+    for i in 0..count {
+        nodes[i] = node_of(rules, links, starts, i);
     }
 }
 
@@ -186,12 +141,9 @@ pub fn load_nodes(
     ensures { NodesLoaded nodes.now count rules.old links.old starts.old rules.new
         links.new starts.new }
 {
-    start_at_zero(starts);
-    let mut i: usize = 0;
-    while i < count {
-        let node = node_at(nodes, i);
-        set_node(rules, links, starts, i, node);
-        i += 1;
+    starts[0] = 0;
+    for i in 0..count {
+        set_node(rules, links, starts, i, nodes[i]);
     }
 }
 
@@ -207,10 +159,7 @@ pub fn load_node_fields(
     ensures { FieldsLoaded nodes.now count rules.old links.old counts.old rules.new
         links.new counts.new }
 {
-    let mut i: usize = 0;
-    while i < count {
-        let node = node_at(nodes, i);
-        set_node_fields(rules, links, counts, i, node);
-        i += 1;
+    for i in 0..count {
+        set_node_fields(rules, links, counts, i, nodes[i]);
     }
 }

@@ -21,10 +21,7 @@ fn moved(stands: bool, field: u16, by: u16) -> u16
     requires { shifts.moved stands by field < 65536 }
     ensures { result ≡ shifts.moved stands by field }
 {
-    if stands {
-        return field + by;
-    }
-    field
+    if stands { field + by } else { field }
 }
 
 // First child, second child and back link of a node; its principal names no node.
@@ -54,24 +51,20 @@ fn copy_node(bytes: &[u8], places: Places, by: u16, out: &mut [u8]) -> Places
     let mut rules = [0u8; 1];
     let mut links = [0u16; 4];
     let mut codes = [0u16; 24];
-    let from = places.from;
-    let to = places.to;
     let read = decode_node(
         bytes,
-        Spot { at: from, start: 0 },
+        Spot {
+            at: places.from,
+            start: 0,
+        },
         0,
         &mut rules,
         &mut links,
         &mut codes,
     );
-    let next = read.at;
-    let count = read.start;
     move_links(rules[0], &mut links, by);
-    let after = put_node(out, to, rules[0], &links, 0, &codes, 0, count);
-    Places {
-        from: next,
-        to: after,
-    }
+    let to = put_node(out, places.to, rules[0], &links, 0, &codes, 0, read.start);
+    Places { from: read.at, to }
 }
 
 // The nodes of a proof file for one goal, renumbered, from a place of the slice on. The place after them.
@@ -85,10 +78,8 @@ pub fn copy_nodes(bytes: &[u8], by: u16, out: &mut [u8], to: usize) -> usize
         from: AFTER_COUNT,
         to,
     };
-    let mut i: usize = 0;
-    while i < n {
+    for _ in 0..n {
         places = copy_node(bytes, places, by, out);
-        i += 1;
     }
     places.to
 }

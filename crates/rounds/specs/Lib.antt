@@ -2,3 +2,4 @@ pub mod Stand
 pub mod NumberMore
 pub mod Marked
 pub mod Rounds
+pub mod Shaped

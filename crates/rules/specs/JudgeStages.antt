@@ -5,7 +5,7 @@ use Rattle.std.proofs.Common.{sym, ap, ap₂, ◌∙◌, arith}
 use Rattle.std.proofs.Math.Decide.{ℕ_discrete}
 use borrow.Author.Tests.{eq-eqb, ne_eqb}
 use Rattle.verdict.specs.Verdict.{Verdict, accepted, refused, scan}
-use Rattle.verdict.specs.declared.Verdict.TheVariants.{Accepted}
+use Rattle.verdict.specs.Shown.{accepts}
 use Rattle.verdict.specs.VerdictLaws.{scan_says}
 use Rattle.verdict.specs.Tests.{same, each}
 use Rattle.formula.specs.Rule
@@ -178,7 +178,7 @@ module _ (c : Claim) (d : Derivation) where
   goals_good h = rw h refl
 
 -- what accepted trees give to the stages after them
-module _ {roots rs ls : List ℕ} {m : ℕ} {owners : List ℕ} (filled : OwnersFilled roots rs ls m Accepted owners) where
+module _ {roots rs ls : List ℕ} {m : ℕ} {owners : List ℕ} (filled : OwnersFilled roots rs ls m accepts owners) where
   pub filled_tree : (ss cs : List ℕ) → tree_judged roots (proof_of rs ls ss cs m) ≡ accepted
   filled_tree ss cs = sym (filled.answers ss cs)
 

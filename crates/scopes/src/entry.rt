@@ -1,5 +1,6 @@
 // One entry's names, from those of its operands, and the refusal that it earns: 21, 22 or 23.
 ghost use Rattle.std.specs.Prelude.{◌≡◌, ℕ, ◌<◌, ◌≤◌};
+ghost use Rattle.verdict.specs.Shown.{earned};
 ghost use Rattle.formula.specs.Table.{Table};
 ghost use Rattle.conditions.specs.Judge.{free_row, open_row};
 ghost use Rattle.scopes.specs.RowMarks.{Made};
@@ -7,7 +8,7 @@ ghost use Rattle.scopes.specs.Faults.{Seen, fault_at, opposite_of};
 ghost use Rattle.scopes.specs.EntryRows.{PlacesOf};
 
 use bits::wide;
-use formula::Kind;
+use formula::{EntryColumns, Kind};
 use name_sets::Names;
 
 // The first if it is below the second, else the second.
@@ -25,16 +26,15 @@ pub struct Places {
     pub right: usize,
 }
 
-pub fn places_of(a: &[u16; 256], b: &[u16; 256], e: usize) -> Places
+pub fn places_of(table: &EntryColumns, e: usize) -> Places
     requires { e < 256 }
-    ensures { PlacesOf a.now b.now e result }
+    ensures { PlacesOf table.now.a.now table.now.b.now e result }
 {
-    let first = wide(a[e]);
-    let second = wide(b[e]);
+    let first = wide(table.a[e]);
     Places {
-        first: first,
+        first,
         left: smaller(first, e),
-        right: smaller(second, e),
+        right: smaller(wide(table.b[e]), e),
     }
 }
 
@@ -70,7 +70,7 @@ fn opposite(kind: u8, mus: Names, nus: Names) -> Names
     if kind == Kind::MU { nus } else { mus }
 }
 
-// The refusal that entry e earns first, 21, 22 or 23, or 0: from its free names, its body's open names, the entries up to it, and the
+// The refusal that entry e earns first, 21, 22 or 23: from its free names, its body's open names, the entries up to it, and the
 // fixpoint entries.
 pub fn fault(
     kind: u8,
@@ -80,20 +80,20 @@ pub fn fault(
     passed: Names,
     mus: Names,
     nus: Names,
-) -> u16
-    ensures { (t : Table) (a b : ℕ) → Seen t e kind a b free body passed mus nus → result ≡ fault_at t e }
+) -> Option<u16>
+    ensures { (t : Table) (a b : ℕ) → Seen t e kind a b free body passed mus nus → result ≡ earned (fault_at t e) }
 {
     if name_sets::meet(free, passed) {
-        return 21;
+        return Some(21);
     }
     if !Kind::is_fixpoint(kind) {
-        return 0;
+        return None;
     }
     if name_sets::meet(free, opposite(kind, mus, nus)) {
-        return 22;
+        return Some(22);
     }
     if name_sets::meet(body, name_sets::only(e)) {
-        return 23;
+        return Some(23);
     }
-    0
+    None
 }

@@ -4,130 +4,71 @@
 // found there.
 #![tactic(auto)]
 
-ghost use Rattle.std.specs.Prelude.{◌≡◌, ◌||◌, ℕ, ◌+◌, ◌*◌, ◌<◌, ◌≤◌, eqb, length};
+ghost use Rattle.std.specs.Prelude.{◌≡◌, ◌||◌, ℕ, ◌*◌, ◌<◌, ◌≤◌, eqb, length};
 ghost use Rattle.verdict.specs.Tells.{Tells};
 ghost use Rattle.bits.specs.WordSet.{in_set};
 ghost use Rattle.one_level.specs.Fit.{cell};
-ghost use Rattle.searching.specs.Search.{Room, Candidate, Found, Searched, NameNumber, mark_in_lem, mark_of, Chosen};
+ghost use Rattle.searching.specs.Search.{Found, Searched, NameNumber, mark_in_lem};
+ghost use Rattle.searching.specs.Shaped.{Like, mark_here, ChosenIn};
 
-use formula::Kind;
-use one_level::{as_index, at, fit, number};
+use formula::{EntryColumns, Kind};
+use one_level::{Shapes, Sought, as_index, at, number};
 
 // Whether f stands with k names bound, which it does from bound[f] to totals[f], and is the same form as e. Most are of another kind, so `fit`'s
 // first test is made before the others.
-fn candidate(
-    kinds: &[u8; 256],
-    a: &[u16; 256],
-    b: &[u16; 256],
-    count: usize,
-    totals: &[u16; 256],
-    firsts: &[u64],
-    seconds: &[u64],
-    bound: &[u16; 256],
-    numbers: &[u8],
-    k: usize,
-    i: usize,
-    j: usize,
-    e: usize,
-    f: usize,
-) -> bool
-    requires k_bound { (k < 256) × (i < 65536) × (j < 65536) × (e < count) × (f < count) }
-    requires room { Room count totals.now firsts.now seconds.now bound.now numbers.now }
-    ensures { Tells result (Candidate kinds.now a.now b.now totals.now
-        firsts.now seconds.now bound.now numbers.now k i j e f) }
+fn candidate(sought: &Sought, bound: &[u16; 256], f: usize) -> bool
+    requires { f < sought.now.shapes.now.table.count }
+    ensures { Tells result (Like sought.now bound.now f) }
 {
-    if kinds[f] != kinds[e] {
-        return false;
-    }
-    if k < as_index(bound[f]) {
-        return false;
-    }
-    if as_index(totals[f]) < k {
-        return false;
-    }
-    fit(kinds, a, b, totals, firsts, seconds, numbers, k, i, j, e, f)
+    let Sought { shapes, k, e, .. } = *sought;
+    let kinds = shapes.table.kinds;
+    kinds[f] == kinds[e]
+        && as_index(bound[f]) <= k
+        && k <= as_index(shapes.totals[f])
+        && sought.fit(f)
 }
 
 // The first such entry, or count.
-fn find(
-    kinds: &[u8; 256],
-    a: &[u16; 256],
-    b: &[u16; 256],
-    count: usize,
-    totals: &[u16; 256],
-    firsts: &[u64],
-    seconds: &[u64],
-    bound: &[u16; 256],
-    numbers: &[u8],
-    k: usize,
-    i: usize,
-    j: usize,
-    e: usize,
-) -> usize
-    requires k_bound { (k < 256) × (i < 65536) × (j < 65536) × (e < count) }
-    requires room { Room count totals.now firsts.now seconds.now bound.now numbers.now }
-    ensures { Found count (Candidate kinds.now a.now b.now totals.now
-        firsts.now seconds.now bound.now numbers.now k i j e) result }
+fn find(sought: &Sought, bound: &[u16; 256]) -> usize
+    ensures { Found sought.now.shapes.now.table.count (Like sought.now bound.now) result }
 {
-    let mut f: usize = 0;
-    while f < count {
-        if candidate(
-            kinds, a, b, count, totals, firsts, seconds, bound, numbers, k, i, j, e, f,
-        ) {
+    let count = sought.shapes.table.count;
+    for f in 0..count {
+        if candidate(sought, bound, f) {
             return f;
         }
-        f += 1;
     }
     count
 }
 
 // The number of an entry that is the same form, the one guessed or else the first, or e, which is a fresh one.
-fn search(
-    kinds: &[u8; 256],
-    a: &[u16; 256],
-    b: &[u16; 256],
-    count: usize,
-    totals: &[u16; 256],
-    firsts: &[u64],
-    seconds: &[u64],
-    bound: &[u16; 256],
-    numbers: &[u8],
-    k: usize,
-    i: usize,
-    j: usize,
-    e: usize,
-    guess: usize,
-) -> u8
-    requires k_lt_count { (k < count) × (i < 65536) × (j < 65536) × (e < count) }
-    requires room { Room count totals.now firsts.now seconds.now bound.now numbers.now }
-    ensures { Searched count (Candidate kinds.now a.now b.now totals.now
-        firsts.now seconds.now bound.now numbers.now k i j e)
-        (cell numbers.now k) e result }
+fn search(sought: &Sought, bound: &[u16; 256], guess: usize) -> u8
+    ensures { Searched sought.now.shapes.now.table.count (Like sought.now bound.now) (cell sought.now.numbers.now sought.now.k) sought.now.e result }
 {
-    if guess < count {
-        if candidate(
-            kinds, a, b, count, totals, firsts, seconds, bound, numbers, k, i, j, e, guess,
-        ) {
-            return numbers[256 * k + guess];
-        }
+    let Sought {
+        shapes,
+        numbers,
+        k,
+        e,
+        ..
+    } = *sought;
+    let count = shapes.table.count;
+    if guess < count && candidate(sought, bound, guess) {
+        return numbers[256 * k + guess];
     }
-    let f = find(
-        kinds, a, b, count, totals, firsts, seconds, bound, numbers, k, i, j, e,
-    );
+    let f = find(sought, bound);
     if f < count {
-        return numbers[256 * k + f];
+        numbers[256 * k + f]
+    } else {
+        e as u8
     }
-    e as u8
 }
 
 // The number of a name of fixpoint x: bound, 255; written out, that of its fixpoint.
 fn name_number(numbers: &[u8], k: usize, x: u16) -> u8
     ensures { NameNumber numbers.now k x result }
 {
-    if k == 0 {
-        return number(numbers, 0, x);
-    }
-    255
+    if k == 0 { number(numbers, 0, x) } else { 255 }
 }
 
 // The mark of an entry of the kind and fields x and y, whose operands have the numbers. It goes by what `fit` compares, and by no more. The
@@ -151,19 +92,19 @@ fn mark_in(kind: u8, x: u16, y: u16, first: u8, second: u8) -> usize
     left % 512
 }
 
-// The mark of e, i names bound in its first operand and j in its second.
-fn mark_of(
-    kinds: &[u8; 256],
-    a: &[u16; 256],
-    b: &[u16; 256],
-    numbers: &[u8],
-    i: usize,
-    j: usize,
-    e: usize,
-) -> usize
-    requires { (i < 65536) × (j < 65536) × (e < 256) }
-    ensures { (result ≡ mark_of kinds.now a.now b.now numbers.now i j e) × (result < 512) }
+// The mark of the entry sought.
+fn mark_of(sought: &Sought) -> usize
+    ensures { (result ≡ mark_here sought.now) × (result < 512) }
 {
+    let Sought {
+        shapes,
+        numbers,
+        i,
+        j,
+        e,
+        ..
+    } = *sought;
+    let EntryColumns { kinds, a, b, .. } = shapes.table;
     mark_in(
         kinds[e],
         a[e],
@@ -186,27 +127,13 @@ fn mark(marks: &mut [u64], x: usize)
     requires { x < 64 * length marks.old }
     ensures { (d : ℕ) → in_set marks.new d ≡ (in_set marks.old d || eqb d x) }
 {
-    let i = x / 64;
-    marks[i] = marks[i] | (1u64 << (x % 64));
-}
-
-// The entry that a hint names. A parameter is known to be a byte; of what stands in the table that would have to be asked.
-fn as_entry(hint: u8) -> usize
-    ensures { result ≡ hint }
-{
-    hint as usize
+    marks[x / 64] |= 1u64 << (x % 64);
 }
 
 // The number for entry e with k names bound, where its operands' numbers stand. Its mark stands afterwards. `hints` has for each mark the last
 // entry that had it, with whatever number of names bound: a guess to be tried first, of which nothing is asked or promised.
 pub fn choose(
-    kinds: &[u8; 256],
-    a: &[u16; 256],
-    b: &[u16; 256],
-    count: usize,
-    totals: &[u16; 256],
-    firsts: &[u64],
-    seconds: &[u64],
+    shapes: &Shapes,
     bound: &[u16; 256],
     numbers: &[u8],
     marks: &mut [u64],
@@ -214,26 +141,30 @@ pub fn choose(
     k: usize,
     e: usize,
 ) -> u8
-    requires k_lt_count { (k < count) × (e < count) × (8 * count ≤ length marks.old) }
-    requires room { Room count totals.now firsts.now seconds.now bound.now numbers.now }
-    ensures { Chosen kinds.now a.now b.now count totals.now firsts.now
-        seconds.now bound.now numbers.now marks.old marks.new k e result }
+    requires k_lt_count { (k < shapes.now.table.count) × (e < shapes.now.table.count) × (8 * shapes.now.table.count ≤ length marks.old) }
+    requires cells { 256 * shapes.now.table.count ≤ length numbers.now }
+    ensures { ChosenIn shapes.now bound.now numbers.now marks.old marks.new k e result }
 {
-    if kinds[e] == Kind::NAME {
-        return name_number(numbers, k, a[e]);
+    let table = &shapes.table;
+    if table.kinds[e] == Kind::NAME {
+        return name_number(numbers, k, table.a[e]);
     }
-    let i = at(bound, a[e]);
-    let j = at(bound, b[e]);
-    let own = mark_of(kinds, a, b, numbers, i, j, e);
+    let sought = Sought {
+        shapes,
+        numbers,
+        k,
+        i: at(bound, table.a[e]),
+        j: at(bound, table.b[e]),
+        e,
+    };
+    let own = mark_of(&sought);
     let place = 512 * k + own;
     let seen = marked(marks, place);
     mark(marks, place);
-    let guess = as_entry(hints[own]);
+    let guess = usize::from(hints[own]);
     hints[own] = e as u8;
     if !seen {
         return e as u8;
     }
-    search(
-        kinds, a, b, count, totals, firsts, seconds, bound, numbers, k, i, j, e, guess,
-    )
+    search(&sought, bound, guess)
 }

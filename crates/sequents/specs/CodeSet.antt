@@ -2,20 +2,20 @@
 use Rattle.std.specs.Prelude.{◌≡◌, refl, ◌≢◌, List, [], ◌∷◌, Bool, true, false, not, ◌||◌, ◌&&◌, ℕ, ◌+◌, ◌*◌, ◌-◌, ◌/◌, ◌%◌, ◌^◌, ◌<◌, ◌≤◌, length, get_or, set, replicate}
 use Rattle.std.proofs.Math.Path.{ap, sym}
 use Rattle.std.proofs.Common.{◌∙◌, le_refl, arith, get_or-set_same, get_or-set_other}
-use Rattle.std.proofs.Math.Decide.{dec_lt, ℕ_discrete}
+use Rattle.std.proofs.Math.Decide.{ℕ_discrete}
 use Rattle.std.proofs.Math.Dec.{eqb}
 use Rattle.std.proofs.lemmas.Nat.{or_lt, xor_lt}
 use Rattle.std.specs.Int.Bits.{and_lt}
 use Rattle.std.proofs.Math.ListN.{length-set}
 use Rattle.std.proofs.lemmas.List.{length-replicate}
+use Rattle.std.proofs.lemmas.Grind.{same_number_lists}
 use Rattle.verdict.specs.Tests.{any, member, same, remove, each}
 use Rattle.verdict.specs.Tells.{Tells, tells_as, fails_holds, eqb_tells, and_tells, not_tells, same_test}
 use Rattle.verdict.specs.SetTells.{member_tells, lists_self, lists_remove}
 use Rattle.verdict.proofs.SetTells.{same_tells}
 use Rattle.sequents.specs.Part.{part, part_none, part_before}
-use Rattle.bits.specs.Bits.{bit}
 use Rattle.bits.specs.WordLaws.{with_bit, without_bit, equal_bits}
-use Rattle.bits.specs.WordSet.{in_set, zeros_at, none_in, place, past_words}
+use Rattle.bits.specs.WordSet.{in_set, zeros_at, none_in, place}
 use Rattle.bits.proofs.WordSet.{in_inserted, in_removed}
 
 -- the eight words w, of 64 bits each, hold what the list l holds
@@ -85,19 +85,21 @@ same_members l m = tells_as
     (same_tells l (lists_self m))
 
 module _ (x y l m : List ℕ) (X : Holds x l) (Y : Holds y m) where
+  -- sets are the same where all their words are, and only there
+  pub same_lists : Tells (same l m) (x ≡ y)
+  same_lists = tells_as
+      (λ e. same_number_lists x y (X.eight ∙ sym Y.eight) (λ i _. equal_bits 64 (get_or x i 0) (get_or y i 0) (X.word i) (Y.word i)
+      (λ k b. sym (place x i k b) ∙ X.tells (64 * i + k) ∙ e (64 * i + k) ∙ sym (Y.tells (64 * i + k)) ∙ place y i k b)))
+      (λ e c. sym (X.tells c) ∙ ap (λ (w : List ℕ). in_set w c) e ∙ Y.tells c)
+      (same_members l m)
+
   -- the same words hold the same set
   pub same_words : ((i : ℕ) → i < 8 → get_or x i 0 ≡ get_or y i 0) → true ≡ same l m
-  unfolding in_set
-  same_words e = sym ((same_members l m).holds (λ c. sym (X.tells c) ∙ go c (dec_lt c 512) ∙ Y.tells c))
-    where
-      go : (c : ℕ) → Dec (c < 512) → in_set x c ≡ in_set y c
-      go c (yes h) = ap (λ (n : ℕ). bit n (c % 64)) (e (c / 64) (omega arith))
-      go c (no h) = past_words x c (omega (arith, X.eight)) ∙ sym (past_words y c (omega (arith, Y.eight)))
+  same_words e = sym (same_lists.holds (same_number_lists x y (X.eight ∙ sym Y.eight) (λ i h. e i (omega (arith, X.eight)))))
 
   -- sets of which one word differs are not the same
   pub other_words : (i : ℕ) → get_or x i 0 ≢ get_or y i 0 → false ≡ same l m
-  other_words i n = sym (fails_holds (same_members l m) (λ e. n (equal_bits 64 (get_or x i 0) (get_or y i 0) (X.word i) (Y.word i)
-      (λ k b. sym (place x i k b) ∙ X.tells (64 * i + k) ∙ e (64 * i + k) ∙ sym (Y.tells (64 * i + k)) ∙ place y i k b))))
+  other_words i n = sym (fails_holds same_lists (λ e. n (ap (λ (w : List ℕ). get_or w i 0) e)))
 
 -- a set of values over a part, with the value at one place before
 pub each_before : (g : ℕ → ℕ) (cs : List ℕ) (i j x : ℕ) {w : List ℕ} → 0 < i → i ≤ j → j ≤ length cs → x ≡ g (get_or cs (i - 1) 0)

@@ -1,6 +1,7 @@
 -- a part of a list, from a place up to another
 use Rattle.std.specs.Prelude.{◌≡◌, refl, List, [], ◌∷◌, ℕ, zero, suc, ◌+◌, ◌-◌, ◌<◌, ◌≤◌, length, get_or, take, drop}
-use Rattle.std.proofs.Common.{ap, ◌∙◌, subst, le_of_suc-le-suc, arith, length-take, length-drop, drop-cons, get_or-take, get_or-drop}
+use Rattle.std.proofs.Common.{ap, sym, ◌∙◌, subst, le_of_suc-le-suc, arith, length-take, length-drop, drop-cons, get_or-take, get_or-drop}
+use Rattle.std.proofs.Math.Seq.{take-length}
 use mathlib.Core.List.Memᴰ
 use Rattle.verdict.specs.Sets.{elements}
 
@@ -52,3 +53,26 @@ part_member l i j k h g m =
 -- a code at a place within fits a set
 pub span_small : {cs : List ℕ} {i j : ℕ} → Span cs i j → (k : ℕ) → i ≤ k → k < j → get_or cs k 0 < 512
 span_small {cs} {i} {j} S k h g = S.small _ (part_member cs i j k h g S.long)
+
+-- what stands at any place of a part fits a set, and is one of it
+pub at_place : (l : List ℕ) (k d : ℕ) → k < length l → elements l (get_or l k d)
+at_place [] k d h = absurd (omega arith)
+at_place (x ∷ l) zero d h = Memᴰ.head refl
+at_place (x ∷ l) (suc k) d h = Memᴰ.tail (at_place l k d (le_of_suc-le-suc h))
+
+pub span_item : {cs : List ℕ} {i j : ℕ} → Span cs i j → (x k : ℕ) → k < length (part cs i j) → x ≡ get_or (part cs i j) k x → x < 512
+span_item {cs} {i} {j} S x k h e = S.small x (subst (elements (part cs i j)) (sym e) (at_place (part cs i j) k x h))
+
+-- the part that is the whole list
+pub part_whole : (l : List ℕ) → part l 0 (length l) ≡ l
+part_whole l = let z : length l - 0 ≡ length l = omega arith in rw z (take-length l)
+
+-- codes that fit a set
+abbrev pub Fit : List ℕ → Type 0
+Fit l = (c : ℕ) → elements l c → c < 512
+
+pub fit_at : {l : List ℕ} → Fit l → (k : ℕ) → k < length l → get_or l k 0 < 512
+fit_at {l} F k h = F _ (at_place l k 0 h)
+
+pub fit_item : {l : List ℕ} → Fit l → (x k : ℕ) → k < length l → x ≡ get_or l k x → x < 512
+fit_item {l} F x k h e = F x (subst (elements l) (sym e) (at_place l k x h))

@@ -1,19 +1,22 @@
 // A sequent as a set of members: 512 bits in eight words, the member with the key c as bit c % 64 of word c / 64. A key is 2 × the number of the
-// member's formula + its focus: `canon` has for each entry the number of its formula, the least entry with it that is no name (crate numbers).
+// member's formula + its focus (numbered.rt).
 // A set is filled where it stands and never copied: a copy reads two words at once, and waits for the stores of one word that filled them.
 ghost use Rattle.std.specs.Prelude.{◌≡◌, List, [], ◌∷◌, ℕ, ◌<◌};
 ghost use Rattle.verdict.specs.Tests.{member, same as sameSet, remove, each};
 ghost use Rattle.formula.specs.Codes.{code as code_of, entry_of_lem};
 ghost use Rattle.formula.specs.Table.{Table};
-ghost use Rattle.formula.specs.PlainNodes.{codes_at_lem, proof_of};
+ghost use Rattle.formula.specs.PlainNodes.{proof_of};
 ghost use Rattle.sequents.specs.CodeSet.{Holds};
-ghost use Rattle.sequents.specs.Part.{part, Span};
-ghost use Rattle.sequents.specs.Keys.{Narrow, key_at, key_of_lem, keys_of, in_focus, RootOver};
-ghost use Rattle.sequents.specs.Placed.{Placed, Members};
+ghost use Rattle.sequents.specs.Part.{part, Fit};
+ghost use Rattle.sequents.specs.Keys.{Narrow, key_at, keys_of, in_focus, RootOver};
+ghost use Rattle.sequents.specs.Placed.{Members};
+ghost use Rattle.sequents.specs.Columned.{PlacedIn, codes_in};
 ghost use Rattle.calculus.specs.View.{plain};
 ghost use Rattle.calculus.specs.Judge.{states};
 
+use super::numbered::NumberedTable;
 use bits::wide;
+use formula::NodeColumns;
 
 // A code more, in place.
 pub fn put(set: &mut [u64; 8], code: u16)
@@ -22,7 +25,7 @@ pub fn put(set: &mut [u64; 8], code: u16)
 {
     let place = code as usize;
     let word = place / 64;
-    set[word] = set[word] | (1u64 << (place % 64));
+    set[word] |= 1u64 << (place % 64);
 }
 
 // A code less, in place.
@@ -41,25 +44,14 @@ pub fn has(set: &[u64; 8], code: u16) -> bool
     ensures { (l : List ℕ) → Holds set.now l → result ≡ member l code }
 {
     let place = code as usize;
-    if 512 <= place {
-        return false;
-    }
-    let word = set[place / 64];
-    (word >> (place % 64)) & 1 == 1
+    place < 512 && (set[place / 64] >> (place % 64)) & 1 == 1
 }
 
 // Whether two sets are the same.
 pub fn same(x: &[u64; 8], y: &[u64; 8]) -> bool
     ensures { (l m : List ℕ) → Holds x.now l → Holds y.now m → result ≡ sameSet l m }
 {
-    let mut i: usize = 0;
-    while i < 8 {
-        if x[i] != y[i] {
-            return false;
-        }
-        i += 1;
-    }
-    true
+    x == y
 }
 
 // The entry of a code, as an index.
@@ -85,44 +77,41 @@ pub fn key(canon: &[u16; 256], entry: usize, focus: u16) -> u16
     code_of(canon[entry], focus)
 }
 
-// The member that a code stands for: members are compared by formula, and two codes of one formula and one focus are one member.
-pub fn key_of(canon: &[u16; 256], code: u16) -> u16
-    requires { Narrow canon.now × (code < 512) }
-    ensures { (result < 512) × (result ≡ key_of_lem canon.now code) }
+// The members that codes stand for, into a set that has none.
+pub fn put_part(set: &mut [u64; 8], table: &NumberedTable, codes: &[u16])
+    requires { Fit codes.now × Holds set.old [] }
+    ensures { Holds set.new (keys_of table.now.canon.now codes.now) }
 {
-    key(canon, entry_of(code), code % 2)
-}
-
-// The members from one place of the list up to another, into a set that has none.
-pub fn put_part(set: &mut [u64; 8], canon: &[u16; 256], codes: &[u16], from: usize, to: usize)
-    requires { Narrow canon.now × Span codes.now from to × Holds set.old [] }
-    ensures { Holds set.new (keys_of canon.now (part codes.now from to)) }
-{
-    let mut i = to;
-    while from < i {
-        i -= 1;
-        put(set, key_of(canon, codes[i]));
+    for i in (0..codes.len()).rev() {
+        put(set, table.key_of(codes[i]));
     }
 }
 
-// The sequent of node v, into a set that has none.
-pub fn put_sequent(set: &mut [u64; 8], canon: &[u16; 256], starts: &[u16], codes: &[u16], v: usize)
-    requires { Narrow canon.now × Placed starts.now codes.now v × Holds set.old [] }
-    ensures { Holds set.new (keys_of canon.now (codes_at_lem starts.now codes.now v)) }
+// The codes of node v.
+pub fn codes_of<'a>(proof: &NodeColumns<'a>, v: usize) -> &'a [u16]
+    requires { PlacedIn proof.now v }
+    ensures { result.now ≡ codes_in proof.now v }
 {
-    put_part(set, canon, codes, wide(starts[v]), wide(starts[v + 1]));
+    &proof.codes[wide(proof.starts[v])..wide(proof.starts[v + 1])]
+}
+
+// The sequent of node v, into a set that has none.
+pub fn put_sequent(set: &mut [u64; 8], table: &NumberedTable, proof: &NodeColumns, v: usize)
+    requires { PlacedIn proof.now v × Holds set.old [] }
+    ensures { Holds set.new (keys_of table.now.canon.now (codes_in proof.now v)) }
+{
+    put_part(set, table, codes_of(proof, v));
 }
 
 // Whether nodes v and w have the same sequent, as a back leaf and its companion have.
-pub fn same_sequent(canon: &[u16; 256], starts: &[u16], codes: &[u16], v: usize, w: usize) -> bool
-    requires { Narrow canon.now × Placed starts.now codes.now v × Placed starts.now codes.now w }
-    ensures { result ≡ sameSet (keys_of canon.now (codes_at_lem starts.now codes.now v))
-        (keys_of canon.now (codes_at_lem starts.now codes.now w)) }
+pub fn same_sequent(table: &NumberedTable, proof: &NodeColumns, v: usize, w: usize) -> bool
+    requires { PlacedIn proof.now v × PlacedIn proof.now w }
+    ensures { result ≡ sameSet (keys_of table.now.canon.now (codes_in proof.now v)) (keys_of table.now.canon.now (codes_in proof.now w)) }
 {
     let mut here = [0u64; 8];
-    put_sequent(&mut here, canon, starts, codes, v);
+    put_sequent(&mut here, table, proof, v);
     let mut there = [0u64; 8];
-    put_sequent(&mut there, canon, starts, codes, w);
+    put_sequent(&mut there, table, proof, w);
     same(&here, &there)
 }
 
@@ -131,30 +120,27 @@ pub fn put_goal(set: &mut [u64; 8], canon: &[u16; 256], members: &[u16], from: u
     requires { Narrow canon.now × Members 256 members.now from to × Holds set.old [] }
     ensures { Holds set.new (each (in_focus canon.now) (part members.now from to)) }
 {
-    let mut i = to;
-    while from < i {
-        i -= 1;
+    for i in (from..to).rev() {
         put(set, key(canon, wide(members[i]), 1));
     }
 }
 
 // Whether a root's members are its goal's, all in focus (refusal 36).
 pub fn root_is_goal(
-    canon: &[u16; 256],
+    table: &NumberedTable,
     members: &[u16; 384],
     from: usize,
     to: usize,
-    starts: &[u16],
-    codes: &[u16],
+    proof: &NodeColumns,
     root: usize,
 ) -> bool
-    requires { Narrow canon.now × Members 256 members.now from to × Placed starts.now codes.now root }
-    ensures { (t : Table) → RootOver t canon.now (part members.now from to) (codes_at_lem starts.now codes.now root) →
-        (rs ls : List ℕ) (n : ℕ) → root < n → result ≡ states t (plain (proof_of rs ls starts.now codes.now n)) root (part members.now from to) }
+    requires { Members 256 members.now from to × PlacedIn proof.now root }
+    ensures { (t : Table) → RootOver t table.now.canon.now (part members.now from to) (codes_in proof.now root) →
+        (rs ls : List ℕ) (n : ℕ) → root < n → result ≡ states t (plain (proof_of rs ls proof.now.starts.now proof.now.codes.now n)) root (part members.now from to) }
 {
     let mut found = [0u64; 8];
-    put_sequent(&mut found, canon, starts, codes, root);
+    put_sequent(&mut found, table, proof, root);
     let mut claimed = [0u64; 8];
-    put_goal(&mut claimed, canon, members, from, to);
+    put_goal(&mut claimed, table.canon, members, from, to);
     same(&found, &claimed)
 }

@@ -28,16 +28,10 @@ use Rattle.entry_sets.specs.Counting.{Within, count, measure}
 use Rattle.blocks.specs.Gathering.{Grown, Gathering, met_below, gather_first, gather_grown, gather_settled, grown_nearer, settled_nearer, gather_block}
 use Rattle.bits.specs.WordSet.{in_set, none_in}
 use Rattle.entry_sets.specs.Sets.{in_below, Inserted, inserted_old, inserted_new, Removed, removed_less, removed_rest, Joined}
-use Rattle.dependencies.specs.Users.{Users}
 use Rattle.forming.specs.Claim.{table_from, Claim, leaf_at}
 use Rattle.forming.specs.Ready.{Ready, ready_again, formed_word}
 use Rattle.dependencies.specs.Operands.{plain_kind, fix_of, fix_of_lem, reads_kind, operand_name, a_operand, b_operand}
 use Rattle.blocks.specs.Turn.{start_word_lem, Begun, Iterating, iterating_first, iterating_last}
-
--- the tables made once
-pub record Prepared (ks xs ys ts us : List ℕ) : Type 0 where
-  pub tops : Tops ks xs ys ts
-  pub users : Users ks xs ys us
 
 -- the free names of e are settled
 abbrev pub Known : List ℕ → List ℕ → List ℕ → List ℕ → ℕ → Type 0

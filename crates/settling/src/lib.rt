@@ -3,82 +3,53 @@
 #![tactic(auto)]
 
 ghost use Rattle.std.specs.Prelude.{◌<◌, length, get_or};
-ghost use Rattle.settling.specs.Evaluated.{Prepared, Known, Standing, Evaluated};
+ghost use Rattle.settling.specs.Columned.{StandingIn, KnownIn, EvaluatedIn};
 
 use bits::wide;
 use blocks::{begin, grow, settle_entry, start_word, turn};
 use dependencies::needs_rounds;
+use dependencies::prepared::PreparedClaim;
 use entry_sets::{has, join, lowest, remove};
+use forming::columns::ModelWords;
 use formula::Kind;
 
 // Settles an entry whose free names are settled.
 #[cycle(eval_entry_iterate)]
 pub fn eval_entry(
-    kinds: &[u8],
-    a: &[u16],
-    b: &[u16],
-    tops: &[u16; 256],
-    users: &[u64; 1024],
+    prepared: &PreparedClaim,
+    model: &ModelWords,
     words: &mut [u64; 256],
     done: &mut [u64; 4],
-    rows: &[u64],
-    masks: &[u32; 64],
-    size: usize,
     e: usize,
 )
-    requires standing { Standing kinds.now a.now b.now masks.now rows.now size words.old done.old }
-    requires prepared { Prepared kinds.now a.now b.now tops.now users.now }
-    requires e_in_bounds { (e < length kinds.now) × Known kinds.now a.now b.now done.old e }
-    ensures { Evaluated kinds.now a.now b.now masks.now rows.now size e
-        done.old words.new done.new }
+    requires standing { StandingIn prepared.now.claim model.now words.old done.old }
+    requires e_in_bounds { (e < length prepared.now.claim.kinds.now) × KnownIn prepared.now.claim done.old e }
+    ensures { EvaluatedIn prepared.now.claim model.now e done.old words.new done.new }
 {
     if has(done, e) {
         return;
     }
-    if needs_rounds(kinds, a, tops, e) {
-        iterate(kinds, a, b, tops, users, words, done, rows, masks, size, e);
+    if needs_rounds(prepared, e) {
+        iterate(prepared, model, words, done, e);
         return;
     }
-    let kind = kinds[e];
+    let claim = &prepared.claim;
+    let kind = claim.kinds[e];
     if kind < Kind::OR {
-        settle_entry(kinds, a, b, words, done, rows, masks, size, e);
+        settle_entry(claim, model, words, done, e);
         return;
     }
     if kind == Kind::NAME {
-        settle_entry(kinds, a, b, words, done, rows, masks, size, e);
+        settle_entry(claim, model, words, done, e);
         return;
     }
-    eval_entry(
-        kinds,
-        a,
-        b,
-        tops,
-        users,
-        words,
-        done,
-        rows,
-        masks,
-        size,
-        wide(a[e]),
-    );
+    eval_entry(prepared, model, words, done, wide(claim.a[e]));
     if kind < Kind::DIAMOND {
-        eval_entry(
-            kinds,
-            a,
-            b,
-            tops,
-            users,
-            words,
-            done,
-            rows,
-            masks,
-            size,
-            wide(b[e]),
-        );
-        settle_entry(kinds, a, b, words, done, rows, masks, size, e);
+        eval_entry(prepared, model, words, done, wide(claim.b[e]));
+        settle_entry(claim, model, words, done, e);
         return;
     }
-    settle_entry(kinds, a, b, words, done, rows, masks, size, e);
+    settle_entry(claim, model, words, done, e);
 }
 
 // Settles a fixpoint whose free names are settled, with its block: itself, and what is reached from it by operands that have a free name
@@ -87,58 +58,40 @@ pub fn eval_entry(
 // falls with each (blocks/specs/Turn: ahead_most, iterating_nearer).
 #[cycle(eval_entry_iterate)]
 fn iterate(
-    kinds: &[u8],
-    a: &[u16],
-    b: &[u16],
-    tops: &[u16; 256],
-    users: &[u64; 1024],
+    prepared: &PreparedClaim,
+    model: &ModelWords,
     words: &mut [u64; 256],
     done: &mut [u64; 4],
-    rows: &[u64],
-    masks: &[u32; 64],
-    size: usize,
     x: usize,
 )
-    requires standing { Standing kinds.now a.now b.now masks.now rows.now size words.old done.old }
-    requires prepared { Prepared kinds.now a.now b.now tops.now users.now }
-    requires x_in_bounds { (x < length kinds.now) × Known kinds.now a.now b.now done.old x × (7 < get_or kinds.now x 0) × (get_or kinds.now x 0 < 10) }
-    ensures { Evaluated kinds.now a.now b.now masks.now rows.now size x
-        done.old words.new done.new }
+    requires standing { StandingIn prepared.now.claim model.now words.old done.old }
+    requires x_in_bounds { (x < length prepared.now.claim.kinds.now) × KnownIn prepared.now.claim done.old x ×
+        (7 < get_or prepared.now.claim.kinds.now x 0) × (get_or prepared.now.claim.kinds.now x 0 < 10) }
+    ensures { EvaluatedIn prepared.now.claim model.now x done.old words.new done.new }
 {
+    let claim = &prepared.claim;
     let mut block = [0u64; 4];
     let mut met = [0u64; 4];
-    grow(kinds, a, b, done, &mut block, &mut met, x);
+    grow(claim, done, &mut block, &mut met, x);
     let mut c = lowest(&met);
     while c < 256 {
         remove(&mut met, c);
-        if tops[c] != 0 {
-            grow(kinds, a, b, done, &mut block, &mut met, c);
+        if prepared.tops[c] != 0 {
+            grow(claim, done, &mut block, &mut met, c);
         } else {
-            if needs_rounds(kinds, a, tops, c) {
-                iterate(kinds, a, b, tops, users, words, done, rows, masks, size, c);
+            if needs_rounds(prepared, c) {
+                iterate(prepared, model, words, done, c);
             } else {
-                eval_entry(kinds, a, b, tops, users, words, done, rows, masks, size, c);
+                eval_entry(prepared, model, words, done, c);
             }
         }
         c = lowest(&met);
     }
-    begin(words, &block, start_word(kinds[x], size));
+    begin(words, &block, start_word(claim.kinds[x], model.size));
     let mut waiting = block;
     let mut e = lowest(&waiting);
     while e < 256 {
-        turn(
-            kinds,
-            a,
-            b,
-            words,
-            rows,
-            masks,
-            users,
-            &block,
-            &mut waiting,
-            size,
-            e,
-        );
+        turn(prepared, model, words, &block, &mut waiting, e);
         e = lowest(&waiting);
     }
     join(done, &block);

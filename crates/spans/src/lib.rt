@@ -8,28 +8,36 @@ ghost use Rattle.spans.specs.Ancestors.{SpansFilled};
 
 use bits::wide;
 
-// What the table has at the parent of v, 0 for a root.
-pub fn at_parent(owners: &[u16], table: &[u16], v: usize) -> u16
-    requires { (v < length owners.now) × (get_or owners.now v 0 ≤ length table.now) }
-    ensures { result ≡ at_parent_lem owners.now table.now v }
-{
-    let owner = wide(owners[v]);
-    if owner == 0 {
-        return 0;
+// For each of up to 1,024 nodes one more than the number of its parent, which is smaller than its own; 0 for a root.
+#[derive(Clone, Copy)]
+pub struct Owners<'a> {
+    pub table: &'a [u16],
+    pub nodes: usize,
+    pub ghost upward: { Upward table.now nodes },
+}
+
+impl Owners<'_> {
+    // What a table has at the parent of v, 0 for a root.
+    pub fn at_parent(&self, table: &[u16], v: usize) -> u16
+        requires { (v < length self.now.table.now) × (get_or self.now.table.now v 0 ≤ length table.now) }
+        ensures { result ≡ at_parent_lem self.now.table.now table.now v }
+    {
+        let owner = wide(self.table[v]);
+        if owner == 0 {
+            return 0;
+        }
+        table[owner - 1]
     }
-    table[owner - 1]
 }
 
 // By falling number each node is counted in its parent, and a root with the trees: its entry lies after all that is counted there before it.
-fn count_nodes(owners: &[u16], nodes: usize, offsets: &mut [u16], sizes: &mut [u16])
-    requires { Upward owners.now nodes × CountedOnce nodes offsets.old sizes.old }
-    ensures { Counted owners.now nodes 0 offsets.new (nodes ∷ sizes.new) }
+fn count_nodes(owners: &Owners, offsets: &mut [u16], sizes: &mut [u16])
+    requires { CountedOnce owners.now.nodes offsets.old sizes.old }
+    ensures { Counted owners.now.table.now owners.now.nodes 0 offsets.new (owners.now.nodes ∷ sizes.new) }
 {
     let mut taken: u16 = 0;
-    let mut v = nodes;
-    while 0 < v {
-        v -= 1;
-        let owner = wide(owners[v]);
+    for v in (0..owners.nodes).rev() {
+        let owner = wide(owners.table[v]);
         if owner == 0 {
             offsets[v] = taken;
             taken += sizes[v];
@@ -42,32 +50,39 @@ fn count_nodes(owners: &[u16], nodes: usize, offsets: &mut [u16], sizes: &mut [u
 }
 
 // By rising number each node is entered as far after its parent as was counted, and left once all below it is.
-fn number_nodes(owners: &[u16], nodes: usize, entries: &mut [u16], exits: &mut [u16])
-    requires { Upward owners.now nodes × Counted owners.now nodes 0 entries.old (nodes ∷ exits.old) }
-    ensures { SpansFilled owners.now nodes entries.new exits.new }
+fn number_nodes(owners: &Owners, entries: &mut [u16], exits: &mut [u16])
+    requires { Counted owners.now.table.now owners.now.nodes 0 entries.old (owners.now.nodes ∷ exits.old) }
+    ensures { SpansFilled owners.now.table.now owners.now.nodes entries.new exits.new }
 {
-    let mut v: usize = 0;
-    while v < nodes {
-        let entry = at_parent(owners, entries, v) + entries[v];
+    for v in 0..owners.nodes {
+        let entry = owners.at_parent(entries, v) + entries[v];
         entries[v] = entry;
         exits[v] = entry + exits[v];
-        v += 1;
     }
 }
 
 // The entry and exit numbers, in tables that count each node once.
-pub fn fill_spans(owners: &[u16], nodes: usize, entries: &mut [u16], exits: &mut [u16])
-    requires { Upward owners.now nodes × CountedOnce nodes entries.old exits.old }
-    ensures { SpansFilled owners.now nodes entries.new exits.new }
+pub fn fill_spans(owners: &Owners, entries: &mut [u16], exits: &mut [u16])
+    requires { CountedOnce owners.now.nodes entries.old exits.old }
+    ensures { SpansFilled owners.now.table.now owners.now.nodes entries.new exits.new }
 {
-    count_nodes(owners, nodes, entries, exits);
-    number_nodes(owners, nodes, entries, exits);
+    count_nodes(owners, entries, exits);
+    number_nodes(owners, entries, exits);
 }
 
-// Whether v is entered after c, and before c is left.
-pub fn is_spanned(entries: &[u16], exits: &[u16], c: usize, v: usize) -> bool
-    requires { (c < length entries.now) × (v < length entries.now) × (c < length exits.now) }
-    ensures { result ≡ spanned entries.now exits.now c v }
-{
-    (entries[c] < entries[v]) & (entries[v] < exits[c])
+// The entry and exit numbers once they are known.
+#[derive(Clone, Copy)]
+pub struct SpanColumns<'a> {
+    pub entries: &'a [u16],
+    pub exits: &'a [u16],
+}
+
+impl SpanColumns<'_> {
+    // Whether v is entered after c, and before c is left.
+    pub fn is_spanned(&self, c: usize, v: usize) -> bool
+        requires { (c < length self.now.entries.now) × (v < length self.now.entries.now) × (c < length self.now.exits.now) }
+        ensures { result ≡ spanned self.now.entries.now self.now.exits.now c v }
+    {
+        (self.entries[c] < self.entries[v]) & (self.entries[v] < self.exits[c])
+    }
 }

@@ -2,143 +2,122 @@
 // the rules read are loaded from the records, the codes read where they were lent.
 #![tactic(auto)]
 
+ghost use Rattle.std.specs.Prelude.{◌≡◌, ◌+◌, ◌*◌, ◌≤◌};
 ghost use Rattle.verdict.specs.Shown.{shown};
-ghost use Rattle.formula.specs.Plain.{table_of};
-ghost use Rattle.formula.specs.Held.{held_claim};
-ghost use Rattle.sequents.specs.Keys.{Numbers};
-ghost use Rattle.laid.specs.Readable.{Readable, proof_at};
+ghost use Rattle.formula.specs.Claim.{Form};
+ghost use Rattle.formula.specs.Held.{held_proof};
+ghost use Rattle.calculus.specs.Judge.{judge as judged};
+ghost use Rattle.sequents.specs.Columned.{numbered};
+ghost use Rattle.goals.specs.Columned.{GoalsIn, claim_in};
+ghost use Rattle.rules.specs.JudgeStages.{Laid};
+ghost use Rattle.laid.specs.Columned.{ReadableIn, claim_read, proof_read};
 ghost use Rattle.standing.specs.Standing.{RoomFor, JudgedStored};
 
+use formula::{EntryColumns, LinkColumns, NodeColumns};
+use goals::columns::GoalColumns;
+use laid::ReadProof;
 use nodes::decode_proof;
 use numbers::number_formulas;
 use records::{Node, load_nodes, store_nodes};
 use rules::judge::judge;
+use sequents::numbered::NumberedTable;
 use verdict::Verdict;
 
-// In columns with room for 32 nodes: a small proof clears no more.
-fn judge_few(
-    proof: &[u8],
-    at: usize,
-    kinds: &[u8; 256],
-    a: &[u16; 256],
-    b: &[u16; 256],
-    canon: &[u16; 256],
-    entries: usize,
-    bounds: &[u16; 17],
-    members: &[u16; 384],
-    goals: usize,
-    roots: &[u16; 16],
-    count: usize,
-    nodes: &mut [Node],
-    codes: &mut [u16],
+// The rules over columns that were loaded from the records.
+fn judge_loaded<'a>(
+    table: &NumberedTable,
+    goals: &GoalColumns,
+    rules: &'a [u8],
+    links: &'a [u16],
+    starts: &'a [u16],
+    codes: &'a [u16],
+    nodes: usize,
 ) -> Verdict
-    requires { Readable kinds.now a.now b.now entries bounds.now members.now goals roots.now proof.now at count ×
-        RoomFor 32 count nodes.old codes.old × Numbers (table_of kinds.now a.now b.now entries) canon.now }
-    ensures { JudgedStored (λ f. held_claim f kinds.now a.now b.now entries bounds.now members.now goals)
-        (proof_at proof.now at roots.now goals) nodes.old codes.old (shown result) nodes.new codes.new }
+    requires { Laid table.now.columns.kinds.now table.now.columns.a.now table.now.columns.b.now table.now.columns.count
+        rules.now links.now starts.now codes.now nodes × GoalsIn table.now.columns.count goals.now nodes }
+    ensures { (f : Form) → shown result ≡ judged (claim_in f (numbered table.now) goals.now)
+        (held_proof rules.now links.now starts.now codes.now nodes goals.now.roots.now goals.now.count) }
 {
-    let mut rules = [0u8; 32];
-    let mut links = [0u16; 128];
-    let mut starts = [0u16; 33];
-    decode_proof(proof, at, &mut rules, &mut links, &mut starts, codes);
-    store_nodes(nodes, &rules, &links, &starts, count);
-    load_nodes(nodes, count, &mut rules, &mut links, &mut starts);
-    judge(
-        kinds, a, b, canon, entries, bounds, members, goals, &rules, &links, &starts, codes, count,
-        roots,
-    )
+    let tree = LinkColumns {
+        rules,
+        links,
+        nodes,
+    };
+    let columns = NodeColumns {
+        tree,
+        starts,
+        codes,
+    };
+    judge(table, goals, &columns)
 }
 
-// In columns with room for all 1,024.
-fn judge_many(
-    proof: &[u8],
-    at: usize,
-    kinds: &[u8; 256],
-    a: &[u16; 256],
-    b: &[u16; 256],
-    canon: &[u16; 256],
-    entries: usize,
-    bounds: &[u16; 17],
-    members: &[u16; 384],
-    goals: usize,
-    roots: &[u16; 16],
-    count: usize,
+// In columns with room for so many nodes: a small proof clears no more than it needs.
+fn judge_within<const NODES: usize, const LINKS: usize, const STARTS: usize>(
+    table: &NumberedTable,
+    proof: &ReadProof,
     nodes: &mut [Node],
     codes: &mut [u16],
 ) -> Verdict
-    requires { Readable kinds.now a.now b.now entries bounds.now members.now goals roots.now proof.now at count ×
-        RoomFor 1024 count nodes.old codes.old × Numbers (table_of kinds.now a.now b.now entries) canon.now }
-    ensures { JudgedStored (λ f. held_claim f kinds.now a.now b.now entries bounds.now members.now goals)
-        (proof_at proof.now at roots.now goals) nodes.old codes.old (shown result) nodes.new codes.new }
+    requires readable { ReadableIn table.now.columns proof.now × RoomFor NODES proof.now.nodes nodes.old codes.old }
+    requires room { (NODES ≤ 1024) × (LINKS ≡ 4 * NODES) × (STARTS ≡ NODES + 1) }
+    ensures { JudgedStored (claim_read table.now.columns proof.now) (proof_read proof.now) nodes.old codes.old (shown result) nodes.new codes.new }
 {
-    let mut rules = [0u8; 1024];
-    let mut links = [0u16; 4096];
-    let mut starts = [0u16; 1025];
-    decode_proof(proof, at, &mut rules, &mut links, &mut starts, codes);
-    store_nodes(nodes, &rules, &links, &starts, count);
-    load_nodes(nodes, count, &mut rules, &mut links, &mut starts);
-    judge(
-        kinds, a, b, canon, entries, bounds, members, goals, &rules, &links, &starts, codes, count,
-        roots,
+    let mut rules = [0u8; NODES];
+    let mut links = [0u16; LINKS];
+    let mut starts = [0u16; STARTS];
+    decode_proof(
+        proof.bytes,
+        proof.at,
+        &mut rules,
+        &mut links,
+        &mut starts,
+        codes,
+    );
+    store_nodes(nodes, &rules, &links, &starts, proof.nodes);
+    load_nodes(nodes, proof.nodes, &mut rules, &mut links, &mut starts);
+    judge_loaded(
+        table,
+        &proof.goals,
+        &rules,
+        &links,
+        &starts,
+        codes,
+        proof.nodes,
     )
 }
 
 // In columns of the size that the count asks for.
-fn judge_sized(
-    proof: &[u8],
-    at: usize,
-    kinds: &[u8; 256],
-    a: &[u16; 256],
-    b: &[u16; 256],
-    canon: &[u16; 256],
-    entries: usize,
-    bounds: &[u16; 17],
-    members: &[u16; 384],
-    goals: usize,
-    roots: &[u16; 16],
-    count: usize,
+fn judge_numbered(
+    table: &NumberedTable,
+    proof: &ReadProof,
     nodes: &mut [Node],
     codes: &mut [u16],
 ) -> Verdict
-    requires { Readable kinds.now a.now b.now entries bounds.now members.now goals roots.now proof.now at count ×
-        RoomFor 1024 count nodes.old codes.old × Numbers (table_of kinds.now a.now b.now entries) canon.now }
-    ensures { JudgedStored (λ f. held_claim f kinds.now a.now b.now entries bounds.now members.now goals)
-        (proof_at proof.now at roots.now goals) nodes.old codes.old (shown result) nodes.new codes.new }
+    requires { ReadableIn table.now.columns proof.now × RoomFor 1024 proof.now.nodes nodes.old codes.old }
+    ensures { JudgedStored (claim_read table.now.columns proof.now) (proof_read proof.now) nodes.old codes.old (shown result) nodes.new codes.new }
 {
-    if count <= 32 {
-        return judge_few(
-            proof, at, kinds, a, b, canon, entries, bounds, members, goals, roots, count, nodes,
-            codes,
-        );
+    if proof.nodes <= 32 {
+        judge_within::<32, 128, 33>(table, proof, nodes, codes)
+    } else {
+        judge_within::<1024, 4096, 1025>(table, proof, nodes, codes)
     }
-    judge_many(
-        proof, at, kinds, a, b, canon, entries, bounds, members, goals, roots, count, nodes, codes,
-    )
 }
 
 // The numbers of the claim's formulas, and then the rules: the room for numbering is given back before the columns are taken.
 pub fn judge_stored(
-    proof: &[u8],
-    at: usize,
-    kinds: &[u8; 256],
-    a: &[u16; 256],
-    b: &[u16; 256],
-    entries: usize,
-    bounds: &[u16; 17],
-    members: &[u16; 384],
-    goals: usize,
-    roots: &[u16; 16],
-    count: usize,
+    columns: &EntryColumns,
+    proof: &ReadProof,
     nodes: &mut [Node],
     codes: &mut [u16],
 ) -> Verdict
-    requires { Readable kinds.now a.now b.now entries bounds.now members.now goals roots.now proof.now at count × RoomFor 1024 count nodes.old codes.old }
-    ensures { JudgedStored (λ f. held_claim f kinds.now a.now b.now entries bounds.now members.now goals)
-        (proof_at proof.now at roots.now goals) nodes.old codes.old (shown result) nodes.new codes.new }
+    requires { ReadableIn columns.now proof.now × RoomFor 1024 proof.now.nodes nodes.old codes.old }
+    ensures { JudgedStored (claim_read columns.now proof.now) (proof_read proof.now) nodes.old codes.old (shown result) nodes.new codes.new }
 {
     let mut canon = [0u16; 256];
-    number_formulas(kinds, a, b, entries, &mut canon);
-    judge_sized(
-        proof, at, kinds, a, b, &canon, entries, bounds, members, goals, roots, count, nodes, codes,
-    )
+    number_formulas(columns, &mut canon);
+    let table = NumberedTable {
+        columns: *columns,
+        canon: &canon,
+    };
+    judge_numbered(&table, proof, nodes, codes)
 }

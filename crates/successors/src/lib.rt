@@ -8,43 +8,46 @@ ghost use Rattle.states.specs.Rows.{row_word_lem, ActionRows, RowWords};
 use letters::all_states;
 use marks::sixteen;
 
+// The successor table of a model of n states: which actions lead from each state to each, bit a for action a.
+#[derive(Clone, Copy)]
+pub struct SuccessorTable<'a> {
+    pub marks: &'a [[u16; 64]; 64],
+    pub n: usize,
+    pub ghost states: { n ≤ 64 },
+}
+
 // The successors of state s by action a, by whole groups; what is marked past the last state is cut off.
-fn row_word(marks: &[[u16; 64]; 64], a: usize, n: usize, s: usize) -> u64
-    requires { (a < 16) × (n ≤ 64) × (s < 64) }
-    ensures { result ≡ row_word_lem marks.now n a s }
+fn row_word(table: &SuccessorTable, a: usize, s: usize) -> u64
+    requires { (a < 16) × (s < 64) }
+    ensures { result ≡ row_word_lem table.now.marks.now table.now.n a s }
 {
+    let n = table.n;
     let mut r: u64 = 0;
-    let mut u = (n + 15) / 16 * 16;
-    while 0 < u {
-        u -= 16;
-        r = r * 65536 + sixteen(marks, a, s, u);
+    for group in (0..(n + 15) / 16).rev() {
+        r = r * 65536 + sixteen(table.marks, a, s, 16 * group);
     }
     r & all_states(n)
 }
 
 // The successors of each state by action a, from place 64 * a on.
-fn action_rows(marks: &[[u16; 64]; 64], a: usize, n: usize, rows: &mut [u64])
-    requires { (a < 16) × (n ≤ 64) × (64 * a + 64 ≤ length rows.old) }
-    ensures { ActionRows marks.now n a rows.old n rows.new }
+fn action_rows(table: &SuccessorTable, a: usize, rows: &mut [u64])
+    requires { (a < 16) × (64 * a + 64 ≤ length rows.old) }
+    ensures { ActionRows table.now.marks.now table.now.n a rows.old table.now.n rows.new }
 {
-    let mut s: usize = 0;
-    while s < n {
-        rows[64 * a + s] = row_word(marks, a, n, s);
-        s += 1;
+    for s in 0..table.n {
+        rows[64 * a + s] = row_word(table, a, s);
     }
 }
 
 // The successors of each state by the actions in a map, bit a for action a, made once: a modal step is then 64 operations. Nothing is done
 // for an action that is not there.
-pub fn row_words(marks: &[[u16; 64]; 64], used: u16, n: usize, rows: &mut [u64])
-    requires { (n ≤ 64) × ((a : ℕ) → bit used a ≡ true → 64 * a + 64 ≤ length rows.old) }
-    ensures { RowWords marks.now used n rows.old 16 rows.new }
+pub fn row_words(table: &SuccessorTable, used: u16, rows: &mut [u64])
+    requires { (a : ℕ) → bit used a ≡ true → 64 * a + 64 ≤ length rows.old }
+    ensures { RowWords table.now.marks.now used table.now.n rows.old 16 rows.new }
 {
-    let mut a: usize = 0;
-    while a < 16 {
+    for a in 0..16 {
         if (used >> a) & 1 == 1 {
-            action_rows(marks, a, n, rows);
+            action_rows(table, a, rows);
         }
-        a += 1;
     }
 }

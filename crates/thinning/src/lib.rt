@@ -2,18 +2,17 @@
 // is marked by its place among the entry's names in rising order, not by its number: T-03 does not go by what bound names are called.
 #![tactic(auto)]
 
-ghost use Rattle.std.specs.Prelude.{◌≡◌, ◌*◌, ◌+◌, ◌<◌, ◌≤◌, length};
+ghost use Rattle.std.specs.Prelude.{◌≡◌, ◌*◌, ◌+◌, ◌<◌, ◌≤◌, length, get_or};
 ghost use Rattle.verdict.specs.Tells.{Tells};
 ghost use Rattle.numbering.specs.Count.{tally};
 ghost use Rattle.name_sets.specs.NameSets.{holds};
-ghost use Rattle.name_sets.specs.Ordered.{Bits};
-ghost use Rattle.name_sets.specs.RowWords.{row_of};
 ghost use Rattle.thinning.specs.AllMarked.{Within};
-ghost use Rattle.thinning.specs.Marked.{among, Grown, Thinned};
-ghost use Rattle.thinning.specs.Columns.{IsTwo, RowMade, Prepared};
+ghost use Rattle.thinning.specs.Marked.{Grown, Thinned};
+ghost use Rattle.thinning.specs.Columns.{RowMade};
+ghost use Rattle.thinning.specs.Tabled.{PreparedIn};
 
 use bits::wide;
-use formula::Kind;
+use formula::{EntryColumns, Kind};
 use name_sets::{Names, below, has, less, lowest, meet, only, put_row, row};
 
 // The names of an entry passed so far: how many, and which of them are free in an operand, by place.
@@ -28,11 +27,10 @@ fn pass(inner: Names, name: usize, s: Passed) -> Passed
     requires { (name < 256) × (s.size ≤ name) }
     ensures { Grown inner name s result }
 {
-    let marks = s.marks;
-    let size = s.size;
+    let Passed { marks, size } = s;
     if !has(inner, name) {
         return Passed {
-            marks: marks,
+            marks,
             size: size + 1,
         };
     }
@@ -91,76 +89,69 @@ fn near(x: u16, count: usize) -> usize
     ensures { (result < count) × (x < count → result ≡ x) }
 {
     let place = wide(x);
-    if place < count {
-        return place;
-    }
-    0
+    if place < count { place } else { 0 }
 }
 
-// Which of the names own, of which there are size, are free in the operand that a field names, as row e. Where there are none, or it has all of
-// them, as most operands have, they are not passed one by one.
-fn put_thinned(
-    free: &[u64],
-    own: Names,
-    field: u16,
-    count: usize,
-    size: usize,
-    marks: &mut [u64],
+// An entry of a table with its free names, own, of which there are size, and the rows that have those of all entries.
+#[derive(Clone, Copy)]
+struct Owner<'a> {
+    table: &'a EntryColumns<'a>,
+    free: &'a [u64],
     e: usize,
-)
-    requires { (0 < count) × (count ≤ 256) × (4 * count ≤ length free.now) × (size ≡ tally (holds own) count) × (4 * e + 3 < length marks.old) }
-    ensures { RowMade marks.old marks.new e
-        (λ x. field < count → Bits x (among own (row_of free.now field) count)) }
-{
-    if size == 0 {
-        put_row(marks, e, name_sets::none());
-        return;
-    }
-    let inner = row(free, near(field, count));
-    if has_all(inner, own) {
-        put_row(marks, e, below(size));
-        return;
-    }
-    let passed = thin(own, inner, count);
-    put_row(marks, e, passed.marks);
+    own: Names,
+    size: usize,
+    ghost inside: { e < table.now.count },
+    ghost rows: { 4 * table.now.count ≤ length free.now },
+    ghost sized: { size ≡ tally (holds own) table.now.count },
 }
 
-// The same for both operands of an or or and, whose fields are a and b. No other entry has its rows looked at.
-fn put_operands(
-    free: &[u64],
-    own: Names,
-    kind: u8,
-    a: u16,
-    b: u16,
-    count: usize,
-    size: usize,
-    firsts: &mut [u64],
-    seconds: &mut [u64],
-    e: usize,
-)
-    requires { (0 < count) × (count ≤ 256) × (4 * count ≤ length free.now) × (size ≡ tally (holds own) count) ×
-        (4 * e + 3 < length firsts.old) × (4 * e + 3 < length seconds.old) }
-    ensures row_made { RowMade firsts.old firsts.new e
-        (λ x. IsTwo kind → a < count → Bits x (among own (row_of free.now a) count)) }
-    ensures row_made_2 { RowMade seconds.old seconds.new e
-        (λ x. IsTwo kind → b < count → Bits x (among own (row_of free.now b) count)) }
-{
-    if kind < Kind::OR {
-        return;
+impl Owner<'_> {
+    ghost use Rattle.thinning.specs.Owned.{Thins, ThinsTwo};
+
+    // Which of its names are free in the operand that a field names, as its row of marks. Where there are none, or the operand has all of
+    // them, as most operands have, they are not passed one by one.
+    fn put_thinned(&self, field: u16, marks: &mut [u64])
+        requires { 4 * self.now.e + 3 < length marks.old }
+        ensures { RowMade marks.old marks.new self.now.e (Thins self.now field) }
+    {
+        let Owner {
+            table,
+            free,
+            e,
+            own,
+            size,
+        } = *self;
+        if size == 0 {
+            put_row(marks, e, name_sets::none());
+            return;
+        }
+        let inner = row(free, near(field, table.count));
+        if has_all(inner, own) {
+            put_row(marks, e, below(size));
+            return;
+        }
+        let passed = thin(own, inner, table.count);
+        put_row(marks, e, passed.marks);
     }
-    if Kind::AND < kind {
-        return;
+
+    // The same for both operands of an or or and. No other entry has its rows looked at.
+    fn put_operands(&self, firsts: &mut [u64], seconds: &mut [u64])
+        requires { (4 * self.now.e + 3 < length firsts.old) × (4 * self.now.e + 3 < length seconds.old) }
+        ensures row_made { RowMade firsts.old firsts.new self.now.e (ThinsTwo self.now (get_or self.now.table.now.a.now self.now.e 0)) }
+        ensures row_made_2 { RowMade seconds.old seconds.new self.now.e (ThinsTwo self.now (get_or self.now.table.now.b.now self.now.e 0)) }
+    {
+        let Owner { table, e, .. } = *self;
+        if table.kinds[e] < Kind::OR || Kind::AND < table.kinds[e] {
+            return;
+        }
+        self.put_thinned(table.a[e], firsts);
+        self.put_thinned(table.b[e], seconds);
     }
-    put_thinned(free, own, a, count, size, firsts, e);
-    put_thinned(free, own, b, count, size, seconds, e);
 }
 
 // The columns of entry e: the count of its free names, one more than that, and the marks of its operands.
 fn prepare(
-    kinds: &[u8; 256],
-    a: &[u16; 256],
-    b: &[u16; 256],
-    count: usize,
+    table: &EntryColumns,
     free: &[u64],
     totals: &mut [u16; 256],
     bound: &mut [u16; 256],
@@ -168,40 +159,38 @@ fn prepare(
     seconds: &mut [u64],
     e: usize,
 )
-    requires count_bound { (count ≤ 256) × (e < count) × (4 * count ≤ length free.now) }
-    requires prepared { Prepared kinds.now a.now b.now count free.now totals.old bound.old firsts.old seconds.old e }
-    ensures { Prepared kinds.now a.now b.now count free.now
-        totals.new bound.new firsts.new seconds.new (e + 1) }
+    requires inside { (e < table.now.count) × (4 * table.now.count ≤ length free.now) }
+    requires prepared { PreparedIn table.now free.now totals.old bound.old firsts.old seconds.old e }
+    ensures { PreparedIn table.now free.now totals.new bound.new firsts.new seconds.new (e + 1) }
 {
     let own = row(free, e);
-    let size = size_of(own, count);
+    let size = size_of(own, table.count);
     totals[e] = size as u16;
     bound[e] = (size + 1) as u16;
-    put_operands(
-        free, own, kinds[e], a[e], b[e], count, size, firsts, seconds, e,
-    );
+    let owner = Owner {
+        table,
+        free,
+        e,
+        own,
+        size,
+    };
+    owner.put_operands(firsts, seconds);
 }
 
 // The columns of all entries, from their rows of free names. What stood in them does not matter.
 pub fn prepare_all(
-    kinds: &[u8; 256],
-    a: &[u16; 256],
-    b: &[u16; 256],
-    count: usize,
+    table: &EntryColumns,
     free: &[u64],
     totals: &mut [u16; 256],
     bound: &mut [u16; 256],
     firsts: &mut [u64],
     seconds: &mut [u64],
 )
-    requires count_bound { (count ≤ 256) × (4 * count ≤ length free.now) }
-    requires prepared { Prepared kinds.now a.now b.now count free.now totals.old bound.old firsts.old seconds.old 0 }
-    ensures { Prepared kinds.now a.now b.now count free.now
-        totals.new bound.new firsts.new seconds.new count }
+    requires free_rows { 4 * table.now.count ≤ length free.now }
+    requires prepared { PreparedIn table.now free.now totals.old bound.old firsts.old seconds.old 0 }
+    ensures { PreparedIn table.now free.now totals.new bound.new firsts.new seconds.new table.now.count }
 {
-    let mut e: usize = 0;
-    while e < count {
-        prepare(kinds, a, b, count, free, totals, bound, firsts, seconds, e);
-        e += 1;
+    for e in 0..table.count {
+        prepare(table, free, totals, bound, firsts, seconds, e);
     }
 }

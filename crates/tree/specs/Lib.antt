@@ -1,4 +1,5 @@
 pub mod Owners
+pub mod Columned
 pub mod OwnerLaws
 pub mod AdoptLaws
 pub mod Stamps

@@ -1,20 +1,13 @@
 -- the table of owners that the code keeps: one more than the number of each node's parent, 0 while it has none
-use Rattle.std.specs.Prelude.{◌≡◌, Bool, true, ◌&&◌, List, ℕ, ◌+◌, ◌*◌, ◌<◌, ◌≤◌, eqb, ltb, length, get_or, set}
+use Rattle.std.specs.Prelude.{◌≡◌, Bool, true, ◌&&◌, List, ℕ, ◌+◌, ◌<◌, ◌≤◌, eqb, ltb, length, get_or, set}
 use Rattle.verdict.specs.Verdict.{accepted, scan}
 use Rattle.verdict.specs.Verdict as verdicts
 use Rattle.verdict.specs.Tests.{choose, member}
-use Rattle.verdict.specs.Shown.{shown}
-use Rattle.verdict.specs.declared.Verdict.{Verdict}
-use Rattle.verdict.specs.declared.Verdict.TheVariants.{Accepted}
+use Rattle.verdict.specs.Shown.{Answer, accepts, shown}
 use Rattle.formula.specs.Nodes.{Proof}
 use Rattle.formula.specs.PlainNodes.{proof_of}
 use Rattle.calculus.specs.View.{owner, plain}
 use Rattle.calculus.specs.Judge.{children_fit, adopted}
-
--- columns of n nodes, and a table for their owners
-pub record Columns (rs ls : List ℕ) (n : ℕ) (owners : List ℕ) : Type 0 where
-  pub few : n ≤ 1024
-  pub room : (n ≤ length rs) × (4 * n ≤ length ls) × (n ≤ length owners)
 
 -- at first no node has an owner
 abbrev pub Ownerless : List ℕ → ℕ → Type 0
@@ -66,14 +59,14 @@ abbrev pub tree_judged : List ℕ → Proof → verdicts.Verdict
 tree_judged roots p = scan (children_fit roots (plain p)) (λ _. 35) (length p) 0 (orphans_judged roots p)
 
 -- what a stage answers, and the table that it leaves while the roots are marked
-pub record ChildrenTaken (stage : List ℕ → Proof → verdicts.Verdict) (roots rs ls : List ℕ) (n : ℕ) (answer : Verdict) (owners : List ℕ) : Type 0 where
+pub record ChildrenTaken (stage : List ℕ → Proof → verdicts.Verdict) (roots rs ls : List ℕ) (n : ℕ) (answer : Answer) (owners : List ℕ) : Type 0 where
   pub answers : (ss cs : List ℕ) → shown answer ≡ stage roots (proof_of rs ls ss cs n)
-  pub taken : answer ≡ Accepted → TakenBy roots rs ls n n owners
+  pub taken : answer ≡ accepts → TakenBy roots rs ls n n owners
 
 -- and of a table where roots have no owner
-pub record OwnersFilled (roots rs ls : List ℕ) (n : ℕ) (answer : Verdict) (owners : List ℕ) : Type 0 where
+pub record OwnersFilled (roots rs ls : List ℕ) (n : ℕ) (answer : Answer) (owners : List ℕ) : Type 0 where
   pub answers : (ss cs : List ℕ) → shown answer ≡ tree_judged roots (proof_of rs ls ss cs n)
-  pub owned : answer ≡ Accepted → OwnedBy rs ls n n owners
+  pub owned : answer ≡ accepts → OwnedBy rs ls n n owners
 
 -- every parent of a node below n has a smaller number; a root has none
 abbrev pub Parented : List ℕ → ℕ → Type 0

@@ -8,9 +8,7 @@ use Rattle.std.proofs.Math.Dec.{ltb}
 use Rattle.verdict.specs.Verdict.{accepted, refused, scan}
 use Rattle.verdict.specs.Verdict as verdicts
 use Rattle.verdict.specs.VerdictLaws.{scan_says}
-use Rattle.verdict.specs.declared.Verdict.{Verdict}
-use Rattle.verdict.specs.declared.Verdict.TheVariants.{Accepted, Refused}
-use Rattle.verdict.specs.Shown.{shown}
+use Rattle.verdict.specs.Shown.{Answer, accepts, refuses, shown}
 use Rattle.verdict.specs.Tests.{choose, member}
 use Rattle.verdict.specs.SetTells.{member_tells}
 use Rattle.formula.specs.Nodes.{Proof}
@@ -33,13 +31,13 @@ module _ (roots rs ls : List ℕ) (n : ℕ) where
     pub fit_more : x ≡ true → FitBelow (v + 1)
     fit_more e ss cs = below_more (λ w. children_fit roots (plain (proof_of rs ls ss cs n)) w ≡ true) v (f ss cs) (sym (step.answers ss cs) ∙ e)
 
-    pub children_refused : v < n → x ≡ false → ChildrenTaken children_judged roots rs ls n (Refused 35 v) left
+    pub children_refused : v < n → x ≡ false → ChildrenTaken children_judged roots rs ls n (refuses 35 v) left
     children_refused h e = record {
       answers = λ ss cs. sym (scan_fails _ (λ _. 35) _ accepted v (omega (arith, proof_of_length rs ls ss cs n)) (f ss cs) (sym (step.answers ss cs) ∙ e));
       taken = λ z. absurd (let q : ◌≡◌ {A = ℕ} 0 1 = cc in omega arith);
     }
 
-  pub children_accepted : {v : ℕ} {owners : List ℕ} → n ≤ v → v ≤ n → FitBelow v → TakenBy roots rs ls n v owners → ChildrenTaken children_judged roots rs ls n Accepted owners
+  pub children_accepted : {v : ℕ} {owners : List ℕ} → n ≤ v → v ≤ n → FitBelow v → TakenBy roots rs ls n v owners → ChildrenTaken children_judged roots rs ls n accepts owners
   children_accepted {v} {owners} h k f o =
       let e : v ≡ n = omega arith in
       record {
@@ -84,13 +82,13 @@ tree_then roots p rest =
     twice (refused k q) y = refl
 
 module _ (roots rs ls owners : List ℕ) (n : ℕ) where
-  pub tree_refused : (k q : ℕ) → ChildrenTaken children_judged roots rs ls n (Refused k q) owners → ChildrenTaken tree_judged roots rs ls n (Refused k q) owners
+  pub tree_refused : (k q : ℕ) → ChildrenTaken children_judged roots rs ls n (refuses k q) owners → ChildrenTaken tree_judged roots rs ls n (refuses k q) owners
   tree_refused k q f = record {
     answers = λ ss cs. sym (scan_then _ (λ _. 35) _ 0 (orphans_judged roots (proof_of rs ls ss cs n)) ∙ rw (← f.answers ss cs) refl);
     taken = λ z. absurd (let q : ◌≡◌ {A = ℕ} 0 1 = cc in omega arith);
   }
 
-  pub tree_orphans : (x : Verdict) → ChildrenTaken children_judged roots rs ls n Accepted owners
+  pub tree_orphans : (x : Answer) → ChildrenTaken children_judged roots rs ls n accepts owners
       → ((p : Proof) → length p ≡ n → Taken roots p n owners → shown x ≡ orphans_judged roots p)
       → ChildrenTaken tree_judged roots rs ls n x owners
   tree_orphans x f o = record {
@@ -118,11 +116,11 @@ module _ (roots : List ℕ) (p : Proof) where
       go (no n) = absurd (T.no_root (parent_child p w h (omega arith)) ((member_tells roots w).says m))
 
 -- the marks are cleared once the trees are found
-pub owners_filled : (rs ls : List ℕ) (n : ℕ) {os : List ℕ} {k : ℕ} {x : Verdict} {before after : List ℕ} → k ≤ length os
+pub owners_filled : (rs ls : List ℕ) (n : ℕ) {os : List ℕ} {k : ℕ} {x : Answer} {before after : List ℕ} → k ≤ length os
     → ChildrenTaken tree_judged (take k os) rs ls n x before → Stamped os k 0 before after → OwnersFilled (take k os) rs ls n x after
 owners_filled rs ls n {os} {k} {x} {before} {after} long f s = record { answers = f.answers; owned = λ e ss cs. owned e ss cs }
   where
-    owned : x ≡ Accepted → (ss cs : List ℕ) → Owned (proof_of rs ls ss cs n) n after
+    owned : x ≡ accepts → (ss cs : List ℕ) → Owned (proof_of rs ls ss cs n) n after
     owned e ss cs = record { room = omega (arith, s.room, (f.taken e ss cs).room); each = λ w h. stamped_is s long w ∙ each w h (member (take k os) w) refl }
       where
         p : Proof
@@ -146,7 +144,7 @@ tree_parented p T owners O w h = rw (O.each w h) (go (ℕ_discrete (owner p w (l
     go (yes e) = omega arith
     go (no n) = omega (arith, T.above (parent_child p w h (omega arith)))
 
-pub filled_parented : (roots rs ls owners : List ℕ) (n : ℕ) → OwnersFilled roots rs ls n Accepted owners → Parented owners n
+pub filled_parented : (roots rs ls owners : List ℕ) (n : ℕ) → OwnersFilled roots rs ls n accepts owners → Parented owners n
 filled_parented roots rs ls owners n f =
     let p = proof_of rs ls [] [] n in
     let size : length p ≡ n = proof_of_length rs ls [] [] n in

@@ -3,13 +3,14 @@
 
 ghost use Rattle.std.specs.Prelude.{◌≡◌, List, true, ℕ, ◌<◌, ◌≤◌, length, take};
 ghost use Rattle.formula.specs.Nodes.{Proof};
-ghost use Rattle.tree.specs.Owners.{unowned, Columns, Ownerless, OneChild, Taken, TakenBy, OneParent, children_judged, orphans_judged, tree_judged, ChildrenTaken, OwnersFilled};
+ghost use Rattle.tree.specs.Owners.{unowned, Ownerless, OneChild, Taken, children_judged, orphans_judged, tree_judged};
+ghost use Rattle.tree.specs.Columned.{TakenIn, ParentJudged, StageTaken, Filled};
 ghost use Rattle.tree.specs.Stamps.{RootsPlaced, Stamped};
 ghost use Rattle.verdict.specs.Shown.{shown};
 
 use bits::wide;
-use formula::Rule;
-use verdict::Verdict;
+use formula::{LinkColumns, Rule};
+use verdict::{Refusal, Verdict};
 
 // Stands for each root while the owners are looked for: no owner has this number.
 const ROOT: u16 = 65535;
@@ -41,41 +42,37 @@ fn take_child(owners: &mut [u16], nodes: usize, v: usize, w: usize) -> bool
 }
 
 // Takes the children of v, the first before the second: a second that is the same node is used already.
-fn adopt(rules: &[u8], links: &[u16], nodes: usize, v: usize, owners: &mut [u16]) -> bool
-    requires { Columns rules.now links.now nodes owners.old × (v < nodes) }
-    ensures { (roots : List ℕ) → TakenBy roots rules.now links.now nodes v owners.old
-        → OneParent roots rules.now links.now nodes v result owners.new }
+fn adopt(tree: &LinkColumns, v: usize, owners: &mut [u16]) -> bool
+    requires { (tree.now.nodes ≤ length owners.old) × (v < tree.now.nodes) }
+    ensures { (roots : List ℕ) → TakenIn roots tree.now v owners.old → ParentJudged roots tree.now v result owners.new }
 {
-    let rule = rules[v];
+    let rule = tree.rules[v];
     if !Rule::has_first(rule) {
         return true;
     }
-    if !take_child(owners, nodes, v, wide(links[4 * v + 1])) {
+    if !take_child(owners, tree.nodes, v, wide(tree.links[4 * v + 1])) {
         return false;
     }
     if !Rule::has_second(rule) {
         return true;
     }
-    take_child(owners, nodes, v, wide(links[4 * v + 2]))
+    take_child(owners, tree.nodes, v, wide(tree.links[4 * v + 2]))
 }
 
 // The children of all nodes, by rising parent.
-fn adopt_all(rules: &[u8], links: &[u16], nodes: usize, owners: &mut [u16]) -> Verdict
-    requires { Columns rules.now links.now nodes owners.old }
-    ensures { (roots : List ℕ) → TakenBy roots rules.now links.now nodes 0 owners.old
-        → ChildrenTaken children_judged roots rules.now links.now nodes result owners.new }
+fn adopt_all(tree: &LinkColumns, owners: &mut [u16]) -> Verdict
+    requires { tree.now.nodes ≤ length owners.old }
+    ensures { (roots : List ℕ) → TakenIn roots tree.now 0 owners.old → StageTaken children_judged roots tree.now result owners.new }
 {
-    let mut v: usize = 0;
-    while v < nodes {
-        if !adopt(rules, links, nodes, v, owners) {
-            return Verdict::Refused {
+    for v in 0..tree.nodes {
+        if !adopt(tree, v, owners) {
+            return Err(Refusal {
                 number: 35,
                 place: v as u16,
-            };
+            });
         }
-        v += 1;
     }
-    Verdict::Accepted
+    Ok(())
 }
 
 // Every node is a root or a child: by rising orphan.
@@ -83,57 +80,48 @@ fn find_orphan(owners: &[u16], nodes: usize) -> Verdict
     requires { (nodes ≤ 1024) × (nodes ≤ length owners.now) }
     ensures { (roots : List ℕ) (p : Proof) → length p ≡ nodes → Taken roots p nodes owners.now → shown result ≡ orphans_judged roots p }
 {
-    let mut node: usize = 0;
-    while node < nodes {
+    for node in 0..nodes {
         if owners[node] == 0 {
-            return Verdict::Refused {
+            return Err(Refusal {
                 number: 35,
                 place: node as u16,
-            };
+            });
         }
-        node += 1;
     }
-    Verdict::Accepted
+    Ok(())
 }
 
 // The children, then the orphans, in a table where the roots are marked.
-fn take_all(rules: &[u8], links: &[u16], nodes: usize, owners: &mut [u16]) -> Verdict
-    requires { Columns rules.now links.now nodes owners.old }
-    ensures { (roots : List ℕ) → TakenBy roots rules.now links.now nodes 0 owners.old
-        → ChildrenTaken tree_judged roots rules.now links.now nodes result owners.new }
+fn take_all(tree: &LinkColumns, owners: &mut [u16]) -> Verdict
+    requires { tree.now.nodes ≤ length owners.old }
+    ensures { (roots : List ℕ) → TakenIn roots tree.now 0 owners.old → StageTaken tree_judged roots tree.now result owners.new }
 {
-    match adopt_all(rules, links, nodes, owners) {
-        Verdict::Accepted => find_orphan(owners, nodes),
-        Verdict::Refused { number, place } => Verdict::Refused { number, place },
-    }
+    adopt_all(tree, owners)?;
+    find_orphan(owners, tree.nodes)
 }
 
 // Writes one number at each root.
-fn stamp(owners: &mut [u16], nodes: usize, roots: &[u16; 16], goals: usize, number: u16)
-    requires { RootsPlaced roots.now goals nodes × (nodes ≤ 1024) × (nodes ≤ length owners.old) }
+fn stamp(owners: &mut [u16], roots: &[u16; 16], goals: usize, number: u16)
+    requires { RootsPlaced roots.now goals (length owners.old) }
     ensures { Stamped roots.now goals number owners.old owners.new }
 {
-    let mut i: usize = 0;
-    while i < goals {
+    for i in 0..goals {
         owners[wide(roots[i])] = number;
-        i += 1;
     }
 }
 
 // Refusal 35, and the table of owners, one more than the number of each node's parent and 0 for a root, in a table of zeros.
 pub fn fill_owners(
-    rules: &[u8],
-    links: &[u16],
-    nodes: usize,
+    tree: &LinkColumns,
     roots: &[u16; 16],
     goals: usize,
     owners: &mut [u16],
 ) -> Verdict
-    requires { Columns rules.now links.now nodes owners.old × RootsPlaced roots.now goals nodes × Ownerless owners.old nodes }
-    ensures { OwnersFilled (take goals roots.now) rules.now links.now nodes result owners.new }
+    requires { (tree.now.nodes ≤ length owners.old) × RootsPlaced roots.now goals tree.now.nodes × Ownerless owners.old tree.now.nodes }
+    ensures { Filled (take goals roots.now) tree.now result owners.new }
 {
-    stamp(owners, nodes, roots, goals, ROOT);
-    let found = take_all(rules, links, nodes, owners);
-    stamp(owners, nodes, roots, goals, 0);
+    stamp(owners, roots, goals, ROOT);
+    let found = take_all(tree, owners);
+    stamp(owners, roots, goals, 0);
     found
 }

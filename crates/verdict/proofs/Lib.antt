@@ -1,2 +1,4 @@
 pub mod ScanLaws
 pub mod SetTells
+pub mod PassedOn
+pub mod Earned

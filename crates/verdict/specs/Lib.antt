@@ -11,3 +11,4 @@ pub mod Tells
 pub mod SetTells
 pub mod Index
 pub mod IndexLaws
+pub mod FaultNumbers

@@ -1,7 +1,8 @@
 -- the walk over the goals by their sizes, by what is left of it; and the sum of the sizes, by what is left to add
-use Rattle.std.specs.Prelude.{◌≡◌, List, [], ◌∷◌, length, get_or, take, drop}
+use Rattle.std.specs.Prelude.{◌≡◌, List, [], ◌∷◌, length, get_or, take, drop, sum, map}
 use Rattle.std.proofs.Math.Path.{refl}
-use Rattle.std.proofs.Common.{◌∙◌}
+use Rattle.std.proofs.Common.{ap, ◌∙◌}
+use Rattle.std.proofs.lemmas.List.Sums.{sum_by-cons}
 use Prim.Native.Nat.{ℕ, suc, ◌+◌, ◌*◌, ◌<◌, ◌≤◌}
 use native.Mathlib.Omega.{arith}
 use Rattle.std.proofs.Math.Seq.{drop-cons, drop-drop, drop-length}
@@ -19,6 +20,12 @@ module _ (gs : List ℕ) (i : ℕ) where
   pub total_none : i ≡ length gs → total (drop i gs) ≡ 0
   unfolding total
   total_none b = rw (b, drop-length gs) refl
+
+-- the sum of the sizes, each taken as it is
+pub total_sum : (gs : List ℕ) → sum (map (λ x. x) gs) ≡ total gs
+unfolding total
+total_sum [] = refl
+total_sum (k ∷ gs) = sum_by-cons (λ x. x) k (map (λ x. x) gs) ∙ ap (λ (n : ℕ). k + n) (total_sum gs)
 
 -- one size is the whole sum, and one goal the whole walk
 pub total-one : (gs : List ℕ) → length gs ≡ 1 → total gs ≡ get_or gs 0 0

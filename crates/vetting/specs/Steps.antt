@@ -1,18 +1,21 @@
 -- what a step over records finds, as the walk over them says
-use Rattle.std.specs.Prelude.{◌≡◌, List, ℕ, ◌+◌, ◌*◌, ◌≤◌, get_or}
+use Rattle.std.specs.Prelude.{◌≡◌, List, ℕ, ◌+◌, ◌*◌, ◌≤◌, get_or, Result, Ok, Err}
 use Rattle.formula.specs.Records.{NodeRecord}
 use Rattle.writing.specs.Ends.{End, next, stop}
-use Rattle.vetting.specs.declared.Step.{Step}
-use Rattle.vetting.specs.declared.Step.TheVariants.{Next, Stop}
+use Rattle.verdict.specs.declared.Refusal.{Refusal}
+
+-- the place after the records, or a refusal
+abbrev pub Step : Type 0
+Step = Result ℕ (Refusal ℕ)
 
 abbrev pub shown_step : Step → End
-shown_step (Next o) = next o
-shown_step (Stop n q) = stop n q
+shown_step (Ok o) = next o
+shown_step (Err r) = stop r.number r.place
 
 -- the walk's end, and no place past a limit
 pub record Finds (e : End) (limit : ℕ) (r : Step) : Type 0 where
   pub found : shown_step r ≡ e
-  pub near : (o : ℕ) → r ≡ Next o → o ≤ limit
+  pub near : (o : ℕ) → r ≡ Ok o → o ≤ limit
 
 -- a record by its rule, its links and its code count
 abbrev pub record_at : ℕ → List ℕ → ℕ → ℕ → NodeRecord

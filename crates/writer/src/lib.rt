@@ -11,17 +11,8 @@ ghost use Rattle.writer.specs.Written.{formed, Beside, Wrote, proved_by};
 
 use claim_files::ClaimFault;
 use laying::{put_claim, put_proof};
-use vetting::{Step, judge_claim, judge_proof};
-
-// What the slices that the writer is lent earn, before and after the records.
-#[derive(Clone, Copy)]
-pub struct SliceFault;
-
-impl SliceFault {
-    pub const SHORT: u16 = 1;
-
-    pub const OUTPUT: u16 = 70;
-}
+use verdict::SliceFault;
+use vetting::{judge_claim, judge_proof};
 
 // A refusal's number, as taking a permit answers it: above every file's length.
 pub fn refuse(number: u16, place: u16) -> u64
@@ -53,16 +44,16 @@ pub fn write_claim(
         out.old result out.new }
 {
     if lent < 256 {
-        return refuse(SliceFault::SHORT, 0);
+        return refuse(SliceFault::Short as u16, 0);
     }
     if !is_form(form) {
-        return refuse(ClaimFault::OPENING, 0);
+        return refuse(ClaimFault::Opening as u16, 0);
     }
     match judge_claim(form, kinds, a, b, count, sizes, members) {
-        Step::Stop { number, place } => refuse(number, place),
-        Step::Next(end) => {
+        Err(refusal) => refuse(refusal.number, refusal.place),
+        Ok(end) => {
             if out.len() < end {
-                return refuse(SliceFault::OUTPUT, 0);
+                return refuse(SliceFault::Output as u16, 0);
             }
             put_claim(out, form, kinds, a, b, count, sizes, members);
             end as u64
@@ -91,10 +82,10 @@ fn write_beside(
     match judge_proof(
         form, goals, kinds, entries, roots, rules, links, counts, codes, nodes,
     ) {
-        Step::Stop { number, place } => refuse(number, place),
-        Step::Next(length) => {
+        Err(refusal) => refuse(refusal.number, refusal.place),
+        Ok(length) => {
             if out.len() < length {
-                return refuse(SliceFault::OUTPUT, 0);
+                return refuse(SliceFault::Output as u16, 0);
             }
             put_proof(out, form, roots, rules, links, counts, codes, nodes);
             length as u64
@@ -125,21 +116,15 @@ pub fn write_proof(
     ensures { ProofWritten form lent count kinds.now a.now b.now sizes.now members.now nodes_lent
         nodes rules.now links.now counts.now roots.now codes.now out.old result out.new }
 {
-    if lent < 256 {
-        return refuse(SliceFault::SHORT, 0);
-    }
-    if nodes_lent < 1024 {
-        return refuse(SliceFault::SHORT, 0);
-    }
-    if codes.len() < 24576 {
-        return refuse(SliceFault::SHORT, 0);
+    if lent < 256 || nodes_lent < 1024 || codes.len() < 24576 {
+        return refuse(SliceFault::Short as u16, 0);
     }
     if !is_form(form) {
-        return refuse(ClaimFault::OPENING, 0);
+        return refuse(ClaimFault::Opening as u16, 0);
     }
     match judge_claim(form, kinds, a, b, count, sizes, members) {
-        Step::Stop { number, place } => refuse(number, place),
-        Step::Next(_) => write_beside(
+        Err(refusal) => refuse(refusal.number, refusal.place),
+        Ok(_) => write_beside(
             form,
             sizes.len(),
             count,
@@ -159,11 +144,9 @@ pub fn write_proof(
 pub fn loadable(lent: usize, most: usize, given: usize) -> usize
     ensures { Loadable lent most given result }
 {
-    if lent < most {
-        return 0;
+    if lent < most || most < given {
+        0
+    } else {
+        given
     }
-    if most < given {
-        return 0;
-    }
-    given
 }

@@ -1,35 +1,31 @@
-use mathlib.Core.Path.{refl, sym, ◌∙◌}
-use native.Mathlib.Omega.{arith}
+-- `only` meets its contract: the test is made of each code of the part.
+use mathlib.Core.Path.{◌≡◌, refl, ap, ◌∙◌}
+use mathlib.Core.Bool.{Bool, ◌&&◌}
+use mathlib.Core.List.{List, [], ◌∷◌}
+use Prim.Native.Nat.{ℕ}
 use borrow.Author.Rules.{rules}
-use Rattle.sequents.specs.Part.{span_small}
-use Rattle.axioms.specs.AxiomParts.{only_on, only_stop, only_end}
-use Rattle.sequents.specs.KeptLaws.{was_false, was_true}
-use Rattle.std.proofs.Common.{ap}
-use Rattle.std.specs.Prelude.{not}
+use borrow.Author.Tests.{tests}
+use Rattle.std.specs.List.{list_all}
+use Rattle.std.proofs.lemmas.Iterator.{YieldsList-from_slice}
+use Rattle.std.proofs.lemmas.Iterator.Adapters.{serves_from_places}
+use Rattle.std.proofs.lemmas.Iterator.Search.{all_from_yields_List}
+use Rattle.verdict.specs.Tests.{all, each}
+use Rattle.sequents.specs.Keys.{key_of_lem}
+use Rattle.sequents.specs.Part.{fit_item}
+use Rattle.axioms.specs.AxiomParts.{one_of}
 use Rattle.axioms.proofs.only.Goals as goal
 
-pub loop-i-init : goal.loop-i-init
-loop-i-init c = (search rules, search rules, refl)
+all_keys : (f : ℕ → Bool) (g : ℕ → ℕ) (l : List ℕ) → list_all (λ (x : ℕ). f (g x)) l ≡ all f (each g l)
+unfolding all each
+all_keys f g [] = refl
+all_keys f g (x ∷ l) = ap (λ (b : Bool). f (g x) && b) (all_keys f g l)
 
-pub key_of-requires : goal.key_of-requires
-key_of-requires c =
-    (c.requires.0, span_small c.requires.1 c.loop-i.i (omega arith) (omega arith))
-
-pub returns-then-not-one_of : goal.returns-then-not-one_of
-returns-then-not-one_of c =
-    let l = c.loop-i in
-    let told = rw c.key_of.ensures.1 at (was_false c.one_of.ensures (ap not c.if-not-one_of.true)) in
-    sym (l.invariant.2 ∙ only_stop c.args.canon.now c.args.codes.now l.i c.args.to (omega arith) c.requires.1.long c.args.x c.args.y told)
-
-pub loop-i-preserved : goal.loop-i-preserved
-loop-i-preserved c =
-    let l = c.loop-i in
-    let told = rw c.key_of.ensures.1 at (was_true c.one_of.ensures (ap not c.if-not-one_of.false)) in (
-      search rules,
-      search rules,
-      l.invariant.2 ∙ only_on c.args.canon.now c.args.codes.now l.i c.args.to (omega arith) c.requires.1.long c.args.x c.args.y told,
-    )
+pub all-requires-clause-callable : goal.all-requires-clause-callable
+all-requires-clause-callable c =
+    serves_from_places (YieldsList-from_slice _ c.iter.ensures.rest) (λ x q k. search (rules, tests)) (λ x k h e. let small = fit_item c.requires x.now k h e in search (rules, small))
 
 pub returns : goal.returns
 returns c =
-    sym (c.loop-i.invariant.2 ∙ only_end c.args.canon.now c.args.codes.now c.loop-i.i c.args.to (omega arith) c.requires.1.long c.args.x c.args.y)
+    let a = c.args in
+    all_from_yields_List (λ (x : ℕ). one_of a.x a.y (key_of_lem a.table.now.canon.now x)) _ _ _ c.all.ensures.ran (YieldsList-from_slice _ c.iter.ensures.rest) (λ x b q k. search (rules, tests))
+    ∙ all_keys (one_of a.x a.y) (key_of_lem a.table.now.canon.now) a.codes.now

@@ -5,5 +5,5 @@ use Rattle.blocks.proofs.start_word.Goals as goal
 pub returns-then-kind-eq-MU : goal.returns-then-kind-eq-MU
 returns-then-kind-eq-MU c = start_mu _ _ c.if-kind-eq-MU.true
 
-pub returns : goal.returns
-returns c = start_nu _ _ _ c.if-kind-eq-MU.false c.all_states.ensures
+pub returns-else-kind-eq-MU : goal.returns-else-kind-eq-MU
+returns-else-kind-eq-MU c = start_nu _ _ _ c.if-kind-eq-MU.false c.all_states.ensures

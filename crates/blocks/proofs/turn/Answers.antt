@@ -1,12 +1,7 @@
 -- the word stays, or its readers wait
 use native.Mathlib.Omega.{arith}
-use Rattle.blocks.specs.Turn.{turned_quiet, turned_loud}
+use Rattle.blocks.specs.Turn.{turned_loud}
 use Rattle.blocks.proofs.turn.Goals as goal
-
-pub returns-then-w-words : goal.returns-then-w-words
-returns-then-w-words c =
-    let args2 = c.args in
-    turned_quiet _ _ _ _ _ _ args2.users.now args2.block.now _ _ _ _ c.requires.e_in_bounds.1 c.remove.ensures _ c.formed-w.ensures c.if-w-words.true
 
 pub returns : goal.returns
 returns c =

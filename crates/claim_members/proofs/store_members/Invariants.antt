@@ -1,10 +1,6 @@
 -- The invariant: so many members are read and stored, and the next is at least the floor.
-use Prim.Native.Nat.{◌≤◌, ◌-◌}
 use Rattle.claim_members.specs.ClaimMembers.{Listed}
 use Rattle.claim_members.proofs.store_members.Given as goal
 
 abbrev pub invariant-loop-i : goal.invariant-loop-i
-invariant-loop-i l = (l.i ≤ l.count) × Listed l.kinds l.entries l.bytes l.from l.count l.start l.initial.members l.i l.at l.floor l.members
-
-abbrev pub decreases-loop-i : goal.decreases-loop-i
-decreases-loop-i l = l.count - l.i
+invariant-loop-i l = Listed l.kinds l.entries l.bytes l.from l.count l.start l.initial.members l.i l.at l.floor l.members

@@ -1,35 +1,40 @@
 -- One law for each way to be refused: opening, count, first entry.
 use native.Mathlib.Omega.{arith}
+use mathlib.Core.Path.{refl}
+use Rattle.verdict.proofs.Earned.{earned_none}
+use Rattle.verdict.proofs.PassedOn.{passed_on}
 use Rattle.claims.specs.ClaimWalk.{claim_opened, claim_long}
-use Rattle.claims.specs.ClaimBeginning.{first_place, begun_closed, begun_uncounted, begun_empty, begun_cut, begun_passed}
+use Rattle.claims.specs.ClaimBeginning.{begun_closed, begun_uncounted, begun_empty, begun_cut, begun_passed}
+use Rattle.claims.proofs.OpeningForm.{form_known}
 use Rattle.claims.proofs.judge_beginning.Goals as goal
 
-pub returns-then-form-eq0 : goal.returns-then-form-eq0
-returns-then-form-eq0 c = begun_closed _ c.opening_form-form.ensures c.if-form-eq0.true
+pub returns-in_default : goal.returns-in_default
+returns-in_default c = rw c.at.ensures (begun_closed _ refl (earned_none c.in_default.ensures))
 
-pub count_at-count-requires : goal.count_at-count-requires
-count_at-count-requires c = record { within = claim_long _ (claim_opened _ c.opening_form-form.ensures c.if-form-eq0.false); low = omega arith }
+pub count_at-requires : goal.count_at-requires
+count_at-requires c =
+    let (e, some) = form_known c.in-Some.ensures in
+    record { within = claim_long _ (claim_opened _ e some); low = omega arith }
 
-pub returns-then-value-eq0 : goal.returns-then-value-eq0
-returns-then-value-eq0 c =
-    begun_empty _ c.opening_form-form.ensures c.if-form-eq0.false c.fewest.ensures
-    c.in-Read.ensures c.if-value-eq0.true
+pub returns-in_err-count : goal.returns-in_err-count
+returns-in_err-count c =
+    let (e, some) = form_known c.in-Some.ensures in
+    rw (passed_on _ c.from_residual.ensures.1) (begun_uncounted _ e some c.fewest.ensures c.in_err-count.ensures)
 
-pub entry_at-requires : goal.entry_at-requires
-entry_at-requires c = first_place _ _ c.in-Read.ensures
+pub returns-then-count-eq0 : goal.returns-then-count-eq0
+returns-then-count-eq0 c =
+    let (e, some) = form_known c.in-Some.ensures in
+    begun_empty _ e some c.fewest.ensures c.in_ok-count.ensures c.if-count-eq0.true
 
-pub returns-in-Refused : goal.returns-in-Refused
-returns-in-Refused c =
-    begun_uncounted _ c.opening_form-form.ensures c.if-form-eq0.false c.fewest.ensures c.in-Refused.ensures
+pub returns-in_err-entry_at : goal.returns-in_err-entry_at
+returns-in_err-entry_at c =
+    let (e, some) = form_known c.in-Some.ensures in
+    rw (passed_on _ c.from_residual-in_err-entry_at.ensures.1)
+    (begun_cut _ e some c.fewest.ensures c.in_ok-count.ensures c.if-count-eq0.false
+    c.in_err-entry_at.ensures)
 
-pub returns-in-Refused-entry_at : goal.returns-in-Refused-entry_at
-returns-in-Refused-entry_at c =
-    begun_cut _ c.opening_form-form.ensures c.if-form-eq0.false c.fewest.ensures
-    c.in-Read.ensures c.if-value-eq0.false
-    c.in-Refused-entry_at.ensures
-
-pub returns-in-Read-entry_at : goal.returns-in-Read-entry_at
-returns-in-Read-entry_at c =
-    begun_passed _ c.opening_form-form.ensures c.if-form-eq0.false c.fewest.ensures
-    c.in-Read.ensures c.if-value-eq0.false
-    c.in-Read-entry_at.ensures.reached.found
+pub returns : goal.returns
+returns c =
+    let (e, some) = form_known c.in-Some.ensures in
+    begun_passed _ e some c.fewest.ensures c.in_ok-count.ensures c.if-count-eq0.false
+    c.in_ok-entry_at.ensures.reached.found

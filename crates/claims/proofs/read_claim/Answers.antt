@@ -1,48 +1,41 @@
 -- One law for each way to end: opening, entries, goals, bytes that follow, acceptance.
 use native.Mathlib.Omega.{arith}
-use Rattle.claims.specs.ClaimWalk.{claim_refused, claim_closed, claim_opened, claim_long, claim_no_entries, claim_no_goals, claim_follows, claim_got}
+use mathlib.Core.Path.{refl}
+use Rattle.verdict.proofs.Earned.{earned_none}
+use Rattle.verdict.proofs.PassedOn.{passed_on}
+use Rattle.claims.specs.ClaimWalk.{claim_refused, claim_closed, claim_opened, claim_long, claim_no_entries, claim_no_goals, claim_follows, claim_got, Opened}
+use Rattle.claims.proofs.OpeningForm.{form_known}
 use Rattle.claims.proofs.read_claim.Goals as goal
+use Rattle.claims.proofs.read_claim.Goals.{In-Some}
 
-pub returns-then-form-eq0 : goal.returns-then-form-eq0
-returns-then-form-eq0 c = claim_refused _ _ _ _ _ c.refuse.ensures (claim_closed _ c.opening_form-form.ensures c.if-form-eq0.true)
+-- the form is the one that the file is read in
+opened : (c : In-Some) → Opened c.args.bytes.now c.in-Some.form
+opened c = let (e, some) = form_known c.in-Some.ensures in claim_opened _ e some
+
+pub returns-in_default : goal.returns-in_default
+returns-in_default c = rw c.at.ensures (claim_refused (omega arith, omega arith) (claim_closed _ refl (earned_none c.in_default.ensures)))
 
 pub read_entries-requires : goal.read_entries-requires
-read_entries-requires c = record { entry_arrays = c.requires.entries; in_bounds = claim_long _ (claim_opened _ c.opening_form-form.ensures c.if-form-eq0.false) }
+read_entries-requires c = record { entry_arrays = c.requires.entries; in_bounds = claim_long _ (opened (goal.at.read_entries-requires c).In-Some) }
 
-pub read_goals-requires : goal.read_goals-requires
-read_goals-requires c =
-    let x = c.in-Read.ensures in
-    let p = c.requires in
-    record { starts_len = (p.starts, p.members, x.few); in_file = record { within = x.reached.inside; low = x.reached.near } }
+pub returns-in_err-entries : goal.returns-in_err-entries
+returns-in_err-entries c =
+    rw (passed_on _ c.from_residual.ensures.1)
+    (claim_refused (omega arith, omega arith)
+    (claim_no_entries _ (opened (goal.at.returns-in_err-entries c).In-Some) c.fewest.ensures c.in_err-entries.ensures))
 
-pub overflow_cast-end : goal.overflow_cast-end
-overflow_cast-end c =
-    let y = c.in-Read-read_goals.ensures in
-    omega (arith, y.reached.near)
+pub returns-in_err-goals : goal.returns-in_err-goals
+returns-in_err-goals c =
+    rw (passed_on _ c.from_residual-in_err-goals.ensures.1)
+    (claim_refused (omega arith, omega arith)
+    (claim_no_goals _ (opened (goal.at.returns-in_err-goals c).In-Some) c.fewest.ensures c.in_ok-entries.ensures c.in_err-goals.ensures))
 
-pub returns-then-end-bytes : goal.returns-then-end-bytes
-returns-then-end-bytes c =
-    claim_refused _ _ _ _ _ c.refuse-then-end-bytes.ensures
-    (claim_follows _ (claim_opened _ c.opening_form-form.ensures c.if-form-eq0.false) c.fewest.ensures
-    c.in-Read.ensures
-    c.in-Read-read_goals.ensures
-    c.if-end-bytes.true)
+pub returns-then-goals-bytes : goal.returns-then-goals-bytes
+returns-then-goals-bytes c =
+    rw c.at-then-goals-bytes.ensures
+    (claim_refused (omega arith, omega (arith, c.in_ok-goals.ensures.reached.near))
+    (claim_follows _ (opened (goal.at.returns-then-goals-bytes c).In-Some) c.fewest.ensures c.in_ok-entries.ensures c.in_ok-goals.ensures c.if-goals-bytes.true))
 
-pub returns-in-Refused : goal.returns-in-Refused
-returns-in-Refused c =
-    claim_refused _ _ _ _ _ c.refuse-in-Refused.ensures
-    (claim_no_entries _ (claim_opened _ c.opening_form-form.ensures c.if-form-eq0.false) c.fewest.ensures c.in-Refused.ensures)
-
-pub returns-in-Refused-read_goals : goal.returns-in-Refused-read_goals
-returns-in-Refused-read_goals c =
-    claim_refused _ _ _ _ _ c.refuse-in-Refused-read_goals.ensures
-    (claim_no_goals _ (claim_opened _ c.opening_form-form.ensures c.if-form-eq0.false) c.fewest.ensures
-    c.in-Read.ensures
-    c.in-Refused-read_goals.ensures)
-
-pub returns-else-end-bytes : goal.returns-else-end-bytes
-returns-else-end-bytes c =
-    claim_got _ (claim_opened _ c.opening_form-form.ensures c.if-form-eq0.false) c.fewest.ensures
-    c.in-Read.ensures
-    c.in-Read-read_goals.ensures
-    c.if-end-bytes.false
+pub returns : goal.returns
+returns c =
+    claim_got _ (opened (goal.at.returns c).In-Some) c.fewest.ensures c.in_ok-entries.ensures c.in_ok-goals.ensures c.if-goals-bytes.false

@@ -8,4 +8,4 @@ use Rattle.edges.proofs.sparse_or_dense.Goals as goal
 
 pub row_words-requires : goal.row_words-requires
 row_words-requires c =
-    (c.requires.1, λ a h. omega (arith, bit_within 16 c.args.used a c.ranges.used.fits h, ap length c.requires.0 ∙ length-replicate {A = ℕ} 1024 0))
+    λ a h. omega (arith, bit_within 16 c.args.used a c.ranges.used.fits h, ap length c.requires ∙ length-replicate {A = ℕ} 1024 0)

@@ -15,6 +15,6 @@ returns-then-set-ne0-3 c = lowest_found _ 2 _ c.lowest_bit-then-set-ne0-3.ensure
 pub returns-then-set-ne0-4 : goal.returns-then-set-ne0-4
 returns-then-set-ne0-4 c = lowest_found _ 3 _ c.lowest_bit-then-set-ne0-4.ensures.small c.lowest_bit-then-set-ne0-4.ensures.stands (omega arith) _ (omega arith)
 
-pub returns : goal.returns
-returns c =
+pub returns-else-set-ne0-4 : goal.returns-else-set-ne0-4
+returns-else-set-ne0-4 c =
     lowest_none _ c.requires c.if-set-ne0.false c.if-set-ne0-2.false c.if-set-ne0-3.false c.if-set-ne0-4.false

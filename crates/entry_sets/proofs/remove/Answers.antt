@@ -12,5 +12,5 @@ returns-then-k-lt128 c = removed_at _ 1 _ c.requires.1 (omega arith) (omega (ari
 pub returns-then-k-lt192 : goal.returns-then-k-lt192
 returns-then-k-lt192 c = removed_at _ 2 _ c.requires.1 (omega arith) (omega (arith, c.requires.0, c.if-k-lt192.true, c.if-k-lt64.false, c.if-k-lt128.false)) _ c.cleared-then-k-lt192.ensures
 
-pub returns : goal.returns
-returns c = removed_at _ 3 _ c.requires.1 (omega arith) (omega (arith, c.requires.0, c.if-k-lt64.false, c.if-k-lt128.false, c.if-k-lt192.false)) _ c.cleared-2.ensures
+pub returns-else-k-lt192 : goal.returns-else-k-lt192
+returns-else-k-lt192 c = removed_at _ 3 _ c.requires.1 (omega arith) (omega (arith, c.requires.0, c.if-k-lt64.false, c.if-k-lt128.false, c.if-k-lt192.false)) _ c.cleared-else-k-lt192.ensures

@@ -8,15 +8,21 @@ use Rattle.evaluator.proofs.fill_by_one.Goals as goal
 
 pub row_words-requires : goal.row_words-requires
 row_words-requires c =
-    (c.requires.size_bound.0, λ a h. omega (arith, row_room 1 c.args.used c.requires.size_bound.3 a h, length-replicate {A = ℕ} 64 0))
+    λ a h. omega (arith, row_room 1 c.args.used c.requires.2 a h, length-replicate {A = ℕ} 64 0)
+
+pub invariant_of-rowed : goal.invariant_of-rowed
+invariant_of-rowed c =
+    let model = c.args.model.now in
+    record {
+      states = model.table.states;
+      rows_inside = (made_rows c.args.claim.now.is_claim c.requires.1 model.table.states 64 c.row_words.ensures (row_room 1 c.args.used c.requires.2)).1;
+    }
 
 pub fill_words-requires : goal.fill_words-requires
 fill_words-requires c =
-    let given = c.requires in
-    let rows = made_rows given.claim given.size_bound.2 given.size_bound.0 64 c.row_words.ensures (row_room 1 c.args.used c.requires.size_bound.3) in
-    record { claim = given.claim; size_bound = (given.size_bound.0, given.size_bound.1, rows) }
+    (c.requires.0, (made_rows c.args.claim.now.is_claim c.requires.1 c.args.model.now.table.states 64 c.row_words.ensures (row_room 1 c.args.used c.requires.2)).0)
 
 pub returns : goal.returns
 returns c =
-    let given = c.requires in
-    c.fill_words.ensures ∙ made_words given.claim given.size_bound.2 given.size_bound.0 64 c.row_words.ensures c.args.masks.now
+    let model = c.args.model.now in
+    c.fill_words.ensures ∙ made_words c.args.claim.now.is_claim c.requires.1 model.table.states 64 c.row_words.ensures model.masks.now

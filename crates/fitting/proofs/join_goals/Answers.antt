@@ -21,7 +21,7 @@ use Rattle.fitting.proofs.join_goals.Goals.{After-find_rest-found, After-rest_fi
 
 -- the table that the function is lent, and the two goals
 abbrev table : Start → Table
-table s = table_of s.args.kinds.now s.args.a.now s.args.b.now s.args.entries
+table s = table_of s.args.table.now.columns.kinds.now s.args.table.now.columns.a.now s.args.table.now.columns.b.now s.args.table.now.columns.count
 
 abbrev first : Start → List ℕ
 first s = part s.args.members.now s.args.from s.args.to
@@ -30,21 +30,21 @@ abbrev second : Start → List ℕ
 second s = part s.args.others.now s.args.others_from s.args.others_to
 
 -- an entry past the table is no "A and B"
-past : (s : Start) → s.args.entries ≤ s.args.entry → kind (table s) s.args.entry ≡ Kind.AND → ⊥
+past : (s : Start) → s.args.table.now.columns.count ≤ s.args.entry → kind (table s) s.args.entry ≡ Kind.AND → ⊥
 past s h k =
     omega (
       arith,
       (kind_formula (table s) s.args.entry (λ q. omega (arith, k)) (λ q. omega (arith, k))).inside,
-      table_of_length s.args.kinds.now s.args.a.now s.args.b.now s.args.entries,
+      table_of_length s.args.table.now.columns.kinds.now s.args.table.now.columns.a.now s.args.table.now.columns.b.now s.args.table.now.columns.count,
     )
 
 -- the entry is one of the table
-there : (c : After-wide-2) → c.args.entry < c.args.entries
-there c = omega (arith, c.wide.ensures, c.if-entries-wide.false)
+there : (c : After-wide-2) → c.args.entry < c.args.table.now.columns.count
+there c = omega (arith, c.wide.ensures, c.if-table-wide.false)
 
-kind_is : (c : After-wide-2) → kind (table_of c.args.kinds.now c.args.a.now c.args.b.now c.args.entries) c.args.entry ≡ get_or c.args.kinds.now c.wide-2.result 0
+kind_is : (c : After-wide-2) → kind (table_of c.args.table.now.columns.kinds.now c.args.table.now.columns.a.now c.args.table.now.columns.b.now c.args.table.now.columns.count) c.args.entry ≡ get_or c.args.table.now.columns.kinds.now c.wide-2.result 0
 kind_is c =
-    table_of_kind c.args.kinds.now c.args.a.now c.args.b.now c.args.entries c.args.entry (there c) ∙ ap (λ (e : ℕ). get_or c.args.kinds.now e 0) (sym c.wide-2.ensures)
+    table_of_kind c.args.table.now.columns.kinds.now c.args.table.now.columns.a.now c.args.table.now.columns.b.now c.args.table.now.columns.count c.args.entry (there c) ∙ ap (λ (e : ℕ). get_or c.args.table.now.columns.kinds.now e 0) (sym c.wide-2.ensures)
 
 -- members of a table are members of one of 256
 widen : {n : ℕ} {ms : List ℕ} {i j : ℕ} → n ≤ 256 → Members n ms i j → Members 256 ms i j
@@ -52,46 +52,40 @@ widen h m = record { order = m.order; few = m.few; long = m.long; inside = λ e 
 
 -- the second goal as the program holds it
 abbrev keys : Start → List ℕ
-keys s = each (in_focus s.args.canon.now) (second s)
+keys s = each (in_focus s.args.table.now.canon.now) (second s)
 
-pub returns-then-entries-wide : goal.returns-then-entries-wide
-returns-then-entries-wide c = other_entry (table (goal.at.returns-then-entries-wide c).Start) c.args.entry (first (goal.at.returns-then-entries-wide c).Start) (second (goal.at.returns-then-entries-wide c).Start) (past (goal.at.returns-then-entries-wide c).Start (omega (arith, c.if-entries-wide.true, c.wide.ensures)))
+pub returns-then-table-wide : goal.returns-then-table-wide
+returns-then-table-wide c = other_entry (table (goal.at.returns-then-table-wide c).Start) c.args.entry (first (goal.at.returns-then-table-wide c).Start) (second (goal.at.returns-then-table-wide c).Start) (past (goal.at.returns-then-table-wide c).Start (omega (arith, c.if-table-wide.true, c.wide.ensures)))
 
-pub bounds-kinds-wide : goal.bounds-kinds-wide
-bounds-kinds-wide c = omega (arith, c.wide-2.ensures, c.wide.ensures, c.if-entries-wide.false, c.requires.0.small)
-
-pub returns-then-kinds-wide-ne-AND : goal.returns-then-kinds-wide-ne-AND
-returns-then-kinds-wide-ne-AND c = other_entry (table (goal.at.returns-then-kinds-wide-ne-AND c).Start) c.args.entry (first (goal.at.returns-then-kinds-wide-ne-AND c).Start) (second (goal.at.returns-then-kinds-wide-ne-AND c).Start) (λ k. c.if-kinds-wide-ne-AND.true (sym (kind_is (goal.at.returns-then-kinds-wide-ne-AND c).After-wide-2) ∙ k))
+pub returns-then-table-wide-ne-AND : goal.returns-then-table-wide-ne-AND
+returns-then-table-wide-ne-AND c = other_entry (table (goal.at.returns-then-table-wide-ne-AND c).Start) c.args.entry (first (goal.at.returns-then-table-wide-ne-AND c).Start) (second (goal.at.returns-then-table-wide-ne-AND c).Start) (λ k. c.if-table-wide-ne-AND.true (sym (kind_is (goal.at.returns-then-table-wide-ne-AND c).After-wide-2) ∙ k))
 
 pub put_goal-requires : goal.put_goal-requires
-put_goal-requires c = let p = c.requires.0 in (p.numbers.narrow, widen p.small p.first, holds_none)
+put_goal-requires c = (c.args.table.now.numbers.narrow, widen c.args.table.now.columns.few c.requires.0.first, holds_none)
 
 pub put_goal-requires-2 : goal.put_goal-requires-2
-put_goal-requires-2 c = let p = c.requires.0 in (p.numbers.narrow, widen p.small p.second, holds_none)
-
-pub find_rest-found-requires : goal.find_rest-found-requires
-find_rest-found-requires c = let p = c.requires in (p.0.numbers.narrow, widen p.0.small p.0.first, p.0.few, p.1)
+put_goal-requires-2 c = (c.args.table.now.numbers.narrow, widen c.args.table.now.columns.few c.requires.0.second, holds_none)
 
 -- what the entry's kind is told to be
-is_and : (k : After-find_rest-found) → kind (table_of k.args.kinds.now k.args.a.now k.args.b.now k.args.entries) k.args.entry ≡ Kind.AND
+is_and : (k : After-find_rest-found) → kind (table_of k.args.table.now.columns.kinds.now k.args.table.now.columns.a.now k.args.table.now.columns.b.now k.args.table.now.columns.count) k.args.entry ≡ Kind.AND
 is_and k =
-    table_of_kind k.args.kinds.now k.args.a.now k.args.b.now k.args.entries k.args.entry (omega (arith, k.wide.ensures, k.if-entries-wide.false))
-    ∙ ap (λ (e : ℕ). get_or k.args.kinds.now e 0) (sym k.wide-2.ensures) ∙ k.if-kinds-wide-ne-AND.false
+    table_of_kind k.args.table.now.columns.kinds.now k.args.table.now.columns.a.now k.args.table.now.columns.b.now k.args.table.now.columns.count k.args.entry (omega (arith, k.wide.ensures, k.if-table-wide.false))
+    ∙ ap (λ (e : ℕ). get_or k.args.table.now.columns.kinds.now e 0) (sym k.wide-2.ensures) ∙ k.if-table-wide-ne-AND.false
 
-kept_and : (k : After-find_rest-found) → get_or k.args.kinds.now k.args.entry 0 ≡ Kind.AND
-kept_and k = ap (λ (e : ℕ). get_or k.args.kinds.now e 0) (sym k.wide-2.ensures) ∙ k.if-kinds-wide-ne-AND.false
+kept_and : (k : After-find_rest-found) → get_or k.args.table.now.columns.kinds.now k.args.entry 0 ≡ Kind.AND
+kept_and k = ap (λ (e : ℕ). get_or k.args.table.now.columns.kinds.now e 0) (sym k.wide-2.ensures) ∙ k.if-table-wide-ne-AND.false
 
 -- what the last test says
-fit_told : (c : After-rest_fits) → c.rest_fits.result ≡ fits (table_of c.args.kinds.now c.args.a.now c.args.b.now c.args.entries) c.args.entry (part c.args.members.now c.args.from c.args.to) (part c.args.others.now c.args.others_from c.args.others_to)
+fit_told : (c : After-rest_fits) → c.rest_fits.result ≡ fits (table_of c.args.table.now.columns.kinds.now c.args.table.now.columns.a.now c.args.table.now.columns.b.now c.args.table.now.columns.count) c.args.entry (part c.args.members.now c.args.from c.args.to) (part c.args.others.now c.args.others_from c.args.others_to)
 fit_told c =
     let p = c.requires.0 in
-    let t = table_of c.args.kinds.now c.args.a.now c.args.b.now c.args.entries in
+    let t = table_of c.args.table.now.columns.kinds.now c.args.table.now.columns.a.now c.args.table.now.columns.b.now c.args.table.now.columns.count in
     let one = part c.args.members.now c.args.from c.args.to in
     let two = part c.args.others.now c.args.others_from c.args.others_to in
-    let found = c.find_rest-found.ensures (each (in_focus c.args.canon.now) two) c.put_goal-2.ensures in
+    let found = c.find_rest-found.ensures (each (in_focus c.args.table.now.canon.now) two) c.put_goal-2.ensures in
     let and_there =
-    table_of_kind c.args.kinds.now c.args.a.now c.args.b.now c.args.entries c.args.entry (omega (arith, c.wide.ensures, c.if-entries-wide.false))
-    ∙ ap (λ (e : ℕ). get_or c.args.kinds.now e 0) (sym c.wide-2.ensures) ∙ c.if-kinds-wide-ne-AND.false in
+    table_of_kind c.args.table.now.columns.kinds.now c.args.table.now.columns.a.now c.args.table.now.columns.b.now c.args.table.now.columns.count c.args.entry (omega (arith, c.wide.ensures, c.if-table-wide.false))
+    ∙ ap (λ (e : ℕ). get_or c.args.table.now.columns.kinds.now e 0) (sym c.wide-2.ensures) ∙ c.if-table-wide-ne-AND.false in
     c.rest_fits.ensures one two (goals_held p c.put_goal.ensures c.put_goal-2.ensures)
     ∙ ap (rest_fits_lem t c.args.entry one two) (rest_stands p c.requires.1 found)
     ∙ sym (few_left t c.args.entry one two and_there (omega (arith, rest_many p c.requires.1 found, c.if-found-ge24.false)))
@@ -107,7 +101,7 @@ rest_fits-requires c =
     let p = c.requires.0 in
     let at = goal.at.rest_fits-requires c in
     let found = c.find_rest-found.ensures (keys at.Start) c.put_goal-2.ensures in
-    (record { well = p.well; numbers = p.numbers; small = p.small; inside = there at.After-wide-2; of_kind = kept_and at.After-find_rest-found }, rest_inside p c.requires.1 found)
+    (record { well = p.well; inside = there at.After-wide-2; of_kind = kept_and at.After-find_rest-found }, rest_inside p c.requires.1 found)
 
 pub returns-then-not-rest_fits : goal.returns-then-not-rest_fits
 returns-then-not-rest_fits c = sym (fit_told (goal.at.returns-then-not-rest_fits c).After-rest_fits) ∙ c.if-not-rest_fits.true

@@ -23,55 +23,49 @@ use Rattle.fitting.proofs.rest_fits.Goals.{After-has, Start}
 
 -- the table that the function is lent
 abbrev table : Start → Table
-table s = table_of s.args.kinds.now s.args.a.now s.args.b.now s.args.entries
+table s = table_of s.args.table.now.columns.kinds.now s.args.table.now.columns.a.now s.args.table.now.columns.b.now s.args.table.now.columns.count
 
 abbrev found : Start → List ℕ
 found s = part s.args.rest.now 0 s.args.count
 
 of_and : (s : Start) → kind (table s) s.args.entry ≡ Kind.AND
-of_and s = table_of_kind s.args.kinds.now s.args.a.now s.args.b.now s.args.entries s.args.entry s.requires.0.inside ∙ s.requires.0.of_kind
+of_and s = table_of_kind s.args.table.now.columns.kinds.now s.args.table.now.columns.a.now s.args.table.now.columns.b.now s.args.table.now.columns.count s.args.entry s.requires.0.inside ∙ s.requires.0.of_kind
 
 inside : (s : Start) (e : ℕ) → elements (found s) e → e < length (table s)
-inside s e m = omega (arith, s.requires.1.inside e m, table_of_length s.args.kinds.now s.args.a.now s.args.b.now s.args.entries)
+inside s e m = omega (arith, s.requires.1.inside e m, table_of_length s.args.table.now.columns.kinds.now s.args.table.now.columns.a.now s.args.table.now.columns.b.now s.args.table.now.columns.count)
 
 is_formula : (s : Start) → Formula (table s) s.args.entry
 is_formula s = record {
-  inside = omega (arith, s.requires.0.inside, table_of_length s.args.kinds.now s.args.a.now s.args.b.now s.args.entries);
+  inside = omega (arith, s.requires.0.inside, table_of_length s.args.table.now.columns.kinds.now s.args.table.now.columns.a.now s.args.table.now.columns.b.now s.args.table.now.columns.count);
   no_name = λ h. omega (arith, of_and s);
 }
 
 -- whether the entry is a member of the rest
-told : (c : After-has) → c.has.result ≡ holds (table_of c.args.kinds.now c.args.a.now c.args.b.now c.args.entries) (part c.args.rest.now 0 c.args.count) c.args.entry
+told : (c : After-has) → c.has.result ≡ holds (table_of c.args.table.now.columns.kinds.now c.args.table.now.columns.a.now c.args.table.now.columns.b.now c.args.table.now.columns.count) (part c.args.rest.now 0 c.args.count) c.args.entry
 told c =
-    let t = table_of c.args.kinds.now c.args.a.now c.args.b.now c.args.entries in
+    let t = table_of c.args.table.now.columns.kinds.now c.args.table.now.columns.a.now c.args.table.now.columns.b.now c.args.table.now.columns.count in
     let ms = part c.args.rest.now 0 c.args.count in
-    let long = table_of_length c.args.kinds.now c.args.a.now c.args.b.now c.args.entries in
-    let N = c.requires.0.numbers in
+    let long = table_of_length c.args.table.now.columns.kinds.now c.args.table.now.columns.a.now c.args.table.now.columns.b.now c.args.table.now.columns.count in
+    let N = c.args.table.now.numbers in
     let within : c.args.entry < length t = omega (arith, c.requires.0.inside, long) in
-    let here = c.key.ensures.1 ∙ ap (focusAt c.args.canon.now) c.wide.ensures ∙ key_at_lem N c.args.entry 1 within in
-    c.has.ensures (each (focusAt c.args.canon.now) ms) c.put_goal.ensures
+    let here = c.key.ensures.1 ∙ ap (focusAt c.args.table.now.canon.now) c.wide.ensures ∙ key_at_lem N c.args.entry 1 within in
+    c.has.ensures (each (focusAt c.args.table.now.canon.now) ms) c.put_goal.ensures
     ∙ ap₂ {C = Bool} member (column_keys t N ms (λ (e : ℕ) (m : elements ms e). omega (arith, c.requires.1.inside e m, long))) here
     ∙ focused_holds t ms c.args.entry
 
 pub put_goal-requires : goal.put_goal-requires
 put_goal-requires c =
     let p = c.requires in
-    (p.0.numbers.narrow, record { order = p.1.order; few = p.1.few; long = p.1.long; inside = λ e m. omega (arith, p.1.inside e m, p.0.small) }, holds_none)
-
-pub key-requires : goal.key-requires
-key-requires c = let p = c.requires.0 in (p.numbers.narrow, rw c.wide.ensures (omega (arith, p.inside, p.small)), omega arith)
+    (c.args.table.now.numbers.narrow, record { order = p.1.order; few = p.1.few; long = p.1.long; inside = λ e m. omega (arith, p.1.inside e m, c.args.table.now.columns.few) }, holds_none)
 
 pub returns-then-has : goal.returns-then-has
 returns-then-has c l m H = sym (root_apart (table (goal.at.returns-then-has c).Start) c.args.entry (is_formula (goal.at.returns-then-has c).Start) (of_and (goal.at.returns-then-has c).Start) (found (goal.at.returns-then-has c).Start) l m (sym (told (goal.at.returns-then-has c).After-has) ∙ c.if-has.true))
-
-pub code_of-requires : goal.code_of-requires
-code_of-requires c = let p = c.requires.0 in (omega (arith, p.inside, p.small), omega arith)
 
 pub and_kept-requires : goal.and_kept-requires
 and_kept-requires c =
     let p = c.requires.0 in
     let here : entry_of_lem c.code_of.result ≡ c.args.entry = ap entry_of_lem c.code_of.ensures.1 ∙ code_entry c.args.entry 1 (omega arith) in
-    record { well = p.well; numbers = p.numbers; small = p.small; inside = rw here p.inside; no_name = rw here (is_formula (goal.at.and_kept-requires c).Start).no_name }
+    record { well = p.well; numbers = c.args.table.now.numbers; small = c.args.table.now.columns.few; inside = rw here p.inside; no_name = rw here (is_formula (goal.at.and_kept-requires c).Start).no_name }
 
 pub returns : goal.returns
 returns c l m H =
@@ -80,7 +74,7 @@ returns c l m H =
     let apart : holds t (found (goal.at.returns c).Start) e ≡ false = sym (told (goal.at.returns c).After-has) ∙ c.if-has.false in
     let kept = rw c.code_of.ensures.1 at c.and_kept.ensures in
     kept (code e 1 ∷ in_focus (found (goal.at.returns c).Start)) (in_focus l) (in_focus m)
-    (root_side t e (is_formula (goal.at.returns c).Start) (of_and (goal.at.returns c).Start) (found (goal.at.returns c).Start) apart (rw (← column_keys t c.requires.0.numbers (found (goal.at.returns c).Start) (inside (goal.at.returns c).Start)) c.put_goal.ensures))
+    (root_side t e (is_formula (goal.at.returns c).Start) (of_and (goal.at.returns c).Start) (found (goal.at.returns c).Start) apart (rw (← column_keys t c.args.table.now.numbers (found (goal.at.returns c).Start) (inside (goal.at.returns c).Start)) c.put_goal.ensures))
     (rw (code_keys t l) H.first)
     (rw (code_keys t m) H.second)
     ∙ root_kept t e (is_formula (goal.at.returns c).Start) (of_and (goal.at.returns c).Start) (found (goal.at.returns c).Start) apart l m

@@ -22,46 +22,40 @@ members_at G i h =
 
 -- what is compared at goal i
 compared : (c : After-root_is_goal) → let a = c.args in (t : Table)
-    → GoalsOver t a.canon.now a.bounds.now a.members.now a.goals a.starts.now a.codes.now a.nodes
+    → GoalsOver t a.table.now.canon.now a.goals.now.bounds.now a.goals.now.members.now a.goals.now.count a.proof.now.starts.now a.proof.now.codes.now a.proof.now.tree.nodes
     → (rs ls : List ℕ)
     → c.root_is_goal.result
-    ≡ states t (plain (proof_of rs ls a.starts.now a.codes.now a.nodes)) (get_or a.roots.now c.loop-i.i 0) (codes_at_lem a.bounds.now a.members.now c.loop-i.i)
+    ≡ states t (plain (proof_of rs ls a.proof.now.starts.now a.proof.now.codes.now a.proof.now.tree.nodes)) (get_or a.goals.now.roots.now c.loop-i.i 0) (codes_at_lem a.goals.now.bounds.now a.goals.now.members.now c.loop-i.i)
 compared c t over rs ls =
     let a = c.args in
     let h = c.loop-i-test.true in
-    let inside = c.requires.narrow.2.inside _ h in
-    let root : RootOver t a.canon.now (codes_at_lem a.bounds.now a.members.now c.loop-i.i) (codes_at_lem a.starts.now a.codes.now (get_or a.roots.now c.loop-i.i 0)) =
+    let inside = c.requires.goals.roots.inside _ h in
+    let root : RootOver t a.table.now.canon.now (codes_at_lem a.goals.now.bounds.now a.goals.now.members.now c.loop-i.i) (codes_at_lem a.proof.now.starts.now a.proof.now.codes.now (get_or a.goals.now.roots.now c.loop-i.i 0)) =
     record { numbers = over.numbers; members = over.members _ h; codes = over.codes _ inside } in
-    rw (c.wide.ensures, c.wide-in-loop-i.ensures, c.wide-in-loop-i-2.ensures) at c.root_is_goal.ensures t root rs ls a.nodes inside
+    rw (c.wide.ensures, c.wide-in-loop-i.ensures, c.wide-in-loop-i-2.ensures) at c.root_is_goal.ensures t root rs ls a.proof.now.tree.nodes inside
 
 pub loop-i-init : goal.loop-i-init
-loop-i-init c = (omega arith, λ t over rs ls j h. absurd (omega arith))
+loop-i-init c t over rs ls j h = absurd (omega arith)
 
 pub root_is_goal-requires : goal.root_is_goal-requires
 root_is_goal-requires c =
     let h = c.loop-i-test.true in (
-      c.requires.narrow.0,
-      rw (c.wide.ensures, c.wide-in-loop-i.ensures) (members_at c.requires.narrow.1 _ h),
-      c.requires.by_index _ (omega (arith, c.wide-in-loop-i-2.ensures, c.requires.narrow.2.inside _ h)),
+      rw (c.wide.ensures, c.wide-in-loop-i.ensures) (members_at c.requires.goals.placed _ h),
+      c.requires.by_index _ (omega (arith, c.wide-in-loop-i-2.ensures, c.requires.goals.roots.inside _ h)),
     )
 
 pub returns-then-not-root_is_goal : goal.returns-then-not-root_is_goal
 returns-then-not-root_is_goal c t over f rs ls =
-    goals_fail t _ _ _ _ _ _ c.requires.narrow.2 f rs ls c.loop-i-test.true
-    (c.loop-i.invariant.1 t over)
+    goals_fail t _ _ _ _ _ _ c.requires.goals.roots f rs ls c.loop-i-test.true
+    (c.loop-i.invariant t over)
     (sym (compared (goal.at.returns-then-not-root_is_goal c).After-root_is_goal t over rs ls) ∙ c.if-not-root_is_goal.true)
 
-pub loop-i-smaller : goal.loop-i-smaller
-loop-i-smaller c = omega arith
-
 pub loop-i-preserved : goal.loop-i-preserved
-loop-i-preserved c =
-    let a = c.args in (
-      omega arith,
-      λ t over. one_stated t a.bounds.now a.members.now a.roots.now a.starts.now a.codes.now a.nodes
-          (c.loop-i.invariant.1 t over)
-          (λ rs ls. sym (compared (goal.at.loop-i-preserved c).After-root_is_goal t over rs ls) ∙ c.if-not-root_is_goal.false),
-    )
+loop-i-preserved c t over =
+    let a = c.args in
+    one_stated t a.goals.now.bounds.now a.goals.now.members.now a.goals.now.roots.now a.proof.now.starts.now a.proof.now.codes.now a.proof.now.tree.nodes
+    (c.loop-i.invariant t over)
+    (λ rs ls. sym (compared (goal.at.loop-i-preserved c).After-root_is_goal t over rs ls) ∙ c.if-not-root_is_goal.false)
 
 pub returns : goal.returns
-returns c t over f rs ls = goals_pass t _ _ _ _ _ _ c.requires.narrow.2 f rs ls c.loop-i-test.false (c.loop-i.invariant.1 t over)
+returns c t over f rs ls = goals_pass t _ _ _ _ _ _ c.requires.goals.roots f rs ls c.loop-i-test.false (c.loop-i.invariant t over)

@@ -35,11 +35,11 @@ overflow_add-node_count-2 c = let p = c.requires in omega (arith, (counted (goal
 
 pub returns-then-node_count-gt1024 : goal.returns-then-node_count-gt1024
 returns-then-node_count-gt1024 c =
-    wholly_refused (too_many (table_of c.args.kinds.now c.args.a.now c.args.b.now c.args.entries) (take c.args.members c.args.goal.now) (proof_in c.args.first.now 6) (proof_in c.args.second.now 6) c.args.entry _ _ (omega (arith, c.if-node_count-gt1024.true, (counted (goal.at.returns-then-node_count-gt1024 c).After-node_count-2).0, (counted (goal.at.returns-then-node_count-gt1024 c).After-node_count-2).1))) c.refuse.ensures
+    wholly_refused (too_many (table_of c.args.table.now.kinds.now c.args.table.now.a.now c.args.table.now.b.now c.args.table.now.count) (take c.args.members c.args.goal.now) (proof_in c.args.first.now 6) (proof_in c.args.second.now 6) c.args.entry _ _ (omega (arith, c.if-node_count-gt1024.true, (counted (goal.at.returns-then-node_count-gt1024 c).After-node_count-2).0, (counted (goal.at.returns-then-node_count-gt1024 c).After-node_count-2).1))) c.refuse.ensures
 
 pub returns-then-claim-claim_length : goal.returns-then-claim-claim_length
 returns-then-claim-claim_length c =
-    wholly_refused (claim_short (table_of c.args.kinds.now c.args.a.now c.args.b.now c.args.entries) (take c.args.members c.args.goal.now) (proof_in c.args.first.now 6) (proof_in c.args.second.now 6) c.args.entry _ _ (few (goal.at.returns-then-claim-claim_length c).Else-node_count-gt1024) (omega (arith, c.if-claim-claim_length.true, c.requires.long))) c.refuse-then-claim-claim_length.ensures
+    wholly_refused (claim_short (table_of c.args.table.now.kinds.now c.args.table.now.a.now c.args.table.now.b.now c.args.table.now.count) (take c.args.members c.args.goal.now) (proof_in c.args.first.now 6) (proof_in c.args.second.now 6) c.args.entry _ _ (few (goal.at.returns-then-claim-claim_length c).Else-node_count-gt1024) (omega (arith, c.if-claim-claim_length.true, c.requires.long))) c.refuse-then-claim-claim_length.ensures
 
 pub overflow_mul-proof_length : goal.overflow_mul-proof_length
 overflow_mul-proof_length c = omega (arith, c.requires.members.few)
@@ -53,7 +53,7 @@ overflow_add-proof_length-3 c = omega (arith, c.requires.members.few, c.requires
 pub returns-then-proof-proof_length : goal.returns-then-proof-proof_length
 returns-then-proof-proof_length c =
     wholly_refused
-    (proof_short (table_of c.args.kinds.now c.args.a.now c.args.b.now c.args.entries) (take c.args.members c.args.goal.now) (proof_in c.args.first.now 6) (proof_in c.args.second.now 6) c.args.entry _ _ (few (goal.at.returns-then-proof-proof_length c).Else-node_count-gt1024) (omega (arith, c.if-claim-claim_length.false, c.requires.long)) (omega (arith, c.if-proof-proof_length.true, proof_long c.requires)))
+    (proof_short (table_of c.args.table.now.kinds.now c.args.table.now.a.now c.args.table.now.b.now c.args.table.now.count) (take c.args.members c.args.goal.now) (proof_in c.args.first.now 6) (proof_in c.args.second.now 6) c.args.entry _ _ (few (goal.at.returns-then-proof-proof_length c).Else-node_count-gt1024) (omega (arith, c.if-claim-claim_length.false, c.requires.long)) (omega (arith, c.if-proof-proof_length.true, proof_long c.requires)))
     c.refuse-then-proof-proof_length.ensures
 
 pub overflow_cast-counts : goal.overflow_cast-counts
@@ -77,7 +77,7 @@ overflow_add-result c = let p = c.requires in omega (arith, p.near, p.members.fe
 
 pub returns : goal.returns
 returns c =
-    let fits = both_fit (table_of c.args.kinds.now c.args.a.now c.args.b.now c.args.entries) (take c.args.members c.args.goal.now) (proof_in c.args.first.now 6) (proof_in c.args.second.now 6) c.args.entry (length c.args.claim.now) (length c.args.proof.now) (few (goal.at.returns c).Else-node_count-gt1024) (omega (arith, c.requires.long, c.if-claim-claim_length.false)) (omega (arith, proof_long c.requires, c.if-proof-proof_length.false)) in
+    let fits = both_fit (table_of c.args.table.now.kinds.now c.args.table.now.a.now c.args.table.now.b.now c.args.table.now.count) (take c.args.members c.args.goal.now) (proof_in c.args.first.now 6) (proof_in c.args.second.now 6) c.args.entry (length c.args.claim.now) (length c.args.proof.now) (few (goal.at.returns c).Else-node_count-gt1024) (omega (arith, c.requires.long, c.if-claim-claim_length.false)) (omega (arith, proof_long c.requires, c.if-proof-proof_length.false)) in
     wholly_good fits (omega (arith, c.requires.long, proof_long c.requires))
     (c.put_claim.ensures clm1 refl ∙ ap (λ (b : List ℕ). written b c.args.claim.now) (claim_is c.requires _ refl))
     c.put_joined.ensures

@@ -1,18 +1,12 @@
-use Rattle.std.proofs.Common.{arith, ◌≡◌}
+use Rattle.std.proofs.Common.{arith}
 use Rattle.joined_proofs.specs.Focusing.{none_focused, more_focused, member_small}
 use Rattle.joined_proofs.proofs.put_focused.Goals as goal
 
 pub loop-i-init : goal.loop-i-init
-loop-i-init c = (omega arith, none_focused c.args.members.now c.args.codes.now)
-
-pub bounds-members-i : goal.bounds-members-i
-bounds-members-i c = omega (arith, c.requires.0.few)
+loop-i-init c = none_focused c.args.members.now c.args.codes.now
 
 pub code_of-requires : goal.code_of-requires
 code_of-requires c = (member_small c.requires.0 c.loop-i-test.true, omega arith)
-
-pub bounds-codes-i : goal.bounds-codes-i
-bounds-codes-i c = omega (arith, c.requires.0.few)
 
 pub loop-i-preserved : goal.loop-i-preserved
 loop-i-preserved c =
@@ -20,9 +14,4 @@ loop-i-preserved c =
     let more =
     more_focused c.args.members.now c.args.codes.now turn.i
     (omega (arith, c.requires.0.few, c.requires.0.long)) (omega (arith, c.requires.0.few, c.requires.1)) in
-    (omega arith, rw (turn.invariant.1, c.code_of.ensures.1) more)
-
-pub returns : goal.returns
-returns c =
-    let whole : c.loop-i.i ≡ c.args.count = omega (arith, c.loop-i.invariant.0) in
-    rw (← whole) c.loop-i.invariant.1
+    rw (turn.invariant, c.code_of.ensures.1) more

@@ -43,24 +43,6 @@ module _ (c : After-node_count-others) where
       joined_fits c.args.entry (take c.args.count c.args.members.now) (proof_in c.args.first.now 6) (proof_in c.args.second.now 6)
       (c.node_count-nodes.ensures 6) (c.node_count-others.ensures 6) c.args.out.now c.requires.5
 
-pub overflow_add-nodes : goal.overflow_add-nodes
-overflow_add-nodes c = omega (arith, few (goal.at.overflow_add-nodes c).After-node_count-others)
-
-pub overflow_add-nodes-2 : goal.overflow_add-nodes-2
-overflow_add-nodes-2 c = omega (arith, few (goal.at.overflow_add-nodes-2 c).After-node_count-others)
-
-pub open_proof-requires : goal.open_proof-requires
-open_proof-requires c =
-    let counted = (goal.at.open_proof-requires c).After-node_count-others in
-    let e = c.args.entry in
-    let ms = take c.args.count c.args.members.now in
-    let p = proof_in c.args.first.now 6 in
-    let q = proof_in c.args.second.now 6 in
-    let n = c.node_count-nodes.result in
-    let m = c.node_count-others.result in
-    let out = c.args.out.now in
-    (room_left (opening_bytes n m) (root e ms p q n m out ++ trees e ms p q n m out) (all_left (joined_parts e ms p q n m) out 0) (all_fit counted), omega (arith, few counted))
-
 pub put_root-at-requires : goal.put_root-at-requires
 put_root-at-requires c =
     let counted = (goal.at.put_root-at-requires c).After-node_count-others in
@@ -91,12 +73,6 @@ copy_nodes-next-requires c =
       tree.movable 1 (omega arith),
       room_left (tree_bytes 1 p) (tree_bytes (n + 1) q) (root_left e ms p q n m c.args.out.now c.open_proof.ensures c.put_root-at.ensures) (all_fit counted),
     )
-
-pub overflow_add-nodes-3 : goal.overflow_add-nodes-3
-overflow_add-nodes-3 c = omega (arith, few (goal.at.overflow_add-nodes-3 c).After-node_count-others)
-
-pub overflow_cast-nodes : goal.overflow_cast-nodes
-overflow_cast-nodes c = omega (arith, few (goal.at.overflow_cast-nodes c).After-node_count-others)
 
 pub copy_nodes-requires : goal.copy_nodes-requires
 copy_nodes-requires c =

@@ -24,9 +24,6 @@ module _ (c : After-put_focused) where
   root_is : node_at Rule.AND (c.code_of.result ∷ 1 ∷ (c.args.nodes + 1) ∷ 0 ∷ []) 0 codes 0 c.args.count ≡ root
   root_is = root_node c.requires.0 (replicate 24 0) c.put_focused.ensures c.args.entry c.args.nodes c.code_of.ensures.1
 
-pub slice_bounds-put_node-end-2 : goal.slice_bounds-put_node-end-2
-slice_bounds-put_node-end-2 c = sym (still_24 (goal.at.slice_bounds-put_node-end-2 c).After-put_focused)
-
 pub put_node-requires : goal.put_node-requires
 put_node-requires c =
     let here = (goal.at.put_node-requires c).After-put_focused in (

@@ -30,10 +30,15 @@ module _ (c : After-read_half-entries) where
   second : CorrectHalf c.args.claim2.now c.args.proof2.now
   second = (half_accepts _ _ other-claim-bytes other-proof-bytes).0 c.requires.1
 
-pub same_entries-requires : goal.same_entries-requires
-same_entries-requires c =
-    let x = first (goal.at.same_entries-requires c).After-read_half-entries in
-    (c.read_half-entries.ensures x.correct.read.claim x.correct.formed.claim_formed x.one).entries
+pub invariant_of-table : goal.invariant_of-table
+invariant_of-table c =
+    let x = first (goal.at.invariant_of-table c).After-read_half-entries in
+    record { few = (c.read_half-entries.ensures x.correct.read.claim x.correct.formed.claim_formed x.one).entries }
+
+pub invariant_of-other : goal.invariant_of-other
+invariant_of-other c =
+    let y = second (goal.at.invariant_of-other c).After-read_half-entries in
+    record { few = (c.read_half-other_entries.ensures y.correct.read.claim y.correct.formed.claim_formed y.one).entries }
 
 pub returns-then-not-same_entries : goal.returns-then-not-same_entries
 returns-then-not-same_entries c =

@@ -20,8 +20,8 @@ module _ (claim proof : List ℕ) where
   unfolding half_verdict
   opened h = rw h refl
 
-pub returns-then-not-opens : goal.returns-then-not-opens
-returns-then-not-opens c = closed _ _ (sym c.opens.ensures ∙ c.if-not-opens.true)
+pub returns-then-not-opens_with : goal.returns-then-not-opens_with
+returns-then-not-opens_with c = rw c.at.ensures (closed _ _ (sym c.opens_with.ensures ∙ c.if-not-opens_with.true))
 
 pub returns : goal.returns
-returns c = c.judge_files.ensures ∙ opened _ _ (sym c.opens.ensures ∙ c.if-not-opens.false)
+returns c = c.judge_files.ensures ∙ opened _ _ (sym c.opens_with.ensures ∙ c.if-not-opens_with.false)

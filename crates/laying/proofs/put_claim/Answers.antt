@@ -1,5 +1,4 @@
 -- The parts of a claim file, one run behind the other.
-use native.Mathlib.Omega.{arith}
 use mathlib.Core.Path.{◌≡◌, refl}
 use mathlib.Core.List.{List, ◌++◌}
 use Prim.Native.Nat.{ℕ, ◌+◌, ◌≤◌}
@@ -57,11 +56,6 @@ module _ (s : Start) where
 
   count_left : {at next : ℕ} {then now : List ℕ} → Left whole 0 out (number ++ goals) at then → Put then at number next now → Left whole 0 out goals next now
   count_left l p = less_left number goals l p
-
-pub open_claim-requires : goal.open_claim-requires
-open_claim-requires c =
-    let s = (goal.at.open_claim-requires c).Start in
-    (room_left (opening s) (entries s ++ (number s ++ goals s)) (all_left (whole s) (out s) 0) (all_fit s), omega (arith, c.requires.1))
 
 pub put_entries-at-requires : goal.put_entries-at-requires
 put_entries-at-requires c =

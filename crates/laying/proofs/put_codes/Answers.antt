@@ -1,10 +1,10 @@
 -- The count, then the codes.
 use native.Mathlib.Omega.{arith}
-use mathlib.Core.Path.{◌≡◌, sym, ap}
-use mathlib.Core.List.{[], ◌∷◌}
+use mathlib.Core.Path.{◌≡◌, ap}
+use mathlib.Core.List.{◌∷◌}
 use Prim.Native.Nat.{◌+◌, ◌*◌, ◌≤◌}
 use lib.ListN.{length, length-set}
-use Rattle.laying.specs.Laying.{numbers_left, codes_part, codes_none, codes_some, numbers_length, put_as, put_join, nothing_put, byte_put}
+use Rattle.laying.specs.Laying.{numbers_left, codes_part, codes_some, numbers_length}
 use Rattle.laying.proofs.put_codes.Goals as goal
 use Rattle.laying.proofs.put_codes.Goals.{Else-count-eq0}
 
@@ -15,17 +15,5 @@ some c = codes_some c.args.codes.now c.args.start c.args.count c.requires.1 (ome
 with_codes : (c : Else-count-eq0) → c.args.at + (1 + 2 * c.args.count) ≤ length c.args.out.now
 with_codes c = omega (arith, c.requires.0, ap length (some c), numbers_length c.args.codes.now c.args.start c.args.count c.requires.1)
 
-pub returns-then-count-eq0 : goal.returns-then-count-eq0
-returns-then-count-eq0 c = let given = c.args in nothing_put given.out.now given.at (codes_none given.codes.now given.start given.count (omega arith))
-
-pub bounds-out-at : goal.bounds-out-at
-bounds-out-at c = omega (arith, with_codes (goal.at.bounds-out-at c).Else-count-eq0)
-
 pub put_numbers-requires : goal.put_numbers-requires
 put_numbers-requires c = simp length-set (omega (arith, with_codes (goal.at.put_numbers-requires c).Else-count-eq0, c.requires.1))
-
-pub returns : goal.returns
-returns c =
-    let s = c.args in
-    put_as (sym (some (goal.at.returns c).Else-count-eq0))
-    (put_join (s.count ∷ []) (numbers_left s.codes.now s.start s.count) (byte_put s.out.now s.at s.count) c.put_numbers.ensures)

@@ -5,7 +5,7 @@ use Rattle.formula.specs.Spelled.{Spelled}
 use Rattle.formula.specs.Plain.{plain_entry}
 use Rattle.claim_files.specs.ClaimFile.{encode_entry}
 use Rattle.writing.specs.Spelling.{spelled_as}
-use Rattle.laying.specs.Laying.{Left, entries_left, entries_begin, entries_step, entries_end_lem, less_left, none_left, room_left}
+use Rattle.laying.specs.Laying.{Left, entries_left, entries_step, entries_end_lem, less_left, none_left, room_left}
 use Rattle.laying.proofs.put_entries.Goals as goal
 use Rattle.laying.proofs.put_entries.Goals.{In-loop-i}
 
@@ -24,23 +24,19 @@ module _ (c : In-loop-i) where
   after = left (i + 1) (c.args.count - (i + 1))
 
   this_left : Left (left 0 c.args.count) 6 c.args.out.now (encode_entry this ++ after) c.loop-i.at c.loop-i.out
-  this_left = rw (← (entries_step c.args.kinds.now c.args.a.now c.args.b.now c.args.count i c.loop-i-test.true)) c.loop-i.invariant.1
-
-pub loop-i-init : goal.loop-i-init
-loop-i-init c = let entry = c.args in (omega arith, entries_begin entry.kinds.now entry.a.now entry.b.now entry.count entry.out.now)
+  this_left = rw (← (entries_step c.args.kinds.now c.args.a.now c.args.b.now c.args.count i c.loop-i-test.true)) c.loop-i.invariant
 
 pub put_entry-at-requires : goal.put_entry-at-requires
 put_entry-at-requires c =
-    room_left (encode_entry (this (goal.at.put_entry-at-requires c).In-loop-i)) (after (goal.at.put_entry-at-requires c).In-loop-i) (this_left (goal.at.put_entry-at-requires c).In-loop-i) c.requires.0
+    let t = (goal.at.put_entry-at-requires c).In-loop-i in
+    room_left (encode_entry (this t)) (after t) (this_left t) c.requires.0
 
 pub loop-i-preserved : goal.loop-i-preserved
 loop-i-preserved c =
-    (omega arith, less_left (encode_entry (this (goal.at.loop-i-preserved c).In-loop-i)) (after (goal.at.loop-i-preserved c).In-loop-i) (this_left (goal.at.loop-i-preserved c).In-loop-i) c.put_entry-at.ensures)
-
-pub shape_of-out : goal.shape_of-out
-shape_of-out c = c.loop-i.invariant.1.long
+    let t = (goal.at.loop-i-preserved c).In-loop-i in
+    less_left (encode_entry (this t)) (after t) (this_left t) c.put_entry-at.ensures
 
 pub returns : goal.returns
 returns c =
     let entry = c.args in
-    none_left (entries_end_lem entry.kinds.now entry.a.now entry.b.now entry.count c.loop-i.i (omega arith)) c.loop-i.invariant.1
+    none_left (entries_end_lem entry.kinds.now entry.a.now entry.b.now entry.count c.loop-i.i (omega arith)) c.loop-i.invariant

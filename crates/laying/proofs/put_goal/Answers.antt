@@ -4,7 +4,7 @@ use mathlib.Core.Path.{refl, ap}
 use Prim.Native.Nat.{◌+◌, ◌*◌, ◌≤◌}
 use lib.ListN.{length}
 use Rattle.encoding.specs.Encode.{encode_two}
-use Rattle.laying.specs.Laying.{Put, numbers_left, numbers_length, put_as, put_join, put_long}
+use Rattle.laying.specs.Laying.{Put, numbers_length, put_long}
 use Rattle.laying.specs.Goals.{goal_parts}
 use Rattle.laying.proofs.put_goal.Goals as goal
 use Rattle.laying.proofs.put_goal.Goals.{Start, After-put_two}
@@ -21,10 +21,3 @@ pub put_numbers-requires : goal.put_numbers-requires
 put_numbers-requires c =
     let p = goal.at.put_numbers-requires c in
     (omega (arith, room p.Start, c.wide.ensures, put_long (two-put p.After-put_two)), omega (arith, c.wide.ensures, c.requires.1))
-
-pub returns : goal.returns
-returns c =
-    let s = c.args in
-    put_as (goal_parts s.members.now s.start s.count c.requires.1)
-    (put_join (encode_two s.count) (numbers_left s.members.now s.start s.count) (two-put (goal.at.returns c).After-put_two)
-    (put_as (ap (numbers_left s.members.now s.start) c.wide.ensures) c.put_numbers.ensures))

@@ -4,12 +4,12 @@ use mathlib.Core.Path.{◌≡◌, ap}
 use mathlib.Core.List.{List, [], ◌∷◌, ◌++◌}
 use mathlib.Core.Bool.{Bool}
 use Prim.Native.Nat.{ℕ, ◌+◌}
-use lib.ListN.{set, length-set}
+use lib.ListN.{set}
 use Rattle.bits.specs.IfSet.{if_set_lem}
 use Rattle.formula.specs.Fields.{low_map_lem}
 use Rattle.formula.specs.Nodes.{Node}
 use Rattle.proof_files.specs.ProofFile.{encode_rule, full, encode_node}
-use Rattle.laying.specs.Laying.{Put, Left, node_at, link_bytes, codes_part, full_is, all_left, less_left, room_left, left-fits, last_left, head_put, put_as}
+use Rattle.laying.specs.Laying.{Put, Left, node_at, link_bytes, codes_part, full_is, all_left, less_left, last_left, head_put, put_as}
 use Rattle.laying.proofs.put_node.Goals as goal
 use Rattle.laying.proofs.put_node.Goals.{After-if_set}
 
@@ -46,19 +46,6 @@ module _ (c : After-if_set) where
   -- once the fields are
   links-left : {next : ℕ} {now : List ℕ} → Put headed (c.args.at + 2) fields next now → Rest coded next now
   links-left p = less_left fields coded head-left p
-
-pub bounds-out-at-2 : goal.bounds-out-at-2
-bounds-out-at-2 c = simp length-set (omega (arith, c.requires.0))
-
-pub put_links-next-requires : goal.put_links-next-requires
-put_links-next-requires c =
-    let s = (goal.at.put_links-next-requires c).After-if_set in
-    (room_left (fields s) (coded s) (head-left s) c.requires.0, c.requires.1)
-
-pub put_codes-requires : goal.put_codes-requires
-put_codes-requires c =
-    let s = (goal.at.put_codes-requires c).After-if_set in
-    (left-fits (links-left s c.put_links-next.ensures) c.requires.0, c.requires.2, c.requires.3)
 
 pub returns : goal.returns
 returns c = let s = (goal.at.returns c).After-if_set in last_left (coded s) (links-left s c.put_links-next.ensures) c.put_codes.ensures

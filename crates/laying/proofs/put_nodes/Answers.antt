@@ -5,7 +5,7 @@ use Prim.Native.Nat.{ℕ, ◌+◌, ◌-◌, ◌≤◌}
 use lib.ListN.{length, get_or}
 use Rattle.formula.specs.Nodes.{Node}
 use Rattle.proof_files.specs.ProofFile.{encode_node}
-use Rattle.laying.specs.Laying.{Left, node_at, nodes_left, nodes_begin, nodes_step, nodes_end_lem, less_left, none_left, room_left}
+use Rattle.laying.specs.Laying.{Left, node_at, nodes_left, nodes_step, nodes_end_lem, less_left, none_left, room_left}
 use Rattle.laying.proofs.put_nodes.Goals as goal
 use Rattle.laying.proofs.put_nodes.Goals.{After-wide-count}
 
@@ -38,45 +38,24 @@ module _ (c : After-wide-count) where
   Rest l = Left (left 0 c.args.nodes 0) c.args.from c.args.out.now l c.loop-v.at c.loop-v.out
 
   this_left : Rest (encode_node this ++ after)
-  this_left = rw (← steps) c.loop-v.invariant.2
+  this_left = rw (← steps) c.loop-v.invariant.1
 
   few : count ≤ 24
   few = omega (arith, c.wide-count.ensures, c.requires.1.few v c.loop-v-test.true)
 
   enough : start + count ≤ length c.args.codes.now
-  enough = omega (arith, few, c.loop-v.invariant.1, c.requires.1.given.codes, c.loop-v-test.true)
-
-pub loop-v-init : goal.loop-v-init
-loop-v-init c =
-    let entry = c.args in
-    (omega arith, omega arith, nodes_begin entry.rules.now entry.links.now entry.counts.now entry.codes.now entry.nodes entry.from entry.out.now)
-
-pub bounds-counts-v : goal.bounds-counts-v
-bounds-counts-v c = omega (arith, c.requires.1.given.counts)
-
-pub bounds-rules-v : goal.bounds-rules-v
-bounds-rules-v c = omega (arith, c.requires.1.given.rules)
+  enough = omega (arith, few, c.loop-v.invariant.0, c.requires.1.given.codes, c.loop-v-test.true)
 
 pub put_node-at-requires : goal.put_node-at-requires
 put_node-at-requires c =
-    (room_left (encode_node (this (goal.at.put_node-at-requires c).After-wide-count)) (after (goal.at.put_node-at-requires c).After-wide-count) (this_left (goal.at.put_node-at-requires c).After-wide-count) c.requires.0, omega (arith, c.requires.1.given.links), enough (goal.at.put_node-at-requires c).After-wide-count, few (goal.at.put_node-at-requires c).After-wide-count)
-
-pub overflow_add-start : goal.overflow_add-start
-overflow_add-start c =
-    omega (arith, enough (goal.at.overflow_add-start c).After-wide-count, c.requires.1.given.most, few (goal.at.overflow_add-start c).After-wide-count, c.loop-v.invariant.1)
-
-pub overflow_add-v : goal.overflow_add-v
-overflow_add-v c = omega (arith, c.requires.1.given.most)
+    let t = (goal.at.put_node-at-requires c).After-wide-count in
+    (room_left (encode_node (this t)) (after t) (this_left t) c.requires.0, omega (arith, c.requires.1.given.links), enough t, few t)
 
 pub loop-v-preserved : goal.loop-v-preserved
-loop-v-preserved c = (
-  omega arith,
-  omega (arith, few (goal.at.loop-v-preserved c).After-wide-count, c.loop-v.invariant.1),
-  less_left (encode_node (this (goal.at.loop-v-preserved c).After-wide-count)) (after (goal.at.loop-v-preserved c).After-wide-count) (this_left (goal.at.loop-v-preserved c).After-wide-count) c.put_node-at.ensures,
+loop-v-preserved c = let t = (goal.at.loop-v-preserved c).After-wide-count in (
+  omega (arith, few t, c.loop-v.invariant.0),
+  less_left (encode_node (this t)) (after t) (this_left t) c.put_node-at.ensures,
 )
-
-pub shape_of-out : goal.shape_of-out
-shape_of-out c = c.loop-v.invariant.2.long
 
 pub returns : goal.returns
 returns c =
@@ -84,5 +63,5 @@ returns c =
     let last = c.loop-v in
     (none_left
     (nodes_end_lem given.rules.now given.links.now given.counts.now given.codes.now given.nodes last.v last.start (omega arith))
-    last.invariant.2
+    last.invariant.1
     ).stored

@@ -5,9 +5,5 @@ use Rattle.laying.proofs.put_nodes.Given as goal
 
 abbrev pub invariant-loop-v : goal.invariant-loop-v
 invariant-loop-v l =
-    (l.v ≤ l.nodes)
-    × (l.start ≤ 24 * l.v)
+    (l.start ≤ 24 * l.v)
     × Left (nodes_left l.rules l.links l.counts l.codes 0 l.nodes 0) l.from l.initial.out (nodes_left l.rules l.links l.counts l.codes l.v (l.nodes - l.v) l.start) l.at l.out
-
-abbrev pub decreases-loop-v : goal.decreases-loop-v
-decreases-loop-v l = l.nodes - l.v

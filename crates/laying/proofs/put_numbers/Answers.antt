@@ -1,53 +1,51 @@
-use native.Mathlib.Omega.{arith}
-use mathlib.Core.Path.{refl}
-use mathlib.Core.List.{List, ◌++◌}
-use Prim.Native.Nat.{ℕ, ◌+◌, ◌-◌, ◌≤◌}
-use lib.ListN.{length, get_or}
-use Rattle.encoding.specs.Encode.{encode_two}
-use Rattle.laying.specs.Laying.{Left, numbers_left, numbers_begin, numbers_step, numbers-end, numbers_length, less_left, none_left, room_left}
+use Rattle.std.proofs.Common.{◌≡◌, refl, ap, List, [], ◌++◌, ℕ, suc, ◌+◌, ◌-◌, ◌<◌, ◌≤◌, length, get_or, take, drop, arith, length-drop, length-take-le, drop-cons, drop_of_length-le}
+use Rattle.encoding.specs.Encode.{encode_two, encode_all}
+use Rattle.writing.specs.FieldEnds.{numbers_long}
+use Rattle.laying.specs.Laying.{Left, less_left, none_left, room_left, put_as}
 use Rattle.laying.proofs.put_numbers.Goals as goal
-use Rattle.laying.proofs.put_numbers.Goals.{In-loop-i}
+use Rattle.laying.proofs.put_numbers.Goals.{In-loop-number}
+
+bytes_step : (numbers : List ℕ) (i : ℕ) → i < length numbers → encode_all encode_two (drop i numbers) ≡ encode_two (get_or numbers i 0) ++ encode_all encode_two (drop (i + 1) numbers)
+unfolding encode_all
+bytes_step numbers i h = let j : suc i ≡ i + 1 = omega arith in rw (drop-cons numbers i 0 h, ← j) refl
+
+bytes_end : (numbers : List ℕ) (i : ℕ) → length numbers ≤ i → encode_all encode_two (drop i numbers) ≡ []
+unfolding encode_all
+bytes_end numbers i h = rw (drop_of_length-le numbers h) refl
 
 -- in a turn: this number, and what comes after it
-module _ (c : In-loop-i) where
+module _ (c : In-loop-number) where
   abbrev numbers : List ℕ
-  numbers = c.args.numbers.now
+  numbers = take (c.args.start + c.args.count - c.args.start) (drop c.args.start c.args.numbers.now)
 
-  abbrev i : ℕ
-  i = c.loop-i.i
-
-  abbrev this : ℕ
-  this = get_or numbers (c.args.start + i) 0
+  abbrev this : List ℕ
+  this = encode_two (get_or numbers c.loop-number.number-index 0)
 
   abbrev after : List ℕ
-  after = numbers_left numbers (c.args.start + (i + 1)) (c.args.count - (i + 1))
+  after = encode_all encode_two (drop (c.loop-number.number-index + 1) numbers)
 
-  abbrev whole : List ℕ
-  whole = numbers_left numbers c.args.start c.args.count
+  this_left : Left (encode_all encode_two numbers) c.args.from c.args.out.now (this ++ after) c.loop-number.at c.loop-number.out
+  this_left = rw (← (bytes_step numbers c.loop-number.number-index c.loop-number-test.true)) c.loop-number.invariant
 
-  this_left : Left whole c.args.from c.args.out.now (encode_two this ++ after) c.loop-i.at c.loop-i.out
-  this_left = rw (← (numbers_step numbers c.args.start c.args.count i c.loop-i-test.true c.requires.1)) c.loop-i.invariant.1
-
-  room : c.loop-i.at + 2 ≤ length c.loop-i.out
-  room = room_left (encode_two this) after this_left (omega (arith, c.requires, numbers_length numbers c.args.start c.args.count c.requires.1))
-
-pub loop-i-init : goal.loop-i-init
-loop-i-init c = let entry = c.args in (omega arith, numbers_begin entry.numbers.now entry.start entry.count entry.from entry.out.now)
+  room : c.loop-number.at + 2 ≤ length c.loop-number.out
+  room =
+      let long : length numbers ≡ c.args.start + c.args.count - c.args.start =
+      length-take-le (c.args.start + c.args.count - c.args.start) (drop c.args.start c.args.numbers.now) (omega (arith, c.requires, length-drop c.args.start c.args.numbers.now)) in
+      room_left this after this_left (omega (arith, c.requires, numbers_long numbers))
 
 pub put_two-requires : goal.put_two-requires
-put_two-requires c = room (goal.at.put_two-requires c).In-loop-i
+put_two-requires c = room (goal.at.put_two-requires c).In-loop-number
 
 pub overflow_add-at : goal.overflow_add-at
-overflow_add-at c = omega (arith, room (goal.at.overflow_add-at c).In-loop-i, c.loop-i.invariant.1.long)
+overflow_add-at c = omega (arith, room (goal.at.overflow_add-at c).In-loop-number, c.loop-number.invariant.long)
 
-pub loop-i-preserved : goal.loop-i-preserved
-loop-i-preserved c =
-    (omega arith, less_left (encode_two (this (goal.at.loop-i-preserved c).In-loop-i)) (after (goal.at.loop-i-preserved c).In-loop-i) (this_left (goal.at.loop-i-preserved c).In-loop-i) (record { place = refl; stored = c.put_two.ensures }))
-
-pub shape_of-out : goal.shape_of-out
-shape_of-out c = c.loop-i.invariant.1.long
+pub loop-number-preserved : goal.loop-number-preserved
+loop-number-preserved c =
+    let t = (goal.at.loop-number-preserved c).In-loop-number in
+    less_left (this t) (after t) (this_left t) (record { place = refl; stored = c.put_two.ensures })
 
 pub returns : goal.returns
 returns c =
-    let entry = c.args in
-    none_left (numbers-end entry.numbers.now entry.start entry.count c.loop-i.i (omega arith)) c.loop-i.invariant.1
+    let all : c.args.start + c.args.count - c.args.start ≡ c.args.count = omega arith in
+    put_as (ap (λ (n : ℕ). encode_all encode_two (take n (drop c.args.start c.args.numbers.now))) all)
+    (none_left (bytes_end _ c.loop-number.number-index c.loop-number-test.false) c.loop-number.invariant)

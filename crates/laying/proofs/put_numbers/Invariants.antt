@@ -1,11 +1,9 @@
--- After i turns the numbers from the i-th on are left.
-use Prim.Native.Nat.{◌+◌, ◌-◌, ◌≤◌}
-use Rattle.laying.specs.Laying.{Left, numbers_left}
+-- After some turns the numbers from the next on are left.
+use Rattle.std.proofs.Common.{drop}
+use Rattle.encoding.specs.Encode.{encode_two, encode_all}
+use Rattle.laying.specs.Laying.{Left}
 use Rattle.laying.proofs.put_numbers.Given as goal
 
-abbrev pub invariant-loop-i : goal.invariant-loop-i
-invariant-loop-i l =
-    (l.i ≤ l.count) × Left (numbers_left l.numbers l.start l.count) l.from l.initial.out (numbers_left l.numbers (l.start + l.i) (l.count - l.i)) l.at l.out
-
-abbrev pub decreases-loop-i : goal.decreases-loop-i
-decreases-loop-i l = l.count - l.i
+abbrev pub invariant-loop-number : goal.invariant-loop-number
+invariant-loop-number l =
+    Left (encode_all encode_two l.number-items) l.from l.initial.out (encode_all encode_two (drop l.number-index l.number-items)) l.at l.out

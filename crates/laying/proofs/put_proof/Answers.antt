@@ -1,5 +1,4 @@
 -- Opening and count, the roots, then the nodes.
-use native.Mathlib.Omega.{arith}
 use mathlib.Core.Path.{◌≡◌, refl}
 use mathlib.Core.List.{List, ◌++◌}
 use Prim.Native.Nat.{ℕ, ◌+◌, ◌≤◌}
@@ -9,7 +8,7 @@ use Rattle.formula.specs.Claim.{Form}
 use Rattle.encoding.specs.Encode.{encode_two}
 use Rattle.proof_files.specs.ProofFile.{proof_opening, encode_roots, encode_proof}
 use Rattle.formula.specs.NamedForm.{named_form, for_named}
-use Rattle.laying.specs.Laying.{Put, Left, nodes_left, all_left, less_left, room_left, left-fits, last_left}
+use Rattle.laying.specs.Laying.{Put, Left, nodes_left, all_left, less_left, last_left}
 use Rattle.laying.specs.Files.{proof_of, proof_parts, proof_parts_lem, proof_fits, file_put}
 use Rattle.laying.proofs.put_proof.Goals as goal
 use Rattle.laying.proofs.put_proof.Goals.{Start}
@@ -49,21 +48,6 @@ module _ (s : Start) where
 
   roots-left : {at next : ℕ} {then now : List ℕ} → Left whole 0 out (roots ++ nodes) at then → Put then at roots next now → Left whole 0 out nodes next now
   roots-left l p = less_left roots nodes l p
-
-pub open_proof-requires : goal.open_proof-requires
-open_proof-requires c =
-    let s = (goal.at.open_proof-requires c).Start in
-    (room_left (opening s) (roots s ++ nodes s) (all_left (whole s) (out s) 0) (all_fit s), omega (arith, c.requires.1.given.most))
-
-pub put_roots-from-requires : goal.put_roots-from-requires
-put_roots-from-requires c =
-    let s = (goal.at.put_roots-from-requires c).Start in
-    room_left (roots s) (nodes s) (opening_left s c.open_proof.ensures) (all_fit s)
-
-pub put_nodes-requires : goal.put_nodes-requires
-put_nodes-requires c =
-    let s = (goal.at.put_nodes-requires c).Start in
-    (left-fits (roots-left s (opening_left s c.open_proof.ensures) c.put_roots-from.ensures) (all_fit s), c.requires.1)
 
 pub returns : goal.returns
 returns c =

@@ -16,7 +16,7 @@ overflow_sub-result c = omega (arith, bits c.args.n (omega arith), pow_pos c.arg
 pub returns-then-n-lt64 : goal.returns-then-n-lt64
 returns-then-n-lt64 c = omega (arith, bits c.args.n (omega arith), full_word c.args.n)
 
-pub returns : goal.returns
-returns c =
+pub returns-else-n-lt64 : goal.returns-else-n-lt64
+returns-else-n-lt64 c =
     let all : c.args.n ≡ 64 = omega arith in
     rw all (omega (arith, full_word 64))

@@ -1,33 +1,32 @@
-use mathlib.Core.Path.{refl, sym, ◌∙◌}
-use native.Mathlib.Omega.{arith}
+-- `all_boxed` meets its contract: the test is made of each code of the part.
+use mathlib.Core.Path.{◌≡◌, refl, ap, ◌∙◌}
+use mathlib.Core.Bool.{Bool, ◌&&◌}
+use mathlib.Core.List.{List, [], ◌∷◌}
+use Prim.Native.Nat.{ℕ}
 use borrow.Author.Rules.{rules}
-use Rattle.sequents.specs.Part.{span_small}
-use Rattle.modal.specs.BoxLaws.{all_on, all-stop, all_end}
-use Rattle.sequents.specs.KeptLaws.{was_false, was_true}
-use Rattle.std.proofs.Common.{ap}
-use Rattle.std.specs.Prelude.{not}
+use borrow.Author.Tests.{tests}
+use Rattle.std.specs.List.{list_all}
+use Rattle.std.proofs.lemmas.Iterator.{YieldsList-from_slice}
+use Rattle.std.proofs.lemmas.Iterator.Adapters.{serves_from_places}
+use Rattle.std.proofs.lemmas.Iterator.Search.{all_from_yields_List}
+use Rattle.verdict.specs.Tests.{all}
+use Rattle.sequents.specs.Part.{fit_item}
+use Rattle.modal.specs.BoxLaws.{boxed as Boxed}
 use Rattle.modal.proofs.all_boxed.Goals as goal
 
-pub loop-i-init : goal.loop-i-init
-loop-i-init c = (search rules, search rules, refl)
+all_codes : (f : ℕ → Bool) (l : List ℕ) → list_all f l ≡ all f l
+unfolding all
+all_codes f [] = refl
+all_codes f (x ∷ l) = ap (λ (b : Bool). f x && b) (all_codes f l)
 
-pub boxed-requires : goal.boxed-requires
-boxed-requires c =
-    (c.requires.0, span_small c.requires.1 c.loop-i.i (omega arith) (omega arith))
-
-pub returns-then-not-boxed : goal.returns-then-not-boxed
-returns-then-not-boxed c =
-    let l = c.loop-i in
-    sym (l.invariant.2 ∙ all-stop _ c.args.codes.now l.i c.args.to (omega arith) c.requires.1.long (was_false c.boxed.ensures (ap not c.if-not-boxed.true)))
-
-pub loop-i-preserved : goal.loop-i-preserved
-loop-i-preserved c =
-    let l = c.loop-i in (
-      search rules,
-      search rules,
-      l.invariant.2 ∙ all_on _ c.args.codes.now l.i c.args.to (omega arith) c.requires.1.long (was_true c.boxed.ensures (ap not c.if-not-boxed.false)),
-    )
+pub all-requires-clause-callable : goal.all-requires-clause-callable
+all-requires-clause-callable c =
+    serves_from_places (YieldsList-from_slice _ c.iter.ensures.rest) (λ x q k. search (rules, tests))
+    (λ x k h e. let small = fit_item c.requires x.now k h e in search (rules, small))
 
 pub returns : goal.returns
 returns c =
-    sym (c.loop-i.invariant.2 ∙ all_end _ c.args.codes.now c.loop-i.i c.args.to (omega arith))
+    let a = c.args in
+    let test = Boxed a.table.now.columns.kinds.now a.table.now.columns.b.now a.table.now.canon.now a.principal a.action in
+    all_from_yields_List test _ _ _ c.all.ensures.ran (YieldsList-from_slice _ c.iter.ensures.rest) (λ x b q k. search (rules, tests))
+    ∙ all_codes test a.codes.now

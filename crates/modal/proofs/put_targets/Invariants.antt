@@ -1,6 +1,7 @@
 -- `put_targets` meets its contract. The invariant: the set holds the targets of the codes from i on.
 use mathlib.Core.List.{List}
-use Prim.Native.Nat.{ℕ, ◌≤◌, ◌-◌}
+use Prim.Native.Nat.{ℕ}
+use lib.ListN.{length}
 use Rattle.verdict.specs.Sets.{elements}
 use Rattle.verdict.specs.Tests.{each}
 use Rattle.formula.specs.Plain.{table_of}
@@ -11,8 +12,4 @@ use Rattle.modal.proofs.put_targets.Given as goal
 
 abbrev pub invariant-loop-i : goal.invariant-loop-i
 invariant-loop-i l =
-    (l.from ≤ l.i) × (l.i ≤ l.to)
-    × ((ys : List ℕ) (n : ℕ) → ((c : ℕ) → elements (part l.codes l.from l.to) c → Modal l.kinds l.a ys n c) → Holds l.set (each (stepped_key l.canon (table_of l.kinds l.a ys n)) (part l.codes l.i l.to)))
-
-abbrev pub decreases-loop-i : goal.decreases-loop-i
-decreases-loop-i l = l.i - l.from
+    (ys : List ℕ) (n : ℕ) → ((c : ℕ) → elements l.codes c → Modal l.table.columns.kinds.now l.table.columns.a.now ys n c) → Holds l.set (each (stepped_key l.table.canon.now (table_of l.table.columns.kinds.now l.table.columns.a.now ys n)) (part l.codes l.i (length l.codes)))

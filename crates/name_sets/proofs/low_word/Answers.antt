@@ -3,7 +3,7 @@ use mathlib.Core.Path.{◌≡◌, sym, ap, ◌∙◌}
 use Prim.Native.Nat.{ℕ, ◌+◌, ◌*◌, ◌-◌, ◌%◌, ◌^◌, ◌<◌}
 use native.Mathlib.Omega.{arith}
 use lib.Dec.{ltb, lit<}
-use lib.Pow.{pow_pos, shl_exact}
+use lib.Pow.{shl_exact}
 use borrow.Author.Tests.{lt-ltb, le-ltb}
 use native.Mathlib.Decide.{dec_lt}
 use Rattle.bits.specs.Bits.{bit, no_bit, ones_bit}
@@ -22,13 +22,8 @@ returns-then-k-from c = λ i h. no_bit i ∙ sym (le-ltb (c.args.from + i) c.arg
 pub returns-then-from-k : goal.returns-then-from-k
 returns-then-from-k c = λ i h. ones_bit 64 i ∙ lt-ltb i 64 h ∙ sym (lt-ltb (c.args.from + i) c.args.k (omega (arith, c.if-from-k.true)))
 
-pub overflow_sub-result-2 : goal.overflow_sub-result-2
-overflow_sub-result-2 c =
-    let m : ℕ = c.args.k - c.args.from in
-    omega (arith, in_64 m (omega (arith, c.if-from-k.false)), pow_pos m)
-
-pub returns : goal.returns
-returns c = λ i h.
+pub returns-else-from-k : goal.returns-else-from-k
+returns-else-from-k c = λ i h.
     let k = c.args.k in
     let from = c.args.from in
     ap (λ (w : ℕ). bit (w - 1) i) (in_64 (k - from) (omega (arith, c.if-from-k.false)) ∙ omega arith) ∙ ones_bit (k - from) i ∙ as_test i k from (dec_lt i (k - from))

@@ -19,7 +19,7 @@ returns-then-x-ne0-4 c =
     lowest_in _ 3 (λ _. c.if-x-ne0.false) (λ _. c.if-x-ne0-2.false)
     (λ _. c.if-x-ne0-3.false) (λ h. absurd (omega arith)) (omega arith) _ c.lowest_bit-then-x-ne0-4.ensures _ (omega arith)
 
-pub returns : goal.returns
-returns c =
+pub returns-else-x-ne0-4 : goal.returns-else-x-ne0-4
+returns-else-x-ne0-4 c =
     lowest_none _ 4 (λ _. c.if-x-ne0.false) (λ _. c.if-x-ne0-2.false)
     (λ _. c.if-x-ne0-3.false) (λ _. c.if-x-ne0-4.false) (omega arith)

@@ -5,9 +5,9 @@ use Rattle.operands.proofs.out.Goals as goal
 pub returns-then-kind-eq-NAME : goal.returns-then-kind-eq-NAME
 returns-then-kind-eq-NAME c =
     let given = c.args in
-    name_answer given.kinds.now given.a.now given.b.now given.count given.e (omega arith) c.wide-first.ensures c.if-kind-eq-NAME.true c.name_out.ensures
+    name_answer given.table.now.kinds.now given.table.now.a.now given.table.now.b.now given.table.now.count given.e (omega arith) c.wide-first.ensures c.if-kind-eq-NAME.true c.name_out.ensures
 
 pub returns : goal.returns
 returns c =
     let given = c.args in
-    other_answer given.kinds.now given.a.now given.b.now given.count given.e (omega arith) c.wide-first.ensures c.wide-second.ensures c.if-kind-eq-NAME.false c.operands_out.ensures
+    other_answer given.table.now.kinds.now given.table.now.a.now given.table.now.b.now given.table.now.count given.e (omega arith) c.wide-first.ensures c.wide.ensures c.if-kind-eq-NAME.false c.operands_out.ensures

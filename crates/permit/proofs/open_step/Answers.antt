@@ -1,16 +1,17 @@
 use mathlib.Core.Path.{refl}
+use native.Mathlib.Omega.{arith}
 use Rattle.permit.specs.GateState.{opening}
 use Rattle.permit.specs.Plain.{state_open, state_holding, state_closed}
 use Rattle.permit.proofs.open_step.Goals as goal
 
-pub returns-then-phase-eq-OPEN : goal.returns-then-phase-eq-OPEN
+pub returns-in-1 : goal.returns-in-1
 unfolding opening
-returns-then-phase-eq-OPEN c = rw (state_open c.args.state c.if-phase-eq-OPEN.true, c.refuse.ensures) (record { answer = refl; state = refl })
+returns-in-1 c = rw (state_open c.args.state c.in-1.is, c.refuse.ensures) (record { answer = refl; state = refl })
 
-pub returns-then-phase-eq-HOLDING : goal.returns-then-phase-eq-HOLDING
+pub returns-in-2 : goal.returns-in-2
 unfolding opening
-returns-then-phase-eq-HOLDING c = rw (state_holding c.args.state c.if-phase-eq-HOLDING.true, c.refuse-then-phase-eq-HOLDING.ensures) (record { answer = refl; state = refl })
+returns-in-2 c = rw (state_holding c.args.state c.in-2.is, c.refuse-in-2.ensures) (record { answer = refl; state = refl })
 
-pub returns : goal.returns
+pub returns-in_default : goal.returns-in_default
 unfolding opening
-returns c = rw (state_closed c.args.state c.if-phase-eq-OPEN.false c.if-phase-eq-HOLDING.false, c.enter.ensures) (record { answer = refl; state = refl })
+returns-in_default c = rw (state_closed c.args.state (λ h. absurd (omega arith)) (λ h. absurd (omega arith)), c.enter.ensures) (record { answer = refl; state = refl })

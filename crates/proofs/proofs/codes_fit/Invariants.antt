@@ -7,7 +7,4 @@ use Rattle.proofs.proofs.codes_fit.Given as goal
 
 abbrev pub invariant-loop-i : goal.invariant-loop-i
 invariant-loop-i l =
-    (l.i ≤ l.n) × (l.above ≤ 2 * l.count) × (l.start + 2 * l.n ≤ length l.bytes) × CodesFrom (kind_table l.kinds l.count) l.bytes l.start l.n l.i l.above
-
-abbrev pub decreases-loop-i : goal.decreases-loop-i
-decreases-loop-i l = l.i
+    (l.above ≤ 2 * l.count) × (l.start + 2 * l.n ≤ length l.bytes) × CodesFrom (kind_table l.kinds l.count) l.bytes l.start l.n l.i l.above

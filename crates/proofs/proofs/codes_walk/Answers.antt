@@ -2,7 +2,7 @@ use native.Mathlib.Omega.{arith}
 use mathlib.Core.Path.{◌≡◌, sym, ap, ◌∙◌}
 use mathlib.Core.List.{[]}
 use mathlib.Core.Bool.{Bool}
-use Prim.Native.Nat.{ℕ, suc, ◌+◌, ◌≤◌}
+use Prim.Native.Nat.{ℕ, suc, ◌+◌, ◌*◌, ◌≤◌}
 use borrow.Author.Tests.{le-leb}
 use Rattle.formula.specs.Table.{Table}
 use Rattle.encoding.specs.Parse.{fits_from}
@@ -20,39 +20,45 @@ rises table least word e l tested = rw (le-leb least word (omega arith)) (ap (is
 
 pub loop-i-init : goal.loop-i-init
 unfolding numbers_of
-loop-i-init c = (omega arith, omega arith, omega arith, ([], walk_begins _ _ _ _ _ _))
+loop-i-init c = let e : c.args.start + 0 ≡ c.args.start = omega arith in (omega arith, ([], rw e (walk_begins _ _ _ _ _ _)))
 
 pub returns-then-bytes-at : goal.returns-then-bytes-at
 returns-then-bytes-at c =
     let table : Table = kind_table c.args.kinds.now c.args.count in
-    walk_stops (number_from (is_code_lem table)) after_number c.loop-i.invariant.3.1 c.loop-i-test.true
-    (number_cut (is_code_lem table) c.args.bytes.now _ _ (omega arith) c.if-bytes-at.true)
+    rw c.at.ensures
+    (walk_stops (number_from (is_code_lem table)) after_number c.loop-i.invariant.1.1 c.loop-i-test.true
+    (number_cut (is_code_lem table) c.args.bytes.now _ _ (omega arith) c.if-bytes-at.true))
 
 pub returns-then-code-least : goal.returns-then-code-least
 returns-then-code-least c =
     let table : Table = kind_table c.args.kinds.now c.args.count in
-    walk_stops (number_from (is_code_lem table)) after_number c.loop-i.invariant.3.1 c.loop-i-test.true
-    (number_low (is_code_lem table) c.args.bytes.now _ c.loop-i.least (omega arith) (omega (arith, c.word_at-code.ensures)))
+    rw c.at-then-code-least.ensures
+    (walk_stops (number_from (is_code_lem table)) after_number c.loop-i.invariant.1.1 c.loop-i-test.true
+    (number_low (is_code_lem table) c.args.bytes.now _ c.loop-i.least (omega arith) (omega (arith, c.word_at-code.ensures))))
 
 pub returns-then-not-is_code : goal.returns-then-not-is_code
 returns-then-not-is_code c =
     let table : Table = kind_table c.args.kinds.now c.args.count in
-    walk_stops (number_from (is_code_lem table)) after_number c.loop-i.invariant.3.1 c.loop-i-test.true
+    rw c.at-then-not-is_code.ensures
+    (walk_stops (number_from (is_code_lem table)) after_number c.loop-i.invariant.1.1 c.loop-i-test.true
     (number_unfit (is_code_lem table) c.args.bytes.now _ c.loop-i.least (omega arith)
-    (rises table c.loop-i.least (word_at c.args.bytes.now c.loop-i.at) c.word_at-code.ensures c.if-code-least.false c.is_code.ensures ∙ c.if-not-is_code.true))
+    (rises table c.loop-i.least (word_at c.args.bytes.now (c.args.start + 2 * c.loop-i.i)) c.word_at-code.ensures c.if-code-least.false c.is_code.ensures ∙ c.if-not-is_code.true)))
 
 pub loop-i-preserved : goal.loop-i-preserved
 loop-i-preserved c =
     let table : Table = kind_table c.args.kinds.now c.args.count in
-    let e : suc (word_at c.args.bytes.now c.loop-i.at) ≡ c.word_at-code.result + 1 = omega (arith, c.word_at-code.ensures) in
+    let e : suc (word_at c.args.bytes.now (c.args.start + 2 * c.loop-i.i)) ≡ c.word_at-code.result + 1 = omega (arith, c.word_at-code.ensures) in
     let stepped =
-    walk_steps (number_from (is_code_lem table)) after_number c.loop-i.invariant.3.1 c.loop-i-test.true
+    walk_steps (number_from (is_code_lem table)) after_number c.loop-i.invariant.1.1 c.loop-i-test.true
     (number_fits (is_code_lem table) c.args.bytes.now _ c.loop-i.least (omega arith)
-    (rises table c.loop-i.least (word_at c.args.bytes.now c.loop-i.at) c.word_at-code.ensures c.if-code-least.false c.is_code.ensures ∙ c.if-not-is_code.false)) in
-    (omega arith, omega arith, omega arith, (_, rw e at stepped))
+    (rises table c.loop-i.least (word_at c.args.bytes.now (c.args.start + 2 * c.loop-i.i)) c.word_at-code.ensures c.if-code-least.false c.is_code.ensures ∙ c.if-not-is_code.false)) in
+    let o : c.args.start + 2 * c.loop-i.i + 2 ≡ c.args.start + 2 * (c.loop-i.i + 1) = omega arith in
+    (omega arith, (_, rw (e, o) at stepped))
 
 pub returns : goal.returns
-returns c = (
-  _,
-  record { found = walk_ends (number_from (is_code_lem (kind_table _ _))) after_number c.loop-i.invariant.3.1 c.loop-i-test.false; inside = omega arith; near = omega arith },
-)
+returns c =
+    let e : c.loop-i.i ≡ c.args.n = omega arith in
+    let done = rw e at c.loop-i.invariant.1.1 in (
+      _,
+      record { found = walk_ends (number_from (is_code_lem (kind_table _ _))) after_number done (omega arith); inside = omega arith; near = omega arith },
+    )

@@ -5,18 +5,16 @@ use lib.ListN.{length, get_or}
 use Rattle.formula.specs.Fields.{link_width_lem}
 use native.Mathlib.Omega.{arith}
 use Rattle.proof_files.specs.ProofParts.{links_at}
-use Rattle.proofs.specs.ProofHead.{head_cut, head_unfit, head_short, head_whole}
+use Rattle.proofs.specs.ProofHead.{head_cut, head_short, head_whole}
 use Rattle.proofs.proofs.head_step.Goals as goal
 
 pub returns-then-bytes-at : goal.returns-then-bytes-at
-returns-then-bytes-at c = head_cut _ _ (omega arith) c.if-bytes-at.true
-
-pub returns-then-not-map_fits : goal.returns-then-not-map_fits
-returns-then-not-map_fits c = head_unfit _ _ (omega arith) (sym c.map_fits.ensures ∙ c.if-not-map_fits.true)
+returns-then-bytes-at c = rw c.at.ensures (head_cut _ _ (omega arith) c.if-bytes-at.true)
 
 pub returns-then-bytes-next : goal.returns-then-bytes-next
 returns-then-bytes-next c =
-    head_short c.args.bytes.now c.args.at (omega arith) (sym c.map_fits.ensures ∙ c.if-not-map_fits.false) (omega (arith, c.link_width.ensures.0))
+    rw c.at-then-bytes-next.ensures
+    (head_short c.args.bytes.now c.args.at (omega arith) (sym c.map_fits.ensures ∙ c.if-not-map_fits.false) (omega (arith, c.link_width.ensures.0)))
 
 pub returns : goal.returns
 returns c =

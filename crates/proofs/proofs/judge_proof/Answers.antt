@@ -1,5 +1,7 @@
 -- Each return is one case of the law of a whole file, over the form that the number names.
 use native.Mathlib.Omega.{arith}
+use Rattle.std.specs.Prelude.{Ok, Err}
+use Rattle.verdict.proofs.PassedOn.{passed_on}
 use mathlib.Core.Path.{◌≡◌, sym, subst, ap, ◌∙◌}
 use mathlib.Core.List.{List, []}
 use mathlib.Core.Bool.{true}
@@ -17,10 +19,8 @@ use Rattle.proof_files.specs.ProofFile.{proof_opening}
 use Rattle.proof_files.specs.ReadProof.{early, read_proof}
 use Rattle.proof_files.specs.ProofParts.{kind_claim, roots_of, nodes_of}
 use Rattle.formula.specs.NamedForm.{named_form, for_named}
-use Rattle.proofs.specs.ProofSteps.{Finds}
+use Rattle.proofs.specs.ProofSteps.{Step, Finds}
 use Rattle.proofs.specs.ProofWhole.{not_opened, no_count, count_unfit, roots_stop, nodes_decide}
-use Rattle.proofs.specs.declared.Step.{Step}
-use Rattle.proofs.specs.declared.Step.TheVariants.{Next, Stop}
 use Rattle.proofs.proofs.judge_proof.Goals as goal
 
 module _ (form count goals : ℕ) (kinds file : List ℕ) where
@@ -54,29 +54,41 @@ module _ (form count goals : ℕ) (kinds file : List ℕ) where
       (subst (λ (n : ℕ). Finds file 38 (roots_of (named_form form) goals n file) r) e t)
 
 pub returns-then-not-opens_proof : goal.returns-then-not-opens_proof
-returns-then-not-opens_proof c = read c.args.form c.args.count c.args.goals c.args.kinds.now c.args.bytes.now (not_opened _ _ (sym c.opens_proof.ensures ∙ c.if-not-opens_proof.true))
+returns-then-not-opens_proof c =
+    rw c.at.ensures
+    (read c.args.form c.args.count c.args.goals c.args.kinds.now c.args.bytes.now (not_opened _ _ (sym c.opens_proof.ensures ∙ c.if-not-opens_proof.true)))
 
 pub returns-then-bytes-lt-AFTER_COUNT : goal.returns-then-bytes-lt-AFTER_COUNT
-returns-then-bytes-lt-AFTER_COUNT c = read c.args.form c.args.count c.args.goals c.args.kinds.now c.args.bytes.now (no_count _ _ (sym c.opens_proof.ensures ∙ c.if-not-opens_proof.false) c.if-bytes-lt-AFTER_COUNT.true)
+returns-then-bytes-lt-AFTER_COUNT c =
+    rw c.at-then-bytes-lt-AFTER_COUNT.ensures
+    (read c.args.form c.args.count c.args.goals c.args.kinds.now c.args.bytes.now (no_count _ _ (sym c.opens_proof.ensures ∙ c.if-not-opens_proof.false) c.if-bytes-lt-AFTER_COUNT.true))
 
 pub returns-then-n-fewest : goal.returns-then-n-fewest
-returns-then-n-fewest c = miscounted c.args.form c.args.count c.args.goals c.args.kinds.now c.args.bytes.now (sym c.opens_proof.ensures ∙ c.if-not-opens_proof.false) (omega arith) c.fewest.ensures c.word_at-n.ensures (λ k. omega (arith, k))
+returns-then-n-fewest c =
+    rw c.at-then-n-fewest.ensures
+    (miscounted c.args.form c.args.count c.args.goals c.args.kinds.now c.args.bytes.now (sym c.opens_proof.ensures ∙ c.if-not-opens_proof.false) (omega arith)
+    c.fewest.ensures c.word_at-n.ensures (λ k. omega (arith, k)))
 
 pub returns-then-n-gt1024 : goal.returns-then-n-gt1024
-returns-then-n-gt1024 c = miscounted c.args.form c.args.count c.args.goals c.args.kinds.now c.args.bytes.now (sym c.opens_proof.ensures ∙ c.if-not-opens_proof.false) (omega arith) c.fewest.ensures c.word_at-n.ensures (λ k. omega (arith, k))
+returns-then-n-gt1024 c =
+    rw c.at-then-n-gt1024.ensures
+    (miscounted c.args.form c.args.count c.args.goals c.args.kinds.now c.args.bytes.now (sym c.opens_proof.ensures ∙ c.if-not-opens_proof.false) (omega arith)
+    c.fewest.ensures c.word_at-n.ensures (λ k. omega (arith, k)))
 
-pub judge_nodes-requires : goal.judge_nodes-requires
-judge_nodes-requires c = let (rs, f) = c.in-Next.ensures in (f.inside, f.near, omega arith, omega arith)
+pub returns-in_err-at : goal.returns-in_err-at
+returns-in_err-at c =
+    rw (passed_on _ c.from_residual.ensures.1)
+    (read c.args.form c.args.count c.args.goals c.args.kinds.now c.args.bytes.now
+    (roots_stop _ _ (sym c.opens_proof.ensures ∙ c.if-not-opens_proof.false) (omega arith)
+    (counts c.args.form c.args.count c.args.goals c.args.kinds.now c.args.bytes.now c.fewest.ensures c.word_at-n.ensures (omega arith))
+    (found c.args.form c.args.count c.args.goals c.args.kinds.now c.args.bytes.now (Err _) c.word_at-n.ensures c.in_err-at.ensures)))
 
-pub returns-in-Stop : goal.returns-in-Stop
-returns-in-Stop c =
-    read c.args.form c.args.count c.args.goals c.args.kinds.now c.args.bytes.now
-    (roots_stop _ _ (sym c.opens_proof.ensures ∙ c.if-not-opens_proof.false) (omega arith) (counts c.args.form c.args.count c.args.goals c.args.kinds.now c.args.bytes.now c.fewest.ensures c.word_at-n.ensures (omega arith)) (found c.args.form c.args.count c.args.goals c.args.kinds.now c.args.bytes.now (Stop c.in-Stop.number c.in-Stop.place) c.word_at-n.ensures c.in-Stop.ensures))
-
-pub returns-in-Next : goal.returns-in-Next
-returns-in-Next c =
-    let (rs, f) = found c.args.form c.args.count c.args.goals c.args.kinds.now c.args.bytes.now (Next c.in-Next.at) c.word_at-n.ensures c.in-Next.ensures in
+pub returns : goal.returns
+returns c =
+    let (rs, f) = found c.args.form c.args.count c.args.goals c.args.kinds.now c.args.bytes.now (Ok _) c.word_at-n.ensures c.in_ok-at.ensures in
     let judged =
-    subst (λ (n : ℕ). shown c.judge_nodes.result ≡ verdict_of (ending early (nodes_of (named c.args.form c.args.count c.args.goals c.args.kinds.now c.args.bytes.now).entries n c.args.bytes.now c.in-Next.at)))
+    subst (λ (n : ℕ). shown c.judge_nodes.result ≡ verdict_of (ending early (nodes_of (named c.args.form c.args.count c.args.goals c.args.kinds.now c.args.bytes.now).entries n c.args.bytes.now c.in_ok-at.at)))
     c.word_at-n.ensures c.judge_nodes.ensures in
-    verdict c.args.form c.args.count c.args.goals c.args.kinds.now c.args.bytes.now (sym (judged ∙ nodes_decide _ _ (sym c.opens_proof.ensures ∙ c.if-not-opens_proof.false) (omega arith) (counts c.args.form c.args.count c.args.goals c.args.kinds.now c.args.bytes.now c.fewest.ensures c.word_at-n.ensures (omega arith)) _ f.found))
+    verdict c.args.form c.args.count c.args.goals c.args.kinds.now c.args.bytes.now
+    (sym (judged ∙ nodes_decide _ _ (sym c.opens_proof.ensures ∙ c.if-not-opens_proof.false) (omega arith)
+    (counts c.args.form c.args.count c.args.goals c.args.kinds.now c.args.bytes.now c.fewest.ensures c.word_at-n.ensures (omega arith)) _ f.found))

@@ -1,7 +1,6 @@
 -- The roots read so far are a walk of the parser of numbers: each turn is one of its steps, and each refusal one of its stops.
-use mathlib.Core.Path.{◌≡◌}
 use mathlib.Core.List.{List}
-use Prim.Native.Nat.{ℕ, ◌+◌, ◌*◌, ◌-◌, ◌≤◌}
+use Prim.Native.Nat.{ℕ, ◌+◌, ◌*◌, ◌≤◌}
 use lib.ListN.{length, drop}
 use Rattle.encoding.specs.Walk.{Walking}
 use Rattle.proof_files.specs.ReadProof.{is_node}
@@ -10,10 +9,5 @@ use Rattle.proofs.proofs.roots_walk.Given as goal
 
 abbrev pub invariant-loop-i : goal.invariant-loop-i
 invariant-loop-i l =
-    (l.i ≤ l.goals)
-    × (l.at ≤ length l.bytes)
-    × (l.at ≡ 6 + 2 * l.i)
-    × ((ns : List ℕ) × Walking (number_from (is_node l.nodes)) after_number (numbers_of (is_node l.nodes) l.goals l.bytes 6) l.goals l.i ns l.least (drop l.at l.bytes) l.at)
-
-abbrev pub decreases-loop-i : goal.decreases-loop-i
-decreases-loop-i l = l.goals - l.i
+    (6 + 2 * l.i ≤ length l.bytes)
+    × ((ns : List ℕ) × Walking (number_from (is_node l.nodes)) after_number (numbers_of (is_node l.nodes) l.goals l.bytes 6) l.goals l.i ns l.least (drop (6 + 2 * l.i) l.bytes) (6 + 2 * l.i))

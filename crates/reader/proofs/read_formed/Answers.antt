@@ -1,20 +1,16 @@
 -- The bytes' refusal stands, then the table's; a claim that passes both is held as it was read.
 use native.Mathlib.Omega.{arith}
+use Rattle.verdict.proofs.PassedOn.{passed_on}
 use Rattle.reader.specs.FilesLaws.{unread_claim, unformed_claim, formed_claim}
 use Rattle.reader.proofs.read_formed.Goals as goal
 
-pub judge-requires : goal.judge-requires
-judge-requires c = c.in-Read.ensures.held.entries
+pub returns-in_err-counts : goal.returns-in_err-counts
+returns-in_err-counts c = rw (passed_on _ c.from_residual.ensures.1) (unread_claim _ c.in_err-counts.ensures)
 
-pub returns-in-Refused : goal.returns-in-Refused
-returns-in-Refused c = unread_claim _ c.in-Refused.ensures
+pub returns-in_err-judge : goal.returns-in_err-judge
+returns-in_err-judge c =
+    rw (passed_on _ c.from_residual-in_err-judge.ensures.1)
+    (unformed_claim _ c.in_ok-counts.ensures c.in_err-judge.ensures (omega arith, omega arith))
 
-pub returns-in-Refused-judge : goal.returns-in-Refused-judge
-returns-in-Refused-judge c =
-    unformed_claim _ c.in-Read.ensures
-    c.in-Refused-judge.ensures (omega arith, omega arith)
-
-pub returns-in-Accepted : goal.returns-in-Accepted
-returns-in-Accepted c =
-    formed_claim _ c.in-Read.ensures
-    c.in-Accepted.ensures
+pub returns : goal.returns
+returns c = formed_claim _ c.in_ok-counts.ensures c.in_ok-judge.ensures

@@ -1,10 +1,6 @@
 -- So many records are loaded, and the columns are unchanged beyond them.
-use Rattle.std.specs.Prelude.{◌≤◌, ◌-◌}
 use Rattle.records.specs.Records.{EntriesLoaded}
 use Rattle.records.proofs.load_entries.Given as goal
 
 abbrev pub invariant-loop-i : goal.invariant-loop-i
-invariant-loop-i l = (l.i ≤ l.count) × EntriesLoaded l.entries l.i l.initial.kinds l.initial.a l.initial.b l.kinds l.a l.b
-
-abbrev pub decreases-loop-i : goal.decreases-loop-i
-decreases-loop-i l = l.count - l.i
+invariant-loop-i l = EntriesLoaded l.entries l.i l.initial.kinds l.initial.a l.initial.b l.kinds l.a l.b

@@ -1,20 +1,18 @@
-use Rattle.std.proofs.Common.{arith}
+use Rattle.std.proofs.Common.{refl, arith}
+use Rattle.std.proofs.lemmas.List.{length-set}
 use Rattle.records.specs.RecordLaws.{nodes_none, nodes_more, start_fits}
 use Rattle.records.proofs.load_nodes.Goals as goal
 
 pub loop-i-init : goal.loop-i-init
-loop-i-init c = (omega arith, nodes_none _ _ _ _ _ (omega (arith, c.requires)) c.start_at_zero.ensures)
+loop-i-init c = nodes_none _ _ _ _ _ (omega (arith, c.requires)) refl
 
 pub set_node-requires : goal.set_node-requires
 set_node-requires c = (
-  (omega (arith, c.requires), omega (arith, c.requires), omega (arith, c.requires)),
-  start_fits c.args.nodes.now c.loop-i.i c.node_at-node.result (omega (arith, c.requires)) c.node_at-node.ensures c.args.count c.loop-i-test.true
-      c.requires.2 c.loop-i.invariant.1,
+  (omega (arith, c.requires), omega (arith, c.requires), omega (arith, c.requires, length-set c.args.starts.now 0 0)),
+  start_fits c.args.nodes.now c.loop-i.i _ (omega (arith, c.requires)) refl c.args.count c.loop-i-test.true c.requires.2 c.loop-i.invariant,
 )
 
 pub loop-i-preserved : goal.loop-i-preserved
-loop-i-preserved c = (
-  omega arith,
-  nodes_more c.args.nodes.now c.loop-i.i c.node_at-node.result (omega (arith, c.requires)) c.node_at-node.ensures
-      (omega (arith, c.requires)) (omega (arith, c.requires)) (omega (arith, c.requires)) c.loop-i.invariant.1 c.set_node.ensures,
-)
+loop-i-preserved c =
+    nodes_more c.args.nodes.now c.loop-i.i _ (omega (arith, c.requires)) refl
+    (omega (arith, c.requires)) (omega (arith, c.requires)) (omega (arith, c.requires)) c.loop-i.invariant c.set_node.ensures

@@ -1,5 +1,5 @@
-use Rattle.std.specs.Prelude.{◌<◌, length, refl}
-use Rattle.std.proofs.Common.{arith, ◌∙◌}
+use Rattle.std.specs.Prelude.{refl}
+use Rattle.std.proofs.Common.{arith}
 use Rattle.verdict.specs.Lists.{values_from}
 use Rattle.records.specs.Records.{entry_of_lem}
 use Rattle.records.specs.RecordLaws.{values_more}
@@ -7,11 +7,8 @@ use Rattle.records.proofs.store_entries.Goals as goal
 
 pub loop-i-init : goal.loop-i-init
 unfolding values_from
-loop-i-init c = (omega arith, refl)
+loop-i-init c = refl
 
 pub loop-i-preserved : goal.loop-i-preserved
 loop-i-preserved c =
-    let room : c.loop-i.i < length c.args.entries.now = omega (arith, c.requires.1) in (
-      omega arith,
-      c.put_entry.ensures ∙ values_more (entry_of_lem c.args.kinds.now c.args.a.now c.args.b.now) _ _ _ _ c.loop-i.invariant.1 c.entry_of-entry.ensures room,
-    )
+    values_more (entry_of_lem c.args.kinds.now c.args.a.now c.args.b.now) _ _ _ _ c.loop-i.invariant c.entry_of.ensures (omega (arith, c.requires.1))

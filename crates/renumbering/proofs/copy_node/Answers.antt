@@ -41,12 +41,9 @@ move_links-requires c =
     let here = read (goal.at.move_links-requires c).After-decode_node-read in
     (four_links here, read_moves here c.requires.2)
 
-pub slice_bounds-put_node-end : goal.slice_bounds-put_node-end
-slice_bounds-put_node-end c = sym (still_four (goal.at.slice_bounds-put_node-end c).After-move_links)
-
-pub put_node-after-requires : goal.put_node-after-requires
-put_node-after-requires c =
-    let here = (goal.at.put_node-after-requires c).After-move_links in (
+pub put_node-to-requires : goal.put_node-to-requires
+put_node-to-requires c =
+    let here = (goal.at.put_node-to-requires c).After-move_links in (
       subst (λ (x : Node). Fits c.args.out.now c.args.places.to (encode_node x)) (sym (moved here)) c.requires.3,
       omega (arith, still_four here),
       omega (arith, room here),
@@ -55,4 +52,4 @@ put_node-after-requires c =
 
 pub returns : goal.returns
 returns c =
-    (c.decode_node-read.ensures.at_value.0, put_as (ap encode_node (moved (goal.at.returns c).After-move_links)) c.put_node-after.ensures)
+    (c.decode_node-read.ensures.at_value.0, put_as (ap encode_node (moved (goal.at.returns c).After-move_links)) c.put_node-to.ensures)

@@ -9,25 +9,23 @@ use Rattle.rounds.proofs.visit.Goals as goal
 inside : (e q count : ℕ) → e < q → q ≤ count → e < count
 inside e q count h l = omega arith
 
-pub returns-then-not-due : goal.returns-then-not-due
-returns-then-not-due c =
+pub returns-else-due : goal.returns-else-due
+returns-else-due c =
     let given = c.requires in
-    let within = inside _ _ _ given.e_lt_q.0 given.round.within in
-    round_skips given.round given.e_lt_q.0 (sym (due_tells given.round within _ c.due.ensures) ∙ c.if-not-due.true)
+    let within = inside _ _ _ given.e_lt_q given.round.within in
+    round_skips given.round given.e_lt_q (sym (due_tells given.round within _ c.due.ensures) ∙ c.if-due.false)
 
-pub place-requires : goal.place-requires
-place-requires c =
+pub place-requires-clause-e_lt_count : goal.place-requires-clause-e_lt_count
+place-requires-clause-e_lt_count c =
     let given = c.requires in
-    let within = inside _ _ _ given.e_lt_q.0 given.round.within in
-    let room = given.round.stands in
-    let now = sym (due_tells given.round within _ c.due.ensures) ∙ c.if-not-due.false in
-    let level = here given.round given.e_lt_q.0 now in
-    let small = level_small given.round given.e_lt_q.0 now in
-    record { e_lt_count = (within, omega (arith, level), omega (arith, level, small), room.mark_room); room = room.room }
+    let within = inside _ _ _ given.e_lt_q given.round.within in
+    let now = sym (due_tells given.round within _ c.due.ensures) ∙ c.if-due.true in
+    let level = here given.round given.e_lt_q now in
+    let small = level_small given.round given.e_lt_q now in
+    (within, omega (arith, level), omega (arith, level, small), given.round.stands.mark_room)
 
-pub returns : goal.returns
-returns c =
+pub returns-then-due : goal.returns-then-due
+returns-then-due c =
     let given = c.requires in
-    let within = inside _ _ _ given.e_lt_q.0 given.round.within in
-    let now = sym (due_tells given.round within _ c.due.ensures) ∙ c.if-not-due.false in
-    round_places given.round given.e_lt_q.0 now c.place.ensures
+    let within = inside _ _ _ given.e_lt_q given.round.within in
+    round_places given.round given.e_lt_q (sym (due_tells given.round within _ c.due.ensures) ∙ c.if-due.true) c.place.ensures

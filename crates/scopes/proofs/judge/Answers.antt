@@ -2,31 +2,23 @@
 use mathlib.Core.Path.{◌≡◌}
 use Prim.Native.Nat.{ℕ, ◌<◌}
 use native.Mathlib.Omega.{arith}
+use Rattle.verdict.proofs.PassedOn.{passed_on}
 use Rattle.formula.specs.Plain.{table_of, table_of_length}
 use Rattle.operands.specs.OperandBounds.{number_at_lem, number-none}
 use Rattle.scopes.specs.JudgeSteps.{judge_fault, judge_names}
 use Rattle.scopes.proofs.judge.Goals as goal
-use Rattle.scopes.proofs.judge.Goals.{Else-found-ne0}
 
--- none earns either
-free : (c : Else-found-ne0) → let given = c.args in
-    (w : ℕ) → w < given.count → number_at_lem (table_of given.kinds.now given.a.now given.b.now given.count) w ≡ 0
-free c w h = let f = c.first_fault-found.ensures in f.before w (omega (arith, f.none c.if-found-ne0.false))
-
-pub overflow_cast-result : goal.overflow_cast-result
-overflow_cast-result c = omega (arith, c.first_fault-found.ensures.told c.if-found-ne0.true, c.requires)
-
-pub returns-then-found-ne0 : goal.returns-then-found-ne0
-returns-then-found-ne0 c =
+pub returns-in_err-first_fault : goal.returns-in_err-first_fault
+returns-in_err-first_fault c =
     let given = c.args in
-    judge_fault (table_of given.kinds.now given.a.now given.b.now given.count) given.count (table_of_length given.kinds.now given.a.now given.b.now given.count) _ _
-    c.first_fault-found.ensures c.if-found-ne0.true
-
-pub judge_names-requires : goal.judge_names-requires
-judge_names-requires c = record { count_bound = c.requires; by_index = λ w h. (number-none _ w (free c w h)).0 }
+    rw (passed_on _ c.from_residual.ensures.1) (judge_fault (table_of given.table.now.kinds.now given.table.now.a.now given.table.now.b.now given.table.now.count) given.table.now.count (table_of_length given.table.now.kinds.now given.table.now.a.now given.table.now.b.now given.table.now.count) _ _
+    c.in_err-first_fault.ensures.0 c.in_err-first_fault.ensures.1)
 
 pub returns : goal.returns
 returns c =
     let given = c.args in
-    judge_names (table_of given.kinds.now given.a.now given.b.now given.count) given.count (table_of_length given.kinds.now given.a.now given.b.now given.count)
-    (free (goal.at.returns c).Else-found-ne0) c.judge_names.ensures
+    judge_names (table_of given.table.now.kinds.now given.table.now.a.now given.table.now.b.now given.table.now.count) given.table.now.count (table_of_length given.table.now.kinds.now given.table.now.a.now given.table.now.b.now given.table.now.count)
+    c.in_ok-first_fault.ensures.before c.judge_names.ensures
+
+pub judge_names-requires : goal.judge_names-requires
+judge_names-requires c = record { by_index = λ w h. (number-none _ w (c.in_ok-first_fault.ensures.before w h)).0 }

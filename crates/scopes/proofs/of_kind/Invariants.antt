@@ -6,7 +6,4 @@ use Rattle.name_sets.specs.MarksBelow.{MarksBelow}
 use Rattle.scopes.proofs.of_kind.Given as goal
 
 abbrev pub invariant-loop-e : goal.invariant-loop-e
-invariant-loop-e l = (l.e ≤ l.count) × MarksBelow l.found l.e (λ n. eqb (get_or l.kinds n 0) l.kind)
-
-abbrev pub decreases-loop-e : goal.decreases-loop-e
-decreases-loop-e l = l.count - l.e
+invariant-loop-e l = MarksBelow l.found l.e (λ n. eqb (get_or l.table.kinds.now n 0) l.kind)

@@ -14,13 +14,13 @@ abbrev pub decreases-iterate : goal.decreases-iterate
 decreases-iterate l = 2 * l.x
 
 abbrev pub invariant-iterate-loop-c : goal.invariant-iterate-loop-c
-invariant-iterate-loop-c l = Meeting l.kinds l.a l.b l.masks l.rows l.size l.x l.initial.done l.words l.done l.block l.met × Lowest l.met l.c
+invariant-iterate-loop-c l = Meeting l.prepared.claim.kinds.now l.prepared.claim.a.now l.prepared.claim.b.now l.model.masks.now l.model.rows.now l.model.size l.x l.initial.done l.words l.done l.block l.met × Lowest l.met l.c
 
 abbrev pub decreases-iterate-loop-c : goal.decreases-iterate-loop-c
-decreases-iterate-loop-c l = unmet l.kinds l.a l.b l.masks l.rows l.size l.block l.met
+decreases-iterate-loop-c l = unmet l.prepared.claim.kinds.now l.prepared.claim.a.now l.prepared.claim.b.now l.model.masks.now l.model.rows.now l.model.size l.block l.met
 
 abbrev pub invariant-iterate-loop-e : goal.invariant-iterate-loop-e
-invariant-iterate-loop-e l = Iterating l.kinds l.a l.b l.masks l.rows l.size (fix_of (get_or l.kinds l.x 0)) l.done l.block l.words l.waiting × Lowest l.waiting l.e
+invariant-iterate-loop-e l = Iterating l.prepared.claim.kinds.now l.prepared.claim.a.now l.prepared.claim.b.now l.model.masks.now l.model.rows.now l.model.size (fix_of (get_or l.prepared.claim.kinds.now l.x 0)) l.done l.block l.words l.waiting × Lowest l.waiting l.e
 
 abbrev pub decreases-iterate-loop-e : goal.decreases-iterate-loop-e
-decreases-iterate-loop-e l = ahead l.kinds l.a l.b l.masks l.rows l.size (fix_of (get_or l.kinds l.x 0)) l.done l.block l.words l.waiting
+decreases-iterate-loop-e l = ahead l.prepared.claim.kinds.now l.prepared.claim.a.now l.prepared.claim.b.now l.model.masks.now l.model.rows.now l.model.size (fix_of (get_or l.prepared.claim.kinds.now l.x 0)) l.done l.block l.words l.waiting

@@ -9,11 +9,11 @@ use Rattle.sequents.specs.KeptLaws.{belongs_so}
 use Rattle.side_rules.proofs.focus_kept.Goals as goal
 
 pub returns-then-principal-from : goal.returns-then-principal-from
-unfolding FocusKept
-returns-then-principal-from c t N h l m S M = rw (belongs_so t _ l m [] S.belongs, ne_eqb _ _ c.if-principal-from.true) refl
-
-pub returns : goal.returns
 unfolding FocusKept sides keys
-returns c t N h l m S M =
-    let turned = (rw c.entry_of.ensures at c.key.ensures.1) ∙ key_code N (entry_of_lem c.args.principal) c.args.to c.requires.2 h in
-    rw (belongs_so t _ l m [] S.belongs, eq-eqb _ _ c.if-principal-from.false, ← turned) (c.is_side_plus.ensures _ _ S.holds M)
+returns-then-principal-from c t N h l m S M =
+    let turned = (rw c.entry_of.ensures at c.key.ensures.1) ∙ key_code N (entry_of_lem c.args.principal) c.args.to c.requires.1 h in
+    rw (belongs_so t _ l m [] S.belongs, eq-eqb _ _ c.if-principal-from.true, ← turned) (c.is_side_plus.ensures _ _ S.holds M)
+
+pub returns-else-principal-from : goal.returns-else-principal-from
+unfolding FocusKept
+returns-else-principal-from c t N h l m S M = rw (belongs_so t _ l m [] S.belongs, ne_eqb _ _ c.if-principal-from.false) refl

@@ -1,6 +1,5 @@
 -- `side_kept` meets its contract: each arm is the test that the rule names.
-use mathlib.Core.Path.{◌≡◌, refl, ◌∙◌}
-use mathlib.Core.Logic.{inl, inr}
+use mathlib.Core.Path.{◌≡◌, ◌∙◌}
 use mathlib.Core.List.{List, []}
 use Prim.Native.Nat.{ℕ, ◌<◌}
 use native.Mathlib.Omega.{arith}
@@ -10,24 +9,13 @@ use Rattle.formula.specs.Codes.{entry_of_lem}
 use Rattle.calculus.specs.Judge.{keys, sides, weaken_kept}
 use Rattle.sequents.specs.Placed.{family, Coded}
 use Rattle.sequents.specs.KeptLaws.{belongs_so}
+use Rattle.sequents.specs.Columned.{numbered}
 use Rattle.side_rules.specs.Tested.{tested_mu, tested_nu, tested_w, tested_f, tested_u}
 use Rattle.side_rules.proofs.side_kept.Goals as goal
 
 -- the principal's entry is one of the table
 inside : {ks xs ys ns : List ℕ} {n p : ℕ} → Coded ks xs ys ns n p → entry_of_lem p < length (table_of ks xs ys n)
 inside {ks} {xs} {ys} {n = n} C = omega (arith, C.inside, table_of_length ks xs ys n)
-
-pub fixpoint_kept-requires : goal.fixpoint_kept-requires
-fixpoint_kept-requires c = (c.requires.0, inl refl, omega arith)
-
-pub fixpoint_kept-requires-in-6 : goal.fixpoint_kept-requires-in-6
-fixpoint_kept-requires-in-6 c = (c.requires.0, inr refl, omega arith)
-
-pub focus_kept-requires : goal.focus_kept-requires
-focus_kept-requires c = let C = c.requires.0 in (C.numbers.narrow, omega (arith, C.inside, C.small), omega arith)
-
-pub focus_kept-requires-in-9 : goal.focus_kept-requires-in-9
-focus_kept-requires-in-9 c = let C = c.requires.0 in (C.numbers.narrow, omega (arith, C.inside, C.small), omega arith)
 
 pub returns-in-5 : goal.returns-in-5
 returns-in-5 c l m S M = c.fixpoint_kept.ensures l m S M ∙ tested_mu _ _ c.in-5.is
@@ -39,7 +27,7 @@ pub returns-in-7 : goal.returns-in-7
 unfolding weaken_kept sides keys
 returns-in-7 c l m S M =
     let a = c.args in
-    let t = table_of a.kinds.now a.a.now a.b.now a.size in
+    let t = numbered a.table.now in
     let w : c.same.result ≡ weaken_kept t (family a.principal l m []) 0 = rw (belongs_so t a.principal l m [] S.belongs) (c.same.ensures _ _ M S.holds) in
     w ∙ tested_w _ _ c.in-7.is
 
@@ -48,8 +36,3 @@ returns-in-8 c l m S M = let C = c.requires.0 in c.focus_kept.ensures _ C.number
 
 pub returns-in-9 : goal.returns-in-9
 returns-in-9 c l m S M = let C = c.requires.0 in c.focus_kept-in-9.ensures _ C.numbers (inside C) l m S M ∙ tested_u _ _ c.in-9.is
-
-pub returns-in_default : goal.returns-in_default
-returns-in_default c l m S M =
-    let p = c.requires in
-    absurd (omega (arith, p.1, p.2))

@@ -8,7 +8,7 @@ use Rattle.single.proofs.judge_in.Goals as goal
 use Rattle.single.proofs.judge_in.Goals.{After-decode_proof}
 
 -- the columns are as long as they were
-columns : (c : After-decode_proof) → let d = c.decode_proof.new in Columns c.args.nodes d.rules d.links d.starts d.codes
+columns : (c : After-decode_proof) → let d = c.decode_proof.new in Columns c.args.proof.now.nodes d.rules d.links d.starts d.codes
 columns c = search rules
 
 pub decode_proof-requires : goal.decode_proof-requires
@@ -21,7 +21,7 @@ judge-requires c =
     let w = c.decode_proof.ensures.nodes_stored in
     record {
       laid = laid r (columns (goal.at.judge-requires c).After-decode_proof) (stored_same r w) (stored_starts r w);
-      goals = (r.goals, c.requires.2);
+      goals = r.goals;
     }
 
 pub returns : goal.returns

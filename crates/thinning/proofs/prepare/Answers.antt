@@ -5,7 +5,6 @@ use mathlib.Core.Path.{◌≡◌}
 use Rattle.numbering.specs.Count.{tally, tally_bound}
 use Rattle.name_sets.specs.declared.Names.{Names}
 use Rattle.name_sets.specs.NameSets.{holds}
-use Rattle.thinning.specs.Columns.{prepared_more}
 use Rattle.thinning.proofs.prepare.Goals as goal
 
 -- no more names than numbers
@@ -13,15 +12,10 @@ small : (own : Names) (count size : ℕ) → size ≡ tally (holds own) count �
 small own count size e h = omega (arith, e, tally_bound (holds own) count, h)
 
 pub overflow_cast-totals : goal.overflow_cast-totals
-overflow_cast-totals c = record { fits = omega (arith, small c.row-own.result c.args.count _ c.size_of-size.ensures c.requires.count_bound.0) }
+overflow_cast-totals c = record { fits = omega (arith, small c.row-own.result c.args.table.now.count _ c.size_of-size.ensures c.args.table.now.few) }
 
 pub overflow_add-bound : goal.overflow_add-bound
-overflow_add-bound c = record { fits = omega (arith, small c.row-own.result c.args.count _ c.size_of-size.ensures c.requires.count_bound.0) }
+overflow_add-bound c = record { fits = omega (arith, small c.row-own.result c.args.table.now.count _ c.size_of-size.ensures c.args.table.now.few) }
 
 pub overflow_cast-bound : goal.overflow_cast-bound
-overflow_cast-bound c = record { fits = omega (arith, small c.row-own.result c.args.count _ c.size_of-size.ensures c.requires.count_bound.0) }
-
-pub returns : goal.returns
-returns c =
-    prepared_more c.requires.count_bound.0 c.requires.count_bound.1 c.requires.prepared c.row-own.ensures c.size_of-size.ensures
-    c.put_operands.ensures.row_made c.put_operands.ensures.row_made_2
+overflow_cast-bound c = record { fits = omega (arith, small c.row-own.result c.args.table.now.count _ c.size_of-size.ensures c.args.table.now.few) }

@@ -2,7 +2,7 @@ use mathlib.Core.Path.{refl}
 use Prim.Native.Nat.{◌<◌}
 use native.Mathlib.Omega.{arith}
 use Rattle.name_sets.specs.NameSets.{none_marks}
-use Rattle.thinning.specs.Marked.{thinning_starts, thinning_nearer, thinning_on, thinning_ends, size-within, grown_without}
+use Rattle.thinning.specs.Marked.{thinning_starts, thinning_on, size-within, grown_without}
 use Rattle.thinning.proofs.size_of.Goals as goal
 
 pub loop-name-init : goal.loop-name-init
@@ -13,19 +13,8 @@ overflow_add-size c =
     let small = c.requires in
     record { fits = omega (arith, small, c.loop-name-test.true, size-within small c.loop-name.invariant c.loop-name-test.true) }
 
-pub loop-name-smaller : goal.loop-name-smaller
-loop-name-smaller c =
-    let next = c.lowest-name-in-loop-name.ensures in
-    let most = next.small in
-    let only = c.only.ensures in
-    let less = c.less-rest.ensures in
-    omega (arith, most, thinning_nearer c.requires c.loop-name.invariant c.loop-name-test.true _ only less next)
-
 pub loop-name-preserved : goal.loop-name-preserved
 loop-name-preserved c =
     let inside : c.loop-name.name < 256 = omega (arith, c.requires, c.loop-name-test.true) in
     thinning_on c.requires c.loop-name.invariant c.loop-name-test.true _ c.only.ensures c.less-rest.ensures
     c.lowest-name-in-loop-name.ensures (grown_without refl (none_marks c.loop-name.name inside) refl)
-
-pub returns : goal.returns
-returns c = (thinning_ends c.requires c.loop-name.invariant c.loop-name-test.false).size_is

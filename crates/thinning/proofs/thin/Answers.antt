@@ -1,6 +1,6 @@
 use mathlib.Core.Path.{refl}
 use native.Mathlib.Omega.{arith}
-use Rattle.thinning.specs.Marked.{thinning_starts, thinning_nearer, thinning_on, thinning_ends, size-within}
+use Rattle.thinning.specs.Marked.{thinning_starts, thinning_on, size-within}
 use Rattle.thinning.proofs.thin.Goals as goal
 
 pub loop-name-init : goal.loop-name-init
@@ -11,18 +11,7 @@ pass-s-requires c =
     let small = c.requires in
     (omega (arith, c.loop-name-test.true, small), size-within small c.loop-name.invariant c.loop-name-test.true)
 
-pub loop-name-smaller : goal.loop-name-smaller
-loop-name-smaller c =
-    let next = c.lowest-name-in-loop-name.ensures in
-    let most = next.small in
-    let only = c.only.ensures in
-    let less = c.less-rest.ensures in
-    omega (arith, most, thinning_nearer c.requires c.loop-name.invariant c.loop-name-test.true _ only less next)
-
 pub loop-name-preserved : goal.loop-name-preserved
 loop-name-preserved c =
     thinning_on c.requires c.loop-name.invariant c.loop-name-test.true _ c.only.ensures c.less-rest.ensures
     c.lowest-name-in-loop-name.ensures c.pass-s.ensures
-
-pub returns : goal.returns
-returns c = thinning_ends c.requires c.loop-name.invariant c.loop-name-test.false

@@ -7,10 +7,10 @@ use Rattle.tree.specs.AdoptLaws.{adopts_none, first_refused, adopts_one, adopts_
 use Rattle.tree.proofs.adopt.Goals as goal
 use Rattle.tree.proofs.adopt.Goals.{Else-not-has_first, Then-not-has_first}
 
-no_first : (c : Then-not-has_first) → has_first_lem (get_or c.args.rules.now c.args.v 0) ≡ false
+no_first : (c : Then-not-has_first) → has_first_lem (get_or c.args.tree.now.rules.now c.args.v 0) ≡ false
 no_first c = sym c.has_first.ensures ∙ c.if-not-has_first.true
 
-some_first : (c : Else-not-has_first) → has_first_lem (get_or c.args.rules.now c.args.v 0) ≡ true
+some_first : (c : Else-not-has_first) → has_first_lem (get_or c.args.tree.now.rules.now c.args.v 0) ≡ true
 some_first c = sym c.has_first.ensures ∙ c.if-not-has_first.false
 
 pub returns-then-not-has_first : goal.returns-then-not-has_first

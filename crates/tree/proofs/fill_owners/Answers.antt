@@ -7,5 +7,5 @@ pub returns : goal.returns
 returns c =
     let given = c.requires in
     owners_filled _ _ _ given.1.long
-    (c.take_all-found.ensures _ (none_taken _ _ _ given.0.room.2 given.2 given.1.long c.stamp.ensures))
+    (c.take_all-found.ensures _ (none_taken _ _ _ given.0 given.2 given.1.long c.stamp.ensures))
     c.stamp-2.ensures

@@ -3,7 +3,9 @@ use mathlib.Core.Path.{◌≡◌, refl, sym, ◌∙◌}
 use mathlib.Core.Bool.{Bool, true, false, not, ◌&&◌, false≢true}
 use Prim.Native.Nat.{ℕ, ◌+◌}
 use native.Mathlib.Omega.{arith}
-use borrow.Author.Tests.{eq-eqb, ne_eqb}
+use borrow.Author.Tests.{eq-eqb}
+use Rattle.std.proofs.Common.{eqb-true}
+use Rattle.std.proofs.lemmas.Bool.{not-true, not-false}
 use lib.Dec.{eqb}
 use Rattle.verdict.specs.Tells.{and_tells, leb_tells, tells_self, fails_holds}
 use Rattle.bits.specs.IfSet.{if_set_lem}
@@ -12,7 +14,7 @@ use Rattle.formula.specs.Fields.{has_a_lem, has_b, is_modal_lem}
 use Rattle.writing.specs.Spelling.{modal_fields, bits_stand}
 use Rattle.writing.specs.EntryEnds.{entry_width_lem}
 use Rattle.vetting.proofs.entry_width.Goals as goal
-use Rattle.vetting.proofs.entry_width.Goals.{After-has_a}
+use Rattle.vetting.proofs.entry_width.Goals.{then-has_b, else-has_b+then-is_modal, else-has_b+else-is_modal}
 
 module _ (k b : ℕ) where
   -- a box or diamond with an action other than 0
@@ -47,29 +49,35 @@ module _ (k b : ℕ) where
       go true = refl
       go false = refl
 
--- what is known once the kind has no B
-no-b : (c : After-has_a) → has_b c.args.kind ≡ false
-no-b c = sym c.has_b.ensures ∙ c.if-has_b.false
+pub returns-then-b-ne0 : goal.returns-then-b-ne0
+returns-then-b-ne0 c =
+    let s = c.args in (
+      elim c.if-has_b.branch [
+        | then-has_b w ↦ widest s.kind s.b (sym c.has_b.ensures ∙ w.if-has_b.true)
+        | else-has_b+then-is_modal w ↦ acting s.kind s.b (sym w.is_modal.ensures ∙ w.if-is_modal.true) (not-true (eqb s.b 0) (sym w.value-is ∙ c.if-b-ne0.true))
+        | else-has_b+else-is_modal w ↦ absurd (false≢true (sym w.if-is_modal.false ∙ sym w.value-is ∙ c.if-b-ne0.true))
+      ],
+      omega arith,
+    )
 
-pub returns-then-has_b : goal.returns-then-has_b
-returns-then-has_b c = let s = c.args in (widest s.kind s.b (sym c.has_b.ensures ∙ c.if-has_b.true), omega arith)
+pub returns-then-has_a : goal.returns-then-has_a
+returns-then-has_a c =
+    let s = c.args in (
+      elim c.if-has_b.branch [
+        | then-has_b w ↦ absurd (false≢true (sym c.if-b-ne0.false ∙ w.value-is ∙ w.if-has_b.true))
+        | else-has_b+then-is_modal w ↦ silent s.kind s.b (eqb-true s.b 0 (not-false (eqb s.b 0) (sym w.value-is ∙ c.if-b-ne0.false))) (sym c.has_a.ensures ∙ c.if-has_a.true) (sym c.has_b.ensures ∙ w.if-has_b.false)
+        | else-has_b+else-is_modal w ↦ other s.kind s.b (sym w.is_modal.ensures ∙ w.if-is_modal.false) (sym c.has_a.ensures ∙ c.if-has_a.true) (sym c.has_b.ensures ∙ w.if-has_b.false)
+      ],
+      omega arith,
+    )
 
-pub returns-then-not-has_a : goal.returns-then-not-has_a
-returns-then-not-has_a c =
-    let s = c.args in
-    (bare s.kind s.b (sym c.has_a.ensures ∙ c.if-not-has_a.true) (no-b (goal.at.returns-then-not-has_a c).After-has_a), omega arith)
-
-pub returns-then-b-eq0 : goal.returns-then-b-eq0
-returns-then-b-eq0 c =
-    let s = c.args in
-    (silent s.kind s.b c.if-b-eq0.true (sym c.has_a.ensures ∙ c.if-not-has_a.false) (no-b (goal.at.returns-then-b-eq0 c).After-has_a), omega arith)
-
-pub returns-then-is_modal : goal.returns-then-is_modal
-returns-then-is_modal c =
-    let s = c.args in
-    (acting s.kind s.b (sym c.is_modal.ensures ∙ c.if-is_modal.true) (ne_eqb s.b 0 c.if-b-eq0.false), omega arith)
-
-pub returns : goal.returns
-returns c =
-    let s = c.args in
-    (other s.kind s.b (sym c.is_modal.ensures ∙ c.if-is_modal.false) (sym c.has_a.ensures ∙ c.if-not-has_a.false) (no-b (goal.at.returns c).After-has_a), omega arith)
+pub returns-else-has_a : goal.returns-else-has_a
+returns-else-has_a c =
+    let s = c.args in (
+      elim c.if-has_b.branch [
+        | then-has_b w ↦ absurd (false≢true (sym c.if-b-ne0.false ∙ w.value-is ∙ w.if-has_b.true))
+        | else-has_b+then-is_modal w ↦ bare s.kind s.b (sym c.has_a.ensures ∙ c.if-has_a.false) (sym c.has_b.ensures ∙ w.if-has_b.false)
+        | else-has_b+else-is_modal w ↦ bare s.kind s.b (sym c.has_a.ensures ∙ c.if-has_a.false) (sym c.has_b.ensures ∙ w.if-has_b.false)
+      ],
+      omega arith,
+    )

@@ -2,7 +2,7 @@ use native.Mathlib.Omega.{arith}
 use mathlib.Core.Path.{◌≡◌, refl, sym, ap, ◌∙◌}
 use mathlib.Core.List.{List}
 use mathlib.Core.Bool.{true, false}
-use Prim.Native.Nat.{ℕ, ◌+◌, ◌*◌, ◌<◌}
+use Prim.Native.Nat.{ℕ, ◌+◌, ◌*◌, ◌<◌, ◌≤◌}
 use lib.ListN.{length, get_or, take, drop}
 use borrow.Author.Tests.{le-leb, lt-leb}
 use Rattle.formula.specs.Table.{Table}
@@ -14,7 +14,7 @@ use Rattle.writing.specs.FieldEnds.{rising_end}
 use Rattle.vetting.specs.StepLaws.{finds_stop, finds_next}
 use Rattle.vetting.specs.WalkLaws.{RisingLeft, rising_begins, rising_stop, rising_on, rising-end, part_long, part_at}
 use Rattle.vetting.proofs.judge_codes.Goals as goal
-use Rattle.vetting.proofs.judge_codes.Goals.{After-is_code, After-wide-number}
+use Rattle.vetting.proofs.judge_codes.Goals.{After-wide-number, then-number-least-via-then-number-least, then-number-least-via-else-number-least+then-not-is_code}
 
 -- in a turn: the code is read, and passes the test or not
 module _ (c : After-wide-number) where
@@ -37,36 +37,34 @@ module _ (c : After-wide-number) where
   read = c.wide-number.ensures ∙ part_at c.args.codes.now c.args.start c.args.count c.requires.1 here c.loop-i-test.true
 
   stops : fits_from (is_code_lem table) floor c.wide-number.result ≡ false → rising_end (is_code_lem table) 34 walked c.args.at ≡ stop 34 (c.args.at + 2 * here)
-  stops f = rising_stop c.loop-i.invariant.1 inside c.wide-number.result read f
+  stops f = rising_stop c.loop-i.invariant inside c.wide-number.result read f
 
   goes_on : fits_from (is_code_lem table) floor c.wide-number.result ≡ true → RisingLeft (is_code_lem table) 34 walked c.args.at (here + 1) (c.wide-number.result + 1)
-  goes_on f = rising_on c.loop-i.invariant.1 inside c.wide-number.result read f
+  goes_on f = rising_on c.loop-i.invariant inside c.wide-number.result read f
 
--- a code that rises is tested by its entry
-fits : (c : After-is_code) → fits_from (is_code_lem (kind_table c.args.kinds.now c.args.entries)) c.loop-i.least c.wide-number.result ≡ c.is_code.result
-fits c =
-    rw (le-leb c.loop-i.least c.wide-number.result c.if-number-least.false)
-    (ap (is_code_lem (kind_table c.args.kinds.now c.args.entries)) c.wide-number.ensures ∙ sym c.is_code.ensures)
+  -- a code that rises is tested by its entry
+  tested : floor ≤ c.wide-number.result → fits_from (is_code_lem table) floor c.wide-number.result ≡ is_code_lem table (get_or c.args.codes.now (c.args.start + here) 0)
+  tested h = rw (le-leb floor c.wide-number.result h) (ap (is_code_lem table) c.wide-number.ensures)
 
 pub loop-i-init : goal.loop-i-init
-loop-i-init c = (omega arith, rising_begins _ _ _ _)
+loop-i-init c = rising_begins _ _ _ _
 
 pub returns-then-number-least : goal.returns-then-number-least
 returns-then-number-least c =
-    finds_stop c.stop.result (stops (goal.at.returns-then-number-least c).After-wide-number (rw (lt-leb (floor (goal.at.returns-then-number-least c).After-wide-number) c.wide-number.result c.if-number-least.true) refl)) c.stop.ensures
-
-pub returns-then-not-is_code : goal.returns-then-not-is_code
-returns-then-not-is_code c =
-    finds_stop c.stop-then-not-is_code.result (stops (goal.at.returns-then-not-is_code c).After-wide-number (fits (goal.at.returns-then-not-is_code c).After-is_code ∙ c.if-not-is_code.true)) c.stop-then-not-is_code.ensures
-
-pub overflow_add-least : goal.overflow_add-least
-overflow_add-least c =
-    omega (arith, c.type_inv.codes (c.args.start + c.loop-i.i), c.wide-number.ensures)
+    let p = (goal.at.returns-then-number-least c).After-wide-number in
+    finds_stop
+    (stops p (elim c.then-number-least.branch [
+      | then-number-least-via-then-number-least w ↦ rw (lt-leb (floor p) c.wide-number.result w.if-number-least.true) refl
+      | then-number-least-via-else-number-least+then-not-is_code w ↦ tested p w.if-number-least.false ∙ sym w.if-not-is_code.ensures
+    ]))
+    c.at.ensures
 
 pub loop-i-preserved : goal.loop-i-preserved
-loop-i-preserved c = (omega arith, goes_on (goal.at.loop-i-preserved c).After-wide-number (fits (goal.at.loop-i-preserved c).After-is_code ∙ c.if-not-is_code.false))
+loop-i-preserved c =
+    let p = (goal.at.loop-i-preserved c).After-wide-number in
+    goes_on p (tested p c.if-number-least.false ∙ sym c.if-not-is_code.ensures)
 
 pub returns : goal.returns
 returns c =
     let n = part_long c.args.codes.now c.args.start c.args.count c.requires.1 in
-    finds_next (rising-end c.loop-i.invariant.1 (omega arith) ∙ ap (λ (m : ℕ). next (c.args.at + 2 * m)) n) (omega arith)
+    finds_next (rising-end c.loop-i.invariant (omega arith) ∙ ap (λ (m : ℕ). next (c.args.at + 2 * m)) n) (omega arith)

@@ -1,5 +1,4 @@
 -- The codes before i rise, and the rest is walked over from here.
-use Prim.Native.Nat.{◌-◌, ◌≤◌}
 use lib.ListN.{take, drop}
 use Rattle.proof_files.specs.ReadProof.{is_code_lem}
 use Rattle.proof_files.specs.ProofParts.{kind_table}
@@ -8,7 +7,4 @@ use Rattle.vetting.proofs.judge_codes.Given as goal
 
 abbrev pub invariant-loop-i : goal.invariant-loop-i
 invariant-loop-i l =
-    (l.i ≤ l.count) × RisingLeft (is_code_lem (kind_table l.kinds l.entries)) 34 (take l.count (drop l.start l.codes)) l.at l.i l.least
-
-abbrev pub decreases-loop-i : goal.decreases-loop-i
-decreases-loop-i l = l.count - l.i
+    RisingLeft (is_code_lem (kind_table l.kinds l.entries)) 34 (take l.count (drop l.start l.codes)) l.at l.i l.least

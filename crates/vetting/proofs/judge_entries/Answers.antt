@@ -5,22 +5,22 @@ use Rattle.vetting.specs.WalkLaws.{entries_begin, entries_stop, entries_on, entr
 use Rattle.vetting.proofs.judge_entries.Goals as goal
 
 pub loop-i-init : goal.loop-i-init
-loop-i-init c = (omega arith, omega arith, entries_begin _ _ _ _)
+loop-i-init c = (omega arith, entries_begin _ _ _ _)
 
 pub returns-then-not-entry_fits : goal.returns-then-not-entry_fits
 returns-then-not-entry_fits c =
-    finds_stop c.stop.result
-    (entries_stop c.loop-i.invariant.2 c.loop-i-test.true
+    finds_stop
+    (entries_stop c.loop-i.invariant.1 c.loop-i-test.true
     (sym c.entry_fits.ensures ∙ c.if-not-entry_fits.true))
-    c.stop.ensures
+    c.at.ensures
 
 pub loop-i-preserved : goal.loop-i-preserved
 loop-i-preserved c =
     let width = c.entry_width-at.ensures in
     let on =
-    entries_on c.loop-i.invariant.2 c.loop-i-test.true
+    entries_on c.loop-i.invariant.1 c.loop-i-test.true
     (sym c.entry_fits.ensures ∙ c.if-not-entry_fits.false) in
-    (omega arith, omega arith, rw width.0 on)
+    (omega arith, rw width.0 on)
 
 pub returns : goal.returns
-returns c = finds_next (entries_end_lem c.loop-i.invariant.2 c.loop-i-test.false) (omega arith)
+returns c = finds_next (entries_end_lem c.loop-i.invariant.1 (omega arith)) (omega arith)

@@ -43,21 +43,17 @@ module _ (c : After-may_follow) where
   fits = sym (c.may_follow.ensures ∙ may_follow_fits _ [] [] _ c.loop-i.floor c.wide-member.result)
 
 pub loop-i-init : goal.loop-i-init
-loop-i-init c = (omega arith, rising_begins _ _ _ _)
+loop-i-init c = rising_begins _ _ _ _
 
 pub returns-then-not-may_follow : goal.returns-then-not-may_follow
 returns-then-not-may_follow c =
-    finds_stop c.stop.result (rising_stop c.loop-i.invariant.1 (inside (goal.at.returns-then-not-may_follow c).After-may_follow) c.wide-member.result (read (goal.at.returns-then-not-may_follow c).After-may_follow) (fits (goal.at.returns-then-not-may_follow c).After-may_follow ∙ c.if-not-may_follow.true))
-    c.stop.ensures
-
-pub overflow_add-floor : goal.overflow_add-floor
-overflow_add-floor c =
-    omega (arith, c.type_inv.members (c.args.start + c.loop-i.i), c.wide-member.ensures)
+    finds_stop (rising_stop c.loop-i.invariant (inside (goal.at.returns-then-not-may_follow c).After-may_follow) c.wide-member.result (read (goal.at.returns-then-not-may_follow c).After-may_follow) (fits (goal.at.returns-then-not-may_follow c).After-may_follow ∙ c.if-not-may_follow.true))
+    c.at.ensures
 
 pub loop-i-preserved : goal.loop-i-preserved
 loop-i-preserved c =
-    (omega arith, rising_on c.loop-i.invariant.1 (inside (goal.at.loop-i-preserved c).After-may_follow) c.wide-member.result (read (goal.at.loop-i-preserved c).After-may_follow) (fits (goal.at.loop-i-preserved c).After-may_follow ∙ c.if-not-may_follow.false))
+    rising_on c.loop-i.invariant (inside (goal.at.loop-i-preserved c).After-may_follow) c.wide-member.result (read (goal.at.loop-i-preserved c).After-may_follow) (fits (goal.at.loop-i-preserved c).After-may_follow ∙ c.if-not-may_follow.false)
 
 pub returns : goal.returns
 returns c =
-    finds_next (rising-end c.loop-i.invariant.1 (omega (arith, long (goal.at.returns c).Start)) ∙ ap (λ (m : ℕ). next (c.args.at + 2 * m)) (long (goal.at.returns c).Start)) (omega arith)
+    finds_next (rising-end c.loop-i.invariant (omega (arith, long (goal.at.returns c).Start)) ∙ ap (λ (m : ℕ). next (c.args.at + 2 * m)) (long (goal.at.returns c).Start)) (omega arith)

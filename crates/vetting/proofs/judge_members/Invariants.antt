@@ -1,5 +1,4 @@
 -- The members before i rise, and the rest is walked over from here.
-use Prim.Native.Nat.{◌-◌, ◌≤◌}
 use lib.ListN.{take, drop}
 use Rattle.formula.specs.Members.{is_formula}
 use Rattle.proof_files.specs.ProofParts.{kind_table}
@@ -8,7 +7,4 @@ use Rattle.vetting.proofs.judge_members.Given as goal
 
 abbrev pub invariant-loop-i : goal.invariant-loop-i
 invariant-loop-i l =
-    (l.i ≤ l.listed) × RisingLeft (is_formula (kind_table l.kinds l.count)) 14 (take l.listed (drop l.start l.members)) l.at l.i l.floor
-
-abbrev pub decreases-loop-i : goal.decreases-loop-i
-decreases-loop-i l = l.listed - l.i
+    RisingLeft (is_formula (kind_table l.kinds l.count)) 14 (take l.listed (drop l.start l.members)) l.at l.i l.floor

@@ -1,43 +1,30 @@
 -- The number of CLM2 wants a root for each goal, and any other none.
 use native.Mathlib.Omega.{arith}
-use mathlib.Core.List.{List}
-use Prim.Native.Nat.{ℕ}
+use mathlib.Core.Path.{◌≡◌, ap, sym, ◌∙◌}
+use Prim.Native.Nat.{◌≤◌}
 use borrow.Author.Tests.{eq-eqb, ne_eqb}
 use lib.ListN.{length}
 use Rattle.formula.specs.Claim.{Form}
 use Rattle.formula.specs.NamedForm.{named_form, names_several, names_one}
-use Rattle.vetting.specs.StepLaws.{finds_stop, finds_next, finds_as}
-use Rattle.vetting.specs.RootLaws.{roots_unfit, roots_fit_lem, roots_none}
+use Rattle.writing.specs.Goals.{root_count}
+use Rattle.vetting.specs.StepLaws.{finds_stop, finds_as}
+use Rattle.vetting.specs.RootLaws.{roots_unfit, roots_fit_lem}
 use Rattle.vetting.proofs.judge_rooted.Goals as goal
-use Rattle.vetting.proofs.judge_rooted.Goals.{Start}
+use Rattle.vetting.proofs.judge_rooted.Goals.{Joined-form-eq-CLM2, then-form-eq-CLM2, else-form-eq-CLM2}
 
-module _ (s : Start) where
-  abbrev form : Form
-  form = named_form s.args.form
+wanted : (c : Joined-form-eq-CLM2) → (c.if-form-eq-CLM2.wanted ≡ root_count (named_form c.args.form) c.args.goals) × (c.if-form-eq-CLM2.wanted ≤ 16)
+wanted c =
+    elim c.if-form-eq-CLM2.branch [
+      | then-form-eq-CLM2 w ↦ (w.wanted-is ∙ sym (ap (λ (f : Form). root_count f c.args.goals) (names_several w.if-form-eq-CLM2.true)), omega arith)
+      | else-form-eq-CLM2 w ↦ (w.wanted-is ∙ sym (ap (λ (f : Form). root_count f c.args.goals) (names_one w.if-form-eq-CLM2.false)), omega arith)
+    ]
 
-  abbrev roots : List ℕ
-  roots = s.args.roots.now
-
-pub returns-then-roots-goals : goal.returns-then-roots-goals
-returns-then-roots-goals c =
-    finds_stop c.stop.result
-    (roots_unfit (form (goal.at.returns-then-roots-goals c).Start) c.args.goals _ (roots (goal.at.returns-then-roots-goals c).Start) 6 (rw (names_several c.if-form-eq-CLM2.true) (ne_eqb (length (roots (goal.at.returns-then-roots-goals c).Start)) c.args.goals c.if-roots-goals.true)))
-    c.stop.ensures
-
-pub returns-then-form-eq-CLM2 : goal.returns-then-form-eq-CLM2
-returns-then-form-eq-CLM2 c =
-    finds_as
-    (roots_fit_lem (form (goal.at.returns-then-form-eq-CLM2 c).Start) c.args.goals _ (roots (goal.at.returns-then-form-eq-CLM2 c).Start) 6 (rw (names_several c.if-form-eq-CLM2.true) (eq-eqb (length (roots (goal.at.returns-then-form-eq-CLM2 c).Start)) c.args.goals c.if-roots-goals.false)))
-    (omega arith) c.judge_roots.ensures
-
-pub returns-then-roots-ne0 : goal.returns-then-roots-ne0
-returns-then-roots-ne0 c =
-    finds_stop c.stop-then-roots-ne0.result
-    (roots_unfit (form (goal.at.returns-then-roots-ne0 c).Start) c.args.goals _ (roots (goal.at.returns-then-roots-ne0 c).Start) 6 (rw (names_one c.if-form-eq-CLM2.false) (ne_eqb (length (roots (goal.at.returns-then-roots-ne0 c).Start)) 0 c.if-roots-ne0.true)))
-    c.stop-then-roots-ne0.ensures
+pub returns-then-roots-wanted : goal.returns-then-roots-wanted
+returns-then-roots-wanted c =
+    let w = wanted (goal.at.returns-then-roots-wanted c).Joined-form-eq-CLM2 in
+    finds_stop (roots_unfit _ c.args.goals _ c.args.roots.now 6 (ne_eqb (length c.args.roots.now) _ (λ k. c.if-roots-wanted.true (k ∙ sym w.0)))) c.at.ensures
 
 pub returns : goal.returns
 returns c =
-    finds_next
-    (roots_none (form (goal.at.returns c).Start) c.args.goals _ (roots (goal.at.returns c).Start) 6 (rw (names_one c.if-form-eq-CLM2.false) (eq-eqb (length (roots (goal.at.returns c).Start)) 0 c.if-roots-ne0.false)) c.if-roots-ne0.false)
-    (omega arith)
+    let w = wanted (goal.at.returns c).Joined-form-eq-CLM2 in
+    finds_as (roots_fit_lem _ c.args.goals _ c.args.roots.now 6 (eq-eqb (length c.args.roots.now) _ (c.if-roots-wanted.false ∙ w.0))) (omega arith) c.judge_roots.ensures

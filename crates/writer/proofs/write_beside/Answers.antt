@@ -1,6 +1,6 @@
 -- Each answer is what the judge of the nodes found, and the file is laid down only where there is room for it.
 use native.Mathlib.Omega.{arith}
-use mathlib.Core.Path.{◌≡◌, refl}
+use mathlib.Core.Path.{◌≡◌}
 use mathlib.Core.List.{List}
 use Prim.Native.Nat.{ℕ}
 use lib.ListN.{length}
@@ -60,21 +60,21 @@ judge_proof-requires c =
 
 pub returns-then-out-length : goal.returns-then-out-length
 returns-then-out-length c =
-    wrote_no_room (file (goal.at.returns-then-out-length c).Start) (out (goal.at.returns-then-out-length c).Start) (found_next (c.in-Next.ensures (form (goal.at.returns-then-out-length c).Start) c.requires.0.named) refl) c.if-out-length.true c.refuse-then-out-length.ensures
+    wrote_no_room (file (goal.at.returns-then-out-length c).Start) (out (goal.at.returns-then-out-length c).Start) (found_next (c.in-Ok.ensures (form (goal.at.returns-then-out-length c).Start) c.requires.0.named)) c.if-out-length.true c.refuse-then-out-length.ensures
 
 pub put_proof-requires : goal.put_proof-requires
 put_proof-requires c =
-    let p = passes (goal.at.put_proof-requires c).Start (found_next (c.in-Next.ensures (form (goal.at.put_proof-requires c).Start) c.requires.0.named) refl) in (
+    let p = passes (goal.at.put_proof-requires c).Start (found_next (c.in-Ok.ensures (form (goal.at.put_proof-requires c).Start) c.requires.0.named)) in (
       omega (arith, p.end, c.if-out-length.false),
       node_room c.args.rules.now c.args.links.now c.args.counts.now (codes (goal.at.put_proof-requires c).Start) c.args.nodes (nodes_given c.requires.1 c.requires.2 p.nodes) p.few,
     )
 
-pub returns-in-Stop : goal.returns-in-Stop
-returns-in-Stop c =
-    let s = (goal.at.returns-in-Stop c).Start in
-    wrote_refusal (length (out s)) (file s) (out s) (found_stop (c.in-Stop.ensures (form s) c.requires.0.named) refl) c.refuse.ensures
+pub returns-in-Err : goal.returns-in-Err
+returns-in-Err c =
+    let s = (goal.at.returns-in-Err c).Start in
+    wrote_refusal (length (out s)) (file s) (out s) (found_stop (c.in-Err.ensures (form s) c.requires.0.named)) c.refuse.ensures
 
 pub returns-else-out-length : goal.returns-else-out-length
 returns-else-out-length c =
-    let walked = found_next (c.in-Next.ensures (form (goal.at.returns-else-out-length c).Start) c.requires.0.named) refl in
+    let walked = found_next (c.in-Ok.ensures (form (goal.at.returns-else-out-length c).Start) c.requires.0.named) in
     wrote_file (file (goal.at.returns-else-out-length c).Start) (out (goal.at.returns-else-out-length c).Start) _ walked (omega (arith, c.if-out-length.false)) (passes (goal.at.returns-else-out-length c).Start walked).end (c.put_proof.ensures (form (goal.at.returns-else-out-length c).Start) c.requires.0.named)

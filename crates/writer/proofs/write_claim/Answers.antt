@@ -75,20 +75,20 @@ returns-then-not-is_form c =
 pub returns-then-out-end : goal.returns-then-out-end
 returns-then-out-end c =
     promised (goal.at.returns-then-out-end c).Start _ _ (long (goal.at.returns-then-out-end c).Else-not-is_form) (named (goal.at.returns-then-out-end c).Else-not-is_form)
-    (wrote_no_room (file (goal.at.returns-then-out-end c).Start) (out (goal.at.returns-then-out-end c).Start) (found_next (c.in-Next.ensures (form (goal.at.returns-then-out-end c).Start) (named (goal.at.returns-then-out-end c).Else-not-is_form)) refl) c.if-out-end.true c.refuse-then-out-end.ensures)
+    (wrote_no_room (file (goal.at.returns-then-out-end c).Start) (out (goal.at.returns-then-out-end c).Start) (found_next (c.in-Ok.ensures (form (goal.at.returns-then-out-end c).Start) (named (goal.at.returns-then-out-end c).Else-not-is_form))) c.if-out-end.true c.refuse-then-out-end.ensures)
 
 pub put_claim-requires : goal.put_claim-requires
 put_claim-requires c =
-    let p = passes (goal.at.put_claim-requires c).Start (found_next (c.in-Next.ensures (form (goal.at.put_claim-requires c).Start) (named (goal.at.put_claim-requires c).Else-not-is_form)) refl) in
+    let p = passes (goal.at.put_claim-requires c).Start (found_next (c.in-Ok.ensures (form (goal.at.put_claim-requires c).Start) (named (goal.at.put_claim-requires c).Else-not-is_form))) in
     (omega (arith, p.end, c.if-out-end.false), p.entries, goals_room p)
 
-pub returns-in-Stop : goal.returns-in-Stop
-returns-in-Stop c =
-    promised (goal.at.returns-in-Stop c).Start _ _ (long (goal.at.returns-in-Stop c).Else-not-is_form) (named (goal.at.returns-in-Stop c).Else-not-is_form)
-    (wrote_refusal (length (out (goal.at.returns-in-Stop c).Start)) (file (goal.at.returns-in-Stop c).Start) (out (goal.at.returns-in-Stop c).Start) (found_stop (c.in-Stop.ensures (form (goal.at.returns-in-Stop c).Start) (named (goal.at.returns-in-Stop c).Else-not-is_form)) refl) c.refuse-in-Stop.ensures)
+pub returns-in-Err : goal.returns-in-Err
+returns-in-Err c =
+    promised (goal.at.returns-in-Err c).Start _ _ (long (goal.at.returns-in-Err c).Else-not-is_form) (named (goal.at.returns-in-Err c).Else-not-is_form)
+    (wrote_refusal (length (out (goal.at.returns-in-Err c).Start)) (file (goal.at.returns-in-Err c).Start) (out (goal.at.returns-in-Err c).Start) (found_stop (c.in-Err.ensures (form (goal.at.returns-in-Err c).Start) (named (goal.at.returns-in-Err c).Else-not-is_form))) c.refuse-in-Err.ensures)
 
 pub returns-else-out-end : goal.returns-else-out-end
 returns-else-out-end c =
-    let walked = found_next (c.in-Next.ensures (form (goal.at.returns-else-out-end c).Start) (named (goal.at.returns-else-out-end c).Else-not-is_form)) refl in
+    let walked = found_next (c.in-Ok.ensures (form (goal.at.returns-else-out-end c).Start) (named (goal.at.returns-else-out-end c).Else-not-is_form)) in
     promised (goal.at.returns-else-out-end c).Start _ _ (long (goal.at.returns-else-out-end c).Else-not-is_form) (named (goal.at.returns-else-out-end c).Else-not-is_form)
     (wrote_file (file (goal.at.returns-else-out-end c).Start) (out (goal.at.returns-else-out-end c).Start) _ walked (omega (arith, c.if-out-end.false)) (passes (goal.at.returns-else-out-end c).Start walked).end (c.put_claim.ensures (form (goal.at.returns-else-out-end c).Start) (named (goal.at.returns-else-out-end c).Else-not-is_form)))

@@ -24,6 +24,8 @@ use Rattle.std.proofs.Common.{ap}
 use Rattle.std.specs.Prelude.{not}
 use Rattle.writer.proofs.write_proof.Goals as goal
 use Rattle.writer.proofs.write_proof.Goals.{Else-codes-lt24576, Else-not-is_form, Start}
+use Rattle.writer.proofs.write_proof.Goals.{then-lent-lt256-via-then-lent-lt256, then-lent-lt256-via-else-lent-lt256+then-nodes_lent-lt1024}
+use Rattle.writer.proofs.write_proof.Goals.{then-lent-lt256-via-else-lent-lt256+else-nodes_lent-lt1024+then-codes-lt24576}
 
 -- every slice is as long as document 01 asks
 record Long (lent nodes_lent : ℕ) (codes : List ℕ) : Type 0 where
@@ -103,22 +105,19 @@ named c = asked_form c.args.form c.is_form.ensures (ap not c.if-not-is_form.fals
 
 pub returns-then-lent-lt256 : goal.returns-then-lent-lt256
 returns-then-lent-lt256 c =
-    short (goal.at.returns-then-lent-lt256 c).Start _ (rw (lt-ltb c.args.lent 256 c.if-lent-lt256.true) refl) (record { answer = c.refuse.ensures; laid = refl })
-
-pub returns-then-nodes_lent-lt1024 : goal.returns-then-nodes_lent-lt1024
-returns-then-nodes_lent-lt1024 c =
-    short (goal.at.returns-then-nodes_lent-lt1024 c).Start _ (rw (le-ltb c.args.lent 256 (omega (arith, c.if-lent-lt256.false)), lt-ltb c.args.nodes_lent 1024 c.if-nodes_lent-lt1024.true) refl)
-    (record { answer = c.refuse-then-nodes_lent-lt1024.ensures; laid = refl })
-
-pub returns-then-codes-lt24576 : goal.returns-then-codes-lt24576
-returns-then-codes-lt24576 c =
-    short (goal.at.returns-then-codes-lt24576 c).Start _
-    (rw (
-      le-ltb c.args.lent 256 (omega (arith, c.if-lent-lt256.false)),
-      le-ltb c.args.nodes_lent 1024 (omega (arith, c.if-nodes_lent-lt1024.false)),
-      lt-ltb (length (codes (goal.at.returns-then-codes-lt24576 c).Start)) 24576 c.if-codes-lt24576.true,
-    ) refl)
-    (record { answer = c.refuse-then-codes-lt24576.ensures; laid = refl })
+    short (goal.at.returns-then-lent-lt256 c).Start _
+    (elim c.then-lent-lt256.branch [
+      | then-lent-lt256-via-then-lent-lt256 w ↦ rw (lt-ltb c.args.lent 256 w.if-lent-lt256.true) refl
+      | then-lent-lt256-via-else-lent-lt256+then-nodes_lent-lt1024 w ↦
+          rw (le-ltb c.args.lent 256 (omega (arith, w.if-lent-lt256.false)), lt-ltb c.args.nodes_lent 1024 w.if-nodes_lent-lt1024.true) refl
+      | then-lent-lt256-via-else-lent-lt256+else-nodes_lent-lt1024+then-codes-lt24576 w ↦
+          rw (
+            le-ltb c.args.lent 256 (omega (arith, w.if-lent-lt256.false)),
+            le-ltb c.args.nodes_lent 1024 (omega (arith, w.if-nodes_lent-lt1024.false)),
+            lt-ltb (length c.args.codes.now) 24576 w.if-codes-lt24576.true,
+          ) refl
+    ])
+    (record { answer = c.refuse.ensures; laid = refl })
 
 pub returns-then-not-is_form : goal.returns-then-not-is_form
 returns-then-not-is_form c =
@@ -127,17 +126,17 @@ returns-then-not-is_form c =
 pub write_beside-requires : goal.write_beside-requires
 write_beside-requires c =
     let s = (goal.at.write_beside-requires c).Start in
-    let walked = found_next (c.in-Next.ensures (form s) (named (goal.at.write_beside-requires c).Else-not-is_form)) refl in
+    let walked = found_next (c.in-Ok.ensures (form s) (named (goal.at.write_beside-requires c).Else-not-is_form)) in
     let p = claim_passes (form s) s.args.count (table s) (sizes s) (members s) (table_of_length s.args.kinds.now s.args.a.now s.args.b.now s.args.count) walked in
     (stands_beside (named (goal.at.write_beside-requires c).Else-not-is_form) p, (long (goal.at.write_beside-requires c).Else-codes-lt24576).codes_long, s.requires)
 
-pub returns-in-Stop : goal.returns-in-Stop
-returns-in-Stop c =
-    let s = (goal.at.returns-in-Stop c).Start in
-    refused-first s _ (long (goal.at.returns-in-Stop c).Else-codes-lt24576) (named (goal.at.returns-in-Stop c).Else-not-is_form) (found_stop (c.in-Stop.ensures (form s) (named (goal.at.returns-in-Stop c).Else-not-is_form)) refl)
-    (record { answer = c.refuse-in-Stop.ensures; laid = refl })
+pub returns-in-Err : goal.returns-in-Err
+returns-in-Err c =
+    let s = (goal.at.returns-in-Err c).Start in
+    refused-first s _ (long (goal.at.returns-in-Err c).Else-codes-lt24576) (named (goal.at.returns-in-Err c).Else-not-is_form) (found_stop (c.in-Err.ensures (form s) (named (goal.at.returns-in-Err c).Else-not-is_form)))
+    (record { answer = c.refuse-in-Err.ensures; laid = refl })
 
-pub returns-in-Next : goal.returns-in-Next
-returns-in-Next c =
-    let s = (goal.at.returns-in-Next c).Start in
-    written s _ _ (long (goal.at.returns-in-Next c).Else-codes-lt24576) (named (goal.at.returns-in-Next c).Else-not-is_form) (found_next (c.in-Next.ensures (form s) (named (goal.at.returns-in-Next c).Else-not-is_form)) refl) c.write_beside.ensures
+pub returns-in-Ok : goal.returns-in-Ok
+returns-in-Ok c =
+    let s = (goal.at.returns-in-Ok c).Start in
+    written s _ _ (long (goal.at.returns-in-Ok c).Else-codes-lt24576) (named (goal.at.returns-in-Ok c).Else-not-is_form) (found_next (c.in-Ok.ensures (form s) (named (goal.at.returns-in-Ok c).Else-not-is_form))) c.write_beside.ensures

@@ -3,36 +3,36 @@ use mathlib.Core.Path.{ap, ap₂, ◌∙◌}
 use mathlib.Core.Bool.{Bool}
 use native.Mathlib.Omega.{arith}
 use Rattle.verdict.specs.Tests.{same}
-use Rattle.formula.specs.Plain.{table_of}
+use Rattle.sequents.specs.Columned.{numbered}
 use Rattle.calculus.specs.Judge.{clash, truth}
 use Rattle.principal_rules.specs.Judged.{placed, first_placed, keys_here, key_entries, first_keys_lem, keeps_ax1_here, keeps_ax2_here, keeps_d_here, keeps_none}
 use Rattle.kept.proofs.kept.kept.Goals as goal
 
 pub ax1_kept-requires : goal.ax1_kept-requires
-ax1_kept-requires c = let p = c.requires in (p.0.numbers.narrow, placed p.0 _ p.1)
+ax1_kept-requires c = let p = c.requires in placed p.0 _ p.1
 
 pub ax2_kept-requires : goal.ax2_kept-requires
-ax2_kept-requires c = let p = c.requires in (p.0.numbers.narrow, placed p.0 _ p.1)
+ax2_kept-requires c = let p = c.requires in placed p.0 _ p.1
 
 pub same_sequent-requires : goal.same_sequent-requires
 same_sequent-requires c =
     let p = c.requires in
-    (p.0.numbers.narrow, rw c.wide.ensures (first_placed p.0 _ p.1 (omega (arith, c.in-10.is)) (omega (arith, c.in-10.is))), placed p.0 _ p.1)
+    (rw c.wide.ensures (first_placed p.0 _ p.1 (omega (arith, c.in-10.is)) (omega (arith, c.in-10.is))), placed p.0 _ p.1)
 
 pub returns-in-0 : goal.returns-in-0
 returns-in-0 c =
     let p = c.requires in
     let a = c.args in
-    c.ax1_kept.ensures a.b.now a.count (key_entries p.0 a.v p.1)
-    ∙ ap (clash (table_of a.kinds.now a.a.now a.b.now a.count)) (keys_here p.0 a.v p.1)
+    c.ax1_kept.ensures a.table.now.columns.b.now a.table.now.columns.count (key_entries p.0 a.v p.1)
+    ∙ ap (clash (numbered a.table.now)) (keys_here p.0 a.v p.1)
     ∙ keeps_ax1_here p.0 _ p.1 _ c.in-0.is
 
 pub returns-in-1 : goal.returns-in-1
 returns-in-1 c =
     let p = c.requires in
     let a = c.args in
-    c.ax2_kept.ensures a.a.now a.b.now a.count (key_entries p.0 a.v p.1)
-    ∙ ap (truth (table_of a.kinds.now a.a.now a.b.now a.count)) (keys_here p.0 a.v p.1)
+    c.ax2_kept.ensures a.table.now.columns.a.now a.table.now.columns.b.now a.table.now.columns.count (key_entries p.0 a.v p.1)
+    ∙ ap (truth (numbered a.table.now)) (keys_here p.0 a.v p.1)
     ∙ keeps_ax2_here p.0 _ p.1 _ c.in-1.is
 
 pub returns-in-10 : goal.returns-in-10

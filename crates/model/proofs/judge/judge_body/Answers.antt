@@ -4,6 +4,7 @@ use mathlib.Core.List.{List}
 use Prim.Native.Nat.{ℕ}
 use native.Mathlib.Omega.{arith}
 use lib.ListN.{get_or}
+use Rattle.verdict.proofs.PassedOn.{passed_on}
 use Rattle.encoding.specs.Encode.{Counts}
 use Rattle.encoding.specs.ListLaws.{range_tells}
 use Rattle.encoding.specs.File.{Reading}
@@ -21,26 +22,22 @@ counts : (c : Else-not-count_fits) → Counts 1 64 (get_or c.args.bytes.now 4 0)
 counts c = (range_tells 1 64 _).says (sym c.count_fits.ensures ∙ c.if-not-count_fits.false)
 
 pub returns-then-bytes-lt5 : goal.returns-then-bytes-lt5
-returns-then-bytes-lt5 c = answers _ _ (count_cut (form_by c.args.acts) c.args.bytes.now c.requires c.if-bytes-lt5.true)
+returns-then-bytes-lt5 c = rw c.at.ensures (answers _ _ (count_cut (form_by c.args.acts) c.args.bytes.now c.requires c.if-bytes-lt5.true))
 
 pub returns-then-not-count_fits : goal.returns-then-not-count_fits
 returns-then-not-count_fits c =
-    answers _ _ (count_unfit (form_by c.args.acts) c.args.bytes.now c.requires (omega arith) (sym c.count_fits.ensures ∙ c.if-not-count_fits.true))
-
-pub states_step-requires : goal.states_step-requires
-states_step-requires c = omega (arith, counts c)
-
-pub overflow_cast-place : goal.overflow_cast-place
-overflow_cast-place c = omega (arith, c.in-Next.ensures.1.near)
+    rw c.at-then-not-count_fits.ensures (answers _ _ (count_unfit (form_by c.args.acts) c.args.bytes.now c.requires (omega arith) (sym c.count_fits.ensures ∙ c.if-not-count_fits.true)))
 
 pub returns-then-at-bytes : goal.returns-then-at-bytes
 returns-then-at-bytes c =
-    answers _ _ (model_follows (form_by c.args.acts) c.args.bytes.now c.requires (omega arith) (counts (goal.at.returns-then-at-bytes c).Else-not-count_fits) c.in-Next.ensures.1 c.if-at-bytes.true)
+    rw c.at-then-at-bytes.ensures
+    (answers _ _ (model_follows (form_by c.args.acts) c.args.bytes.now c.requires (omega arith) (counts (goal.at.returns-then-at-bytes c).Else-not-count_fits) c.in_ok-at.ensures.1 c.if-at-bytes.true))
 
-pub returns-in-Stop : goal.returns-in-Stop
-returns-in-Stop c =
-    answers _ _ (model_stops (form_by c.args.acts) c.args.bytes.now c.requires (omega arith) (counts (goal.at.returns-in-Stop c).Else-not-count_fits) c.in-Stop.ensures)
+pub returns-in_err-at : goal.returns-in_err-at
+returns-in_err-at c =
+    rw (passed_on _ c.from_residual.ensures.1)
+    (answers _ _ (model_stops (form_by c.args.acts) c.args.bytes.now c.requires (omega arith) (counts (goal.at.returns-in_err-at c).Else-not-count_fits) c.in_err-at.ensures))
 
-pub returns-else-at-bytes : goal.returns-else-at-bytes
-returns-else-at-bytes c =
-    answers _ _ (model_ends (form_by c.args.acts) c.args.bytes.now c.requires (omega arith) (counts (goal.at.returns-else-at-bytes c).Else-not-count_fits) c.in-Next.ensures.1 c.if-at-bytes.false)
+pub returns : goal.returns
+returns c =
+    answers _ _ (model_ends (form_by c.args.acts) c.args.bytes.now c.requires (omega arith) (counts (goal.at.returns c).Else-not-count_fits) c.in_ok-at.ensures.1 c.if-at-bytes.false)

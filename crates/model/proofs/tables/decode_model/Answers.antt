@@ -16,24 +16,21 @@ module _ (c : In-loop-i) where
   form : form_by c.for_actions-acts.result ≡ form_of c.args.bytes.now
   form = ap form_by c.for_actions-acts.ensures
 
-pub state_count-states-requires : goal.state_count-states-requires
-state_count-states-requires c = c.requires
-
 pub loop-i-init : goal.loop-i-init
-loop-i-init c = (omega arith, tabled_begins _ c.requires)
+loop-i-init c = tabled_begins _ c.requires
 
 pub put_state-put-requires : goal.put_state-put-requires
 put_state-put-requires c =
     let t = (goal.at.put_state-put-requires c).In-loop-i in
     let s = c.args.bytes.now in
-    let d = c.loop-i.invariant.1 in
+    let d = c.loop-i.invariant in
     (next_placed s c.requires d (more t), rw (form t) (next_there s c.requires d (more t)), next_unmarked s c.requires d (more t))
 
 pub loop-i-preserved : goal.loop-i-preserved
 loop-i-preserved c =
     let t = (goal.at.loop-i-preserved c).In-loop-i in
-    (omega arith, tabled_steps c.args.bytes.now c.requires c.loop-i.invariant.1 (more t) (rw (form t) at c.put_state-put.ensures))
+    tabled_steps c.args.bytes.now c.requires c.loop-i.invariant (more t) (rw (form t) at c.put_state-put.ensures)
 
 pub returns : goal.returns
 returns c =
-    tabled_ends _ c.requires c.loop-i.invariant.1 (omega (arith, c.state_count-states.ensures, c.loop-i-test.false))
+    tabled_ends _ c.requires c.loop-i.invariant (omega (arith, c.state_count-states.ensures, c.loop-i-test.false))

@@ -7,8 +7,5 @@ use Rattle.model.proofs.tables.state_count.Goals as goal
 pub bounds-bytes-4 : goal.bounds-bytes-4
 bounds-bytes-4 c = omega (arith, good_long _ c.requires)
 
-pub overflow_cast-result : goal.overflow_cast-result
-overflow_cast-result c = omega (arith, c.shared_slice_known-1.given 4)
-
 pub returns : goal.returns
 returns c = (sym (good_many _ c.requires), good_counts _ c.requires)

@@ -5,24 +5,15 @@ use Rattle.rules.specs.JudgeStages.{rules_fail, rules_pass}
 use Rattle.rules.proofs.judge.judge_nodes.Goals as goal
 
 pub loop-v-init : goal.loop-v-init
-loop-v-init c = (omega arith, λ f gs ms k w h. absurd (omega arith))
-
-pub bounds-rules-v : goal.bounds-rules-v
-bounds-rules-v c = omega (arith, c.requires.judged.columns.rules)
-
-pub overflow_cast-result : goal.overflow_cast-result
-overflow_cast-result c = omega (arith, c.requires.judged.columns.few)
+loop-v-init c f gs ms k w h = absurd (omega arith)
 
 pub returns-then-not-node_keeps : goal.returns-then-not-node_keeps
 returns-then-not-node_keeps c f gs ms k =
-    sym (rules_fail c.requires.judged _ _ _ c.refusal_of.ensures.0 c.refusal_of.ensures.1 c.loop-v-test.true (c.loop-v.invariant.1 f gs ms k)
+    sym (rules_fail c.requires.judged _ _ _ c.refusal_of.ensures.0 c.refusal_of.ensures.1 c.loop-v-test.true (c.loop-v.invariant f gs ms k)
     (sym (c.node_keeps.ensures f gs ms k) ∙ c.if-not-node_keeps.true))
 
-pub loop-v-smaller : goal.loop-v-smaller
-loop-v-smaller c = omega arith
-
 pub loop-v-preserved : goal.loop-v-preserved
-loop-v-preserved c = (omega arith, λ f gs ms k. below_more _ _ (c.loop-v.invariant.1 f gs ms k) (sym (c.node_keeps.ensures f gs ms k) ∙ c.if-not-node_keeps.false))
+loop-v-preserved c f gs ms k = below_more _ _ (c.loop-v.invariant f gs ms k) (sym (c.node_keeps.ensures f gs ms k) ∙ c.if-not-node_keeps.false)
 
 pub returns : goal.returns
-returns c f gs ms k = sym (rules_pass c.requires.judged _ _ c.loop-v-test.false (c.loop-v.invariant.1 f gs ms k))
+returns c f gs ms k = sym (rules_pass c.requires.judged _ _ c.loop-v-test.false (c.loop-v.invariant f gs ms k))

@@ -1,23 +1,38 @@
-use mathlib.Core.Path.{sym, ◌∙◌}
+-- `is_side_plus` meets its contract: the child's words are those of the side with the code, and only there are they the same set.
+use mathlib.Core.Path.{◌≡◌, refl}
+use mathlib.Core.Logic.{◌≢◌}
+use mathlib.Core.Bool.{Bool, true, false}
+use mathlib.Core.List.{List}
 use native.Mathlib.Omega.{arith}
-use borrow.Author.Count.{below_more}
+use lib.ListN.{get_or}
+use Prim.Native.Nat.{ℕ, ◌<◌}
 use borrow.Author.Rules.{rules}
-use Rattle.sequents.specs.CodeSet.{inserted, holds_with, same_words, other_words}
+use borrow.Author.Tests.{tests}
+use Rattle.std.proofs.Common.{zero-add}
+use Rattle.std.specs.Bool.{MatchBool}
+use Rattle.std.specs.List.{AllWithin, HoldsAt, range_with_len}
+use Rattle.std.proofs.lemmas.Iterator.{cases_from_all, YieldsList-from_range}
+use Rattle.std.proofs.lemmas.List.FromFn.{get_or-range_with_len}
+use Rattle.verdict.specs.Tests.{same}
+use Rattle.sequents.specs.CodeSet.{Holds, inserted, holds_with, same_words, other_words}
 use Rattle.sequents.proofs.principal.is_side_plus.Goals as goal
 
-pub loop-i-init : goal.loop-i-init
-loop-i-init c = (search rules, λ eight k h. omega arith)
+-- word i of two sets is the same, or differs
+abbrev Alike : List ℕ → List ℕ → ℕ → Type 0
+Alike x y i = get_or x i 0 ≡ get_or y i 0
 
-pub returns-then-child-i : goal.returns-then-child-i
-returns-then-child-i c s m S M =
-    let a = c.args in
-    other_words a.child.now (inserted a.side.now a.code) m _ M (holds_with a.side.now s a.code c.requires S)
-    c.loop-i.i (λ e. c.if-child-i.true (e ∙ sym (c.word_plus.ensures S.eight)))
+abbrev Unlike : List ℕ → List ℕ → ℕ → Type 0
+Unlike x y i = get_or x i 0 ≢ get_or y i 0
 
-pub loop-i-preserved : goal.loop-i-preserved
-loop-i-preserved c = (search rules, λ eight. below_more _ _ (c.loop-i.invariant.1 eight) (c.if-child-i.false ∙ c.word_plus.ensures eight))
+decided : (x y l m : List ℕ) → Holds x l → Holds y m → (r : Bool)
+    → MatchBool r (AllWithin (Alike x y) (range_with_len 0 8) 0 8) ((k : ℕ) × (k < 8) × HoldsAt (Unlike x y) (range_with_len 0 8) k) → r ≡ same l m
+decided x y l m X Y true h = same_words x y l m X Y (λ i b. (rw (get_or-range_with_len 0 8 i 0 b, zero-add) at (h i 0 (omega arith) b)))
+decided x y l m X Y false (k, b, h) = other_words x y l m X Y k (rw (get_or-range_with_len 0 8 k 0 b, zero-add) at (h 0))
 
 pub returns : goal.returns
 returns c s m S M =
     let a = c.args in
-    same_words a.child.now (inserted a.side.now a.code) m _ M (holds_with a.side.now s a.code c.requires S) (λ k h. c.loop-i.invariant.1 S.eight k (omega arith))
+    let with_code = inserted a.side.now a.code in
+    decided a.child.now with_code m _ M (holds_with a.side.now s a.code c.requires S) c.all.result
+    (cases_from_all _ _ _ (Alike a.child.now with_code) (Unlike a.child.now with_code) c.all.ensures.ran (YieldsList-from_range 0 8 8 refl refl)
+    (λ x q k. search (rules, tests)) (λ x q k. search (rules, tests)))

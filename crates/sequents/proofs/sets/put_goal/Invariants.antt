@@ -1,5 +1,5 @@
 -- `put_goal` meets its contract. The invariant: the set holds the members from i on, in focus.
-use Prim.Native.Nat.{◌≤◌, ◌-◌}
+use Prim.Native.Nat.{◌≤◌}
 use Rattle.verdict.specs.Tests.{each}
 use Rattle.sequents.specs.Part.{part}
 use Rattle.sequents.specs.CodeSet.{Holds}
@@ -7,7 +7,4 @@ use Rattle.sequents.specs.Keys.{in_focus}
 use Rattle.sequents.proofs.sets.put_goal.Given as goal
 
 abbrev pub invariant-loop-i : goal.invariant-loop-i
-invariant-loop-i l = (l.from ≤ l.i) × (l.i ≤ l.to) × Holds l.set (each (in_focus l.canon) (part l.members l.i l.to))
-
-abbrev pub decreases-loop-i : goal.decreases-loop-i
-decreases-loop-i l = l.i - l.from
+invariant-loop-i l = (l.from ≤ l.i) × Holds l.set (each (in_focus l.canon) (part l.members l.i l.to))

@@ -1,21 +1,12 @@
-use native.Mathlib.Omega.{arith}
-use borrow.Author.Count.{below_more}
-use borrow.Author.Rules.{rules}
-use Rattle.sequents.specs.CodeSet.{same_words, other_words}
+-- `same` meets its contract: sets are the same where all eight words are, and only there.
+use Rattle.std.proofs.lemmas.Slice.Eq.{slice_eq-Decides}
+use Rattle.std.proofs.lemmas.Bool.Decides.{Decides-eqb}
+use Rattle.verdict.specs.Tells.{same_test}
+use Rattle.sequents.specs.CodeSet.{same_lists}
 use Rattle.sequents.proofs.sets.same.Goals as goal
-
-pub loop-i-init : goal.loop-i-init
-loop-i-init c = (search rules, λ k h. omega arith)
-
-pub returns-then-x-i : goal.returns-then-x-i
-returns-then-x-i c l m X Y =
-    let a = c.args in
-    other_words a.x.now a.y.now l m X Y c.loop-i.i c.if-x-i.true
-
-pub loop-i-preserved : goal.loop-i-preserved
-loop-i-preserved c = (search rules, below_more _ _ c.loop-i.invariant.1 c.if-x-i.false)
 
 pub returns : goal.returns
 returns c l m X Y =
     let a = c.args in
-    same_words a.x.now a.y.now l m X Y (λ k h. c.loop-i.invariant.1 k (omega arith))
+    let words = slice_eq-Decides Decides-eqb a.x.now a.y.now _ c.eq.ensures in
+    same_test (record { says = words.0; holds = words.1 }) (same_lists a.x.now a.y.now l m X Y)

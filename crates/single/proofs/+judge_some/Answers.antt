@@ -1,7 +1,0 @@
--- there is room for 128 nodes
-use native.Mathlib.Omega.{arith}
-use Rattle.formula.specs.NodeColumns.{room}
-use Rattle.single.proofs.+judge_some.Goals as goal
-
-pub judge_in-requires : goal.judge_in-requires
-judge_in-requires t c = (c.requires.0, room 128 c.requires.1 (omega arith), c.requires.2)
