@@ -43,6 +43,8 @@ fn find(sought: &Sought, bound: &[u16; 256]) -> usize
 
 // The number of an entry that is the same form, the one guessed or else the first, or e, which is a fresh one.
 fn search(sought: &Sought, bound: &[u16; 256], guess: usize) -> u8
+    requires k_lt_count { sought.now.k < sought.now.shapes.now.table.count }
+    requires cells { 256 * sought.now.shapes.now.table.count ≤ length sought.now.numbers.now }
     ensures { Searched sought.now.shapes.now.table.count (Like sought.now bound.now) (cell sought.now.numbers.now sought.now.k) sought.now.e result }
 {
     let Sought {
