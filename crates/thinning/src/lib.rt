@@ -110,6 +110,8 @@ impl Owner<'_> {
 
     // Which of its names are free in the operand that a field names, as its row of marks. Where there are none, or the operand has all of
     // them, as most operands have, they are not passed one by one.
+    // Put into its caller: otherwise every entry is laid out in memory to be lent, whatever its kind.
+    #[inline(always)]
     fn put_thinned(&self, field: u16, marks: &mut [u64])
         requires { 4 * self.now.e + 3 < length marks.old }
         ensures { RowMade marks.old marks.new self.now.e (Thins self.now field) }
@@ -135,6 +137,8 @@ impl Owner<'_> {
     }
 
     // The same for both operands of an or or and. No other entry has its rows looked at.
+    // Put into its caller for the same reason.
+    #[inline(always)]
     fn put_operands(&self, firsts: &mut [u64], seconds: &mut [u64])
         requires { (4 * self.now.e + 3 < length firsts.old) × (4 * self.now.e + 3 < length seconds.old) }
         ensures row_made { RowMade firsts.old firsts.new self.now.e (ThinsTwo self.now (get_or self.now.table.now.a.now self.now.e 0)) }
