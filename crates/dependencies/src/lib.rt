@@ -2,8 +2,8 @@
 #![tactic(auto)]
 
 ghost use Rattle.std.specs.Prelude.{◌≡◌, true, false, ◌<◌, length, get_or};
-ghost use Rattle.dependencies.specs.Actions.{Modal, ActionBit};
-ghost use Rattle.dependencies.specs.Columned.{top_in, TopsIn, EnteredIn, UsersIn, UsedIn};
+ghost use Rattle.dependencies.specs.Actions.{Modal, NearActions, ActionBit, UsedActions};
+ghost use Rattle.dependencies.specs.Columned.{top_in, TopsIn, EnteredIn, UsersIn};
 
 pub mod prepared;
 
@@ -96,12 +96,13 @@ fn action_bit(kind: u8, b: u16) -> u16
 }
 
 // The actions of the boxes and diamonds: bit n for action n.
-pub fn used_actions(claim: &ClaimColumns) -> u16
-    ensures { UsedIn claim.now result }
+pub fn used_actions(kinds: &[u8], b: &[u16]) -> u16
+    requires { NearActions kinds.now b.now }
+    ensures { UsedActions kinds.now b.now (length kinds.now) result }
 {
     let mut used: u16 = 0;
-    for (e, kind) in claim.kinds.iter().enumerate() {
-        used |= action_bit(*kind, claim.b[e]);
+    for (e, kind) in kinds.iter().enumerate() {
+        used |= action_bit(*kind, b[e]);
     }
     used
 }

@@ -94,7 +94,7 @@ fn fill_all(claim: &ClaimColumns, model: &MarkedModel, words: &mut [u64])
     requires { length words.old ≡ length claim.now.kinds.now }
     ensures { words.new ≡ marked_words model.now (claim_table claim.now) }
 {
-    let used = used_actions(claim);
+    let used = used_actions(claim.kinds, claim.b);
     if used < 2 {
         fill_by_one(claim, model, used, words);
     } else {

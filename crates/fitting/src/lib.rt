@@ -5,6 +5,7 @@
 ghost use Rattle.std.specs.Prelude.{◌≡◌, List, true, ℕ, ◌+◌, ◌<◌, ◌≤◌, length, take};
 ghost use Rattle.verdict.specs.Lists.{Rising, written};
 ghost use Rattle.verdict.specs.Tests.{member};
+ghost use Rattle.formula.specs.Plain.{table_of};
 ghost use Rattle.formula.specs.Columned.{entries};
 ghost use Rattle.sequents.specs.Columned.{numbered};
 ghost use Rattle.sequents.specs.CodeSet.{Holds};
@@ -22,24 +23,19 @@ use operand_rules::and_kept;
 use sequents::numbered::NumberedTable;
 use sequents::sets::{code_of, has, key, put_goal};
 
-// Whether two claims have the same entries, record by record.
-pub fn same_entries(table: &EntryColumns, other: &EntryColumns) -> bool
-    ensures { result ≡ same_entries_lem (entries table.now) (entries other.now) }
+// Whether two claims have the same entries, record by record. The second may have any count: only equal counts are compared further.
+pub fn same_entries(
+    table: &EntryColumns,
+    other_kinds: &[u8; 256],
+    other_a: &[u16; 256],
+    other_b: &[u16; 256],
+    other_count: usize,
+) -> bool
+    ensures { result ≡ same_entries_lem (entries table.now) (table_of other_kinds.now other_a.now other_b.now other_count) }
 {
     let EntryColumns {
-        kinds,
-        a,
-        b,
-        count,
-        ..
+        kinds, a, b, count, ..
     } = *table;
-    let EntryColumns {
-        kinds: other_kinds,
-        a: other_a,
-        b: other_b,
-        count: other_count,
-        ..
-    } = *other;
     count == other_count
         && kinds[..count] == other_kinds[..count]
         && a[..count] == other_a[..count]

@@ -100,13 +100,7 @@ fn join_accepted(
         b: &b,
         count: entries,
     };
-    let other = EntryColumns {
-        kinds: &other_kinds,
-        a: &other_a,
-        b: &other_b,
-        count: other_entries,
-    };
-    if !same_entries(&table, &other) {
+    if !same_entries(&table, &other_kinds, &other_a, &other_b, other_entries) {
         return refuse(JoinFault::Unfit as u16, entry);
     }
     join_goals_of(

@@ -1,4 +1,4 @@
-use Rattle.dependencies.specs.Actions.{near_actions, used_none, used_more}
+use Rattle.dependencies.specs.Actions.{used_none, used_more}
 use Rattle.dependencies.proofs.used_actions.Goals as goal
 
 pub loop-e-init : goal.loop-e-init
@@ -8,4 +8,4 @@ pub loop-e-preserved : goal.loop-e-preserved
 loop-e-preserved c = used_more c.loop-e.invariant c.action_bit-used.ensures
 
 pub action_bit-used-requires : goal.action_bit-used-requires
-action_bit-used-requires c = (near_actions c.args.claim.now.is_claim).2 _ c.loop-e-test.true
+action_bit-used-requires c = c.requires.2 _ c.loop-e-test.true

@@ -3,4 +3,4 @@ use Rattle.dependencies.specs.Actions.{UsedActions}
 use Rattle.dependencies.proofs.used_actions.Given as goal
 
 abbrev pub invariant-loop-e : goal.invariant-loop-e
-invariant-loop-e l = UsedActions l.claim.kinds.now l.claim.b.now l.e l.used
+invariant-loop-e l = UsedActions l.kinds l.b l.e l.used

@@ -22,17 +22,17 @@ module _ (n : ℕ) (l m : List ℕ) where
       let k : e < n = omega (arith, p) in get_or-take n l e 0 k ∙ each e k ∙ sym (get_or-take n m e 0 k))
 
 -- the tables of the two claims, which have as many entries
-module _ (s : Start) (same : s.args.table.now.count ≡ s.args.other.now.count) where
+module _ (s : Start) (same : s.args.table.now.count ≡ s.args.other_count) where
   abbrev Same : Type 0
-  Same = table_of s.args.table.now.kinds.now s.args.table.now.a.now s.args.table.now.b.now s.args.table.now.count ≡ table_of s.args.other.now.kinds.now s.args.other.now.a.now s.args.other.now.b.now s.args.other.now.count
+  Same = table_of s.args.table.now.kinds.now s.args.table.now.a.now s.args.table.now.b.now s.args.table.now.count ≡ table_of s.args.other_kinds.now s.args.other_a.now s.args.other_b.now s.args.other_count
 
   abbrev told : Bool
-  told = same_entries_lem (table_of s.args.table.now.kinds.now s.args.table.now.a.now s.args.table.now.b.now s.args.table.now.count) (table_of s.args.other.now.kinds.now s.args.other.now.a.now s.args.other.now.b.now s.args.other.now.count)
+  told = same_entries_lem (table_of s.args.table.now.kinds.now s.args.table.now.a.now s.args.table.now.b.now s.args.table.now.count) (table_of s.args.other_kinds.now s.args.other_a.now s.args.other_b.now s.args.other_count)
 
-  rows : Same → RowsSame s.args.table.now.kinds.now s.args.table.now.a.now s.args.table.now.b.now s.args.other.now.kinds.now s.args.other.now.a.now s.args.other.now.b.now s.args.table.now.count
+  rows : Same → RowsSame s.args.table.now.kinds.now s.args.table.now.a.now s.args.table.now.b.now s.args.other_kinds.now s.args.other_a.now s.args.other_b.now s.args.table.now.count
   rows q e h =
       sym (table_of_entry s.args.table.now.kinds.now s.args.table.now.a.now s.args.table.now.b.now s.args.table.now.count e h) ∙ ap (λ (t : Table). entry t e) q
-      ∙ table_of_entry s.args.other.now.kinds.now s.args.other.now.a.now s.args.other.now.b.now s.args.other.now.count e (omega arith)
+      ∙ table_of_entry s.args.other_kinds.now s.args.other_a.now s.args.other_b.now s.args.other_count e (omega arith)
 
   -- as long as a slice of so many is
   abbrev Front : List ℕ → List ℕ → Type 0
@@ -40,19 +40,19 @@ module _ (s : Start) (same : s.args.table.now.count ≡ s.args.other.now.count) 
       length (take s.args.table.now.count l) ≡ s.args.table.now.count → length (take s.args.table.now.count m) ≡ s.args.table.now.count
       → take s.args.table.now.count l ≡ take s.args.table.now.count m
 
-  kinds_front : Same → Front s.args.table.now.kinds.now s.args.other.now.kinds.now
+  kinds_front : Same → Front s.args.table.now.kinds.now s.args.other_kinds.now
   kinds_front q i j = front_same _ _ _ i j (λ e h. ap (λ (x : Entry). x.kind) (rows q e h))
 
-  a_front : Same → Front s.args.table.now.a.now s.args.other.now.a.now
+  a_front : Same → Front s.args.table.now.a.now s.args.other_a.now
   a_front q i j = front_same _ _ _ i j (λ e h. ap (λ (x : Entry). x.a) (rows q e h))
 
-  b_front : Same → Front s.args.table.now.b.now s.args.other.now.b.now
+  b_front : Same → Front s.args.table.now.b.now s.args.other_b.now
   b_front q i j = front_same _ _ _ i j (λ e h. ap (λ (x : Entry). x.b) (rows q e h))
 
   no : (Same → ⊥) → false ≡ told
   no d = sym (fails_holds (same_entries_tells _ _) d)
 
-  last : (r : Bool) → (r ≡ true → RowsSame s.args.table.now.kinds.now s.args.table.now.a.now s.args.table.now.b.now s.args.other.now.kinds.now s.args.other.now.a.now s.args.other.now.b.now s.args.table.now.count) → (r ≡ false → Same → ⊥) → r ≡ told
+  last : (r : Bool) → (r ≡ true → RowsSame s.args.table.now.kinds.now s.args.table.now.a.now s.args.table.now.b.now s.args.other_kinds.now s.args.other_a.now s.args.other_b.now s.args.table.now.count) → (r ≡ false → Same → ⊥) → r ≡ told
   last true agree differ = rows_all _ _ _ _ _ _ _ _ same (agree refl)
   last false agree differ = no (differ refl)
 

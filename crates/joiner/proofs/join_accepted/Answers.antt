@@ -35,11 +35,6 @@ invariant_of-table c =
     let x = first (goal.at.invariant_of-table c).After-read_half-entries in
     record { few = (c.read_half-entries.ensures x.correct.read.claim x.correct.formed.claim_formed x.one).entries }
 
-pub invariant_of-other : goal.invariant_of-other
-invariant_of-other c =
-    let y = second (goal.at.invariant_of-other c).After-read_half-entries in
-    record { few = (c.read_half-other_entries.ensures y.correct.read.claim y.correct.formed.claim_formed y.one).entries }
-
 pub returns-then-not-same_entries : goal.returns-then-not-same_entries
 returns-then-not-same_entries c =
     let x = first (goal.at.returns-then-not-same_entries c).After-read_half-entries in
