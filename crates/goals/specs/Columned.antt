@@ -1,9 +1,8 @@
 -- goals and roots in the program's columns
-use Rattle.std.specs.Prelude.{ℕ}
+use Rattle.std.specs.Prelude.{List, ℕ}
 use Rattle.formula.specs.Table.{Table}
 use Rattle.formula.specs.Claim.{Form, Claim}
 use Rattle.formula.specs.Held.{goals_of}
-use Rattle.formula.specs.declared.NodeColumns.{NodeColumns}
 use Rattle.sequents.specs.declared.numbered.NumberedTable.{NumberedTable}
 use Rattle.goals.specs.declared.columns.GoalColumns.{GoalColumns}
 use Rattle.goals.specs.Goals.{Goals, GoalsOver}
@@ -13,8 +12,8 @@ abbrev pub GoalsIn : ℕ → GoalColumns → ℕ → Type 0
 GoalsIn n g m = Goals n g.bounds.now g.members.now g.count g.roots.now m
 
 -- over a table t that the columns number
-abbrev pub OverIn : Table → NumberedTable → GoalColumns → NodeColumns → Type 0
-OverIn t table g p = GoalsOver t table.canon.now g.bounds.now g.members.now g.count p.starts.now p.codes.now p.tree.nodes
+abbrev pub OverIn : Table → NumberedTable → GoalColumns → List ℕ → List ℕ → ℕ → Type 0
+OverIn t table g ss cs m = GoalsOver t table.canon.now g.bounds.now g.members.now g.count ss cs m
 
 -- the claim that they make of a table
 abbrev pub claim_in : Form → Table → GoalColumns → Claim

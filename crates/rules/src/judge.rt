@@ -99,7 +99,7 @@ fn judge_tree(
     requires owned { OwnedIn proof.now owners.now × CountedOnce proof.now.tree.nodes entries.old exits.old }
     ensures { (f : Form) → shown result ≡ tree_rules_judged (claim_in f (numbered table.now) goals.now) (derivation_in proof.now goals.now) }
 {
-    judge_goals(table, goals, proof)?;
+    judge_goals(table, goals, proof.starts, proof.codes, proof.tree.nodes)?;
     judge_rules(table, proof, owners, entries, exits)
 }
 

@@ -5,11 +5,11 @@ ghost use Rattle.std.specs.Prelude.{◌≡◌, List, [], ◌∷◌, ℕ, ◌<◌
 ghost use Rattle.verdict.specs.Tests.{member, same as sameSet, remove, each};
 ghost use Rattle.formula.specs.Codes.{code as code_of, entry_of_lem};
 ghost use Rattle.formula.specs.Table.{Table};
-ghost use Rattle.formula.specs.PlainNodes.{proof_of};
+ghost use Rattle.formula.specs.PlainNodes.{codes_at_lem, proof_of};
 ghost use Rattle.sequents.specs.CodeSet.{Holds};
 ghost use Rattle.sequents.specs.Part.{part, Fit};
 ghost use Rattle.sequents.specs.Keys.{Narrow, key_at, keys_of, in_focus, RootOver};
-ghost use Rattle.sequents.specs.Placed.{Members};
+ghost use Rattle.sequents.specs.Placed.{Placed, Members};
 ghost use Rattle.sequents.specs.Columned.{PlacedIn, codes_in};
 ghost use Rattle.calculus.specs.View.{plain};
 ghost use Rattle.calculus.specs.Judge.{states};
@@ -87,12 +87,20 @@ pub fn put_part(set: &mut [u64; 8], table: &NumberedTable, codes: &[u16])
     }
 }
 
+// The codes from node v's start up to the next node's.
+fn codes_at<'a>(starts: &[u16], codes: &'a [u16], v: usize) -> &'a [u16]
+    requires { Placed starts.now codes.now v }
+    ensures { result.now ≡ codes_at_lem starts.now codes.now v }
+{
+    &codes[wide(starts[v])..wide(starts[v + 1])]
+}
+
 // The codes of node v.
 pub fn codes_of<'a>(proof: &NodeColumns<'a>, v: usize) -> &'a [u16]
     requires { PlacedIn proof.now v }
     ensures { result.now ≡ codes_in proof.now v }
 {
-    &proof.codes[wide(proof.starts[v])..wide(proof.starts[v + 1])]
+    codes_at(proof.starts, proof.codes, v)
 }
 
 // The sequent of node v, into a set that has none.
@@ -131,15 +139,16 @@ pub fn root_is_goal(
     members: &[u16; 384],
     from: usize,
     to: usize,
-    proof: &NodeColumns,
+    starts: &[u16],
+    codes: &[u16],
     root: usize,
 ) -> bool
-    requires { Members 256 members.now from to × PlacedIn proof.now root }
-    ensures { (t : Table) → RootOver t table.now.canon.now (part members.now from to) (codes_in proof.now root) →
-        (rs ls : List ℕ) (n : ℕ) → root < n → result ≡ states t (plain (proof_of rs ls proof.now.starts.now proof.now.codes.now n)) root (part members.now from to) }
+    requires { Members 256 members.now from to × Placed starts.now codes.now root }
+    ensures { (t : Table) → RootOver t table.now.canon.now (part members.now from to) (codes_at_lem starts.now codes.now root) →
+        (rs ls : List ℕ) (n : ℕ) → root < n → result ≡ states t (plain (proof_of rs ls starts.now codes.now n)) root (part members.now from to) }
 {
     let mut found = [0u64; 8];
-    put_sequent(&mut found, table, proof, root);
+    put_part(&mut found, table, codes_at(starts, codes, root));
     let mut claimed = [0u64; 8];
     put_goal(&mut claimed, table.canon, members, from, to);
     same(&found, &claimed)

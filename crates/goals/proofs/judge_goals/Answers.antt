@@ -22,17 +22,17 @@ members_at G i h =
 
 -- what is compared at goal i
 compared : (c : After-root_is_goal) → let a = c.args in (t : Table)
-    → GoalsOver t a.table.now.canon.now a.goals.now.bounds.now a.goals.now.members.now a.goals.now.count a.proof.now.starts.now a.proof.now.codes.now a.proof.now.tree.nodes
+    → GoalsOver t a.table.now.canon.now a.goals.now.bounds.now a.goals.now.members.now a.goals.now.count a.starts.now a.codes.now a.nodes
     → (rs ls : List ℕ)
     → c.root_is_goal.result
-    ≡ states t (plain (proof_of rs ls a.proof.now.starts.now a.proof.now.codes.now a.proof.now.tree.nodes)) (get_or a.goals.now.roots.now c.loop-i.i 0) (codes_at_lem a.goals.now.bounds.now a.goals.now.members.now c.loop-i.i)
+    ≡ states t (plain (proof_of rs ls a.starts.now a.codes.now a.nodes)) (get_or a.goals.now.roots.now c.loop-i.i 0) (codes_at_lem a.goals.now.bounds.now a.goals.now.members.now c.loop-i.i)
 compared c t over rs ls =
     let a = c.args in
     let h = c.loop-i-test.true in
     let inside = c.requires.goals.roots.inside _ h in
-    let root : RootOver t a.table.now.canon.now (codes_at_lem a.goals.now.bounds.now a.goals.now.members.now c.loop-i.i) (codes_at_lem a.proof.now.starts.now a.proof.now.codes.now (get_or a.goals.now.roots.now c.loop-i.i 0)) =
+    let root : RootOver t a.table.now.canon.now (codes_at_lem a.goals.now.bounds.now a.goals.now.members.now c.loop-i.i) (codes_at_lem a.starts.now a.codes.now (get_or a.goals.now.roots.now c.loop-i.i 0)) =
     record { numbers = over.numbers; members = over.members _ h; codes = over.codes _ inside } in
-    rw (c.wide.ensures, c.wide-in-loop-i.ensures, c.wide-in-loop-i-2.ensures) at c.root_is_goal.ensures t root rs ls a.proof.now.tree.nodes inside
+    rw (c.wide.ensures, c.wide-in-loop-i.ensures, c.wide-in-loop-i-2.ensures) at c.root_is_goal.ensures t root rs ls a.nodes inside
 
 pub loop-i-init : goal.loop-i-init
 loop-i-init c t over rs ls j h = absurd (omega arith)
@@ -53,7 +53,7 @@ returns-then-not-root_is_goal c t over f rs ls =
 pub loop-i-preserved : goal.loop-i-preserved
 loop-i-preserved c t over =
     let a = c.args in
-    one_stated t a.goals.now.bounds.now a.goals.now.members.now a.goals.now.roots.now a.proof.now.starts.now a.proof.now.codes.now a.proof.now.tree.nodes
+    one_stated t a.goals.now.bounds.now a.goals.now.members.now a.goals.now.roots.now a.starts.now a.codes.now a.nodes
     (c.loop-i.invariant t over)
     (λ rs ls. sym (compared (goal.at.loop-i-preserved c).After-root_is_goal t over rs ls) ∙ c.if-not-root_is_goal.false)
 

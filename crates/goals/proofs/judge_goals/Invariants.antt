@@ -6,4 +6,4 @@ use Rattle.goals.proofs.judge_goals.Given as goal
 
 abbrev pub invariant-loop-i : goal.invariant-loop-i
 invariant-loop-i l =
-    (t : Table) → OverIn t l.table l.goals l.proof → Stated t l.goals.bounds.now l.goals.members.now l.goals.roots.now l.proof.starts.now l.proof.codes.now l.proof.tree.nodes l.i
+    (t : Table) → OverIn t l.table l.goals l.starts l.codes l.nodes → Stated t l.goals.bounds.now l.goals.members.now l.goals.roots.now l.starts l.codes l.nodes l.i

@@ -16,8 +16,8 @@ use Rattle.sequents.specs.Part.{part}
 use Rattle.calculus.specs.Judge.{states, keys}
 use Rattle.sequents.proofs.sets.root_is_goal.Goals as goal
 
-pub put_sequent-requires : goal.put_sequent-requires
-put_sequent-requires c = (search rules, holds_none)
+pub put_part-requires : goal.put_part-requires
+put_part-requires c = (rw c.codes_at.ensures c.requires.1.span.small, holds_none)
 
 pub put_goal-requires : goal.put_goal-requires
 put_goal-requires c = (search rules, search rules, holds_none)
@@ -26,9 +26,9 @@ pub returns : goal.returns
 unfolding states keys
 returns c t R rs ls n h =
     let a = c.args in
-    let found = keys_of_lem R.numbers (codes_at_lem a.proof.now.starts.now a.proof.now.codes.now a.root) R.codes
-    ∙ ap (λ (l : List ℕ). each (keyIn t) l) (sym (ap (λ (x : Node). x.codes) (proof_of_node rs ls a.proof.now.starts.now a.proof.now.codes.now n a.root h))) in
+    let found = keys_of_lem R.numbers (codes_at_lem a.starts.now a.codes.now a.root) R.codes
+    ∙ ap (λ (l : List ℕ). each (keyIn t) l) (sym (ap (λ (x : Node). x.codes) (proof_of_node rs ls a.starts.now a.codes.now n a.root h))) in
     let claimed = each_same {g = λ e. keyIn t (code e 1)} (part a.members.now a.from a.to) (λ e m. key_code R.numbers e 1 (omega arith) (R.members e m)) in
-    c.same.ensures (keys_of a.table.now.canon.now (codes_at_lem a.proof.now.starts.now a.proof.now.codes.now a.root)) (each (in_focus a.table.now.canon.now) (part a.members.now a.from a.to))
-    c.put_sequent.ensures c.put_goal.ensures
+    c.same.ensures (keys_of a.table.now.canon.now (codes_at_lem a.starts.now a.codes.now a.root)) (each (in_focus a.table.now.canon.now) (part a.members.now a.from a.to))
+    (rw c.codes_at.ensures at c.put_part.ensures) c.put_goal.ensures
     ∙ ap₂ {C = Bool} sameSet found claimed
