@@ -1,5 +1,5 @@
 -- an entry at a place of a claim file, as the program reads it
-use Rattle.std.specs.Prelude.{◌≡◌, refl, List, Bool, true, false, not, ◌&&◌, ◌||◌, ℕ, ◌+◌, ◌-◌, ◌<◌, ◌≤◌, eqb, length, get_or, drop, Ok, Err}
+use Rattle.std.specs.Prelude.{◌≡◌, refl, List, Bool, true, false, not, ◌&&◌, ◌||◌, ℕ, ◌+◌, ◌-◌, ◌<◌, ◌≤◌, eqb, length, get_or, drop, Ok, Err, Result}
 use Rattle.std.proofs.Common.{sym, ◌∙◌, arith}
 use Rattle.std.proofs.Math.Path.{ap}
 use borrow.Author.Tests.{le-leb, lt-leb, eq-eqb, ne_eqb, not-true, not-false}
@@ -9,8 +9,6 @@ use Rattle.formula.specs.Fields.{is_modal_lem, map_of}
 use Rattle.formula.specs.Spelled.{Spelled, a_stands_lem, b_stands_lem, marked}
 use Rattle.verdict.specs.declared.Refusal.{Refusal}
 use Rattle.encoding.specs.Parse.{Got, fault, got, bind, bytes, field}
-use Rattle.encoding.specs.Parsed.{Parsed}
-use Rattle.encoding.specs.declared.Read.{Read}
 use Rattle.encoding.specs.Places.{bytes_at, bytes_end, InFile}
 use Rattle.claim_files.specs.ReadClaim.{early, kind_fits, map_and_kind, fields, made, entry}
 use Rattle.encoding.specs.Walk.{Reached, guard_passes, guard_fails, guard_cut}
@@ -26,13 +24,13 @@ pub record EntryGot (s : List ℕ) (limit : ℕ) (g : Got Spelled) (k a b o : �
   pub reached : Reached s limit g entry o
   pub held : marked entry ≡ record { kind = k; a = a; b = b }
 
-abbrev pub EntryTells : List ℕ → ℕ → Got Spelled → Parsed HeldEntry → Type 0
-EntryTells s limit g (Ok r) = EntryGot s limit g r.value.kind r.value.a r.value.b r.next
+abbrev pub EntryTells : List ℕ → ℕ → Got Spelled → Result HeldEntry (Refusal ℕ) → Type 0
+EntryTells s limit g (Ok r) = EntryGot s limit g r.kind r.a r.b r.next
 EntryTells s limit g (Err e) = g ≡ fault e.number e.place
 
 -- what holds of the answer in an arm that knows which it is
-module _ (s : List ℕ) (limit : ℕ) {g : Got Spelled} {r : Parsed HeldEntry} (t : EntryTells s limit g r) where
-  pub entry_read : {v : Read HeldEntry} → r ≡ Ok v → EntryGot s limit g v.value.kind v.value.a v.value.b v.next
+module _ (s : List ℕ) (limit : ℕ) {g : Got Spelled} {r : Result HeldEntry (Refusal ℕ)} (t : EntryTells s limit g r) where
+  pub entry_read : {v : HeldEntry} → r ≡ Ok v → EntryGot s limit g v.kind v.a v.b v.next
   entry_read e = rw e at t
 
   pub entry_refused : {e : Refusal ℕ} → r ≡ Err e → g ≡ fault e.number e.place

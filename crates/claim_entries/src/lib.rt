@@ -15,14 +15,16 @@ use claim_files::ClaimFault;
 use encoding::{Parsed, Read};
 use file_parts::{count_at, field_at};
 use formula::Kind;
-use verdict::Fault;
+use verdict::{Fault, Refusal};
 
-// An entry as the columns hold it.
+// An entry as the columns hold it, and the place after it. One struct in one level: nested in a `Read` its three fields are put into one word
+// and taken out of it again, entry by entry.
 #[derive(Clone, Copy)]
 pub struct HeldEntry {
     pub kind: u8,
     pub a: u16,
     pub b: u16,
+    pub next: usize,
 }
 
 // A known kind, and the map of its fields: that of the kind, or with B for the action of a box or diamond.
@@ -58,7 +60,7 @@ fn held_b(kind: u8, stands: bool, b: u16) -> u16
 }
 
 // Map and kind are judged before fields, once both are there; an unfit pair is refused at the map.
-pub fn entry_at(bytes: &[u8], start: usize) -> Parsed<HeldEntry>
+pub fn entry_at(bytes: &[u8], start: usize) -> Result<HeldEntry, Refusal>
     requires { InFile bytes.now 65000 start }
     ensures { EntryTells bytes.now (start + 6) (entry_at bytes.now start) result }
 {
@@ -74,12 +76,10 @@ pub fn entry_at(bytes: &[u8], start: usize) -> Parsed<HeldEntry>
     let a = field_at(bytes, fields, a_stands(map), ClaimFault::Length as u16)?;
     let second = b_stands(map);
     let b = field_at(bytes, a.next, second, ClaimFault::Length as u16)?;
-    Ok(Read {
-        value: HeldEntry {
-            kind,
-            a: a.value,
-            b: held_b(kind, second, b.value),
-        },
+    Ok(HeldEntry {
+        kind,
+        a: a.value,
+        b: held_b(kind, second, b.value),
         next: b.next,
     })
 }
@@ -101,9 +101,9 @@ fn store_entries(
     let mut at = from;
     for i in 0..count {
         let entry = entry_at(bytes, at)?;
-        kinds[i] = entry.value.kind;
-        a[i] = entry.value.a;
-        b[i] = entry.value.b;
+        kinds[i] = entry.kind;
+        a[i] = entry.a;
+        b[i] = entry.b;
         at = entry.next;
     }
     Ok(Read {
