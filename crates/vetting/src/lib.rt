@@ -4,7 +4,7 @@
 #![tactic(auto)]
 
 ghost use Rattle.std.specs.Prelude.{◌≡◌, List, true, ℕ, ◌+◌, ◌*◌, ◌<◌, ◌≤◌, length, take, drop};
-ghost use Rattle.verdict.specs.Shown.{shown};
+ghost use Rattle.verdict.specs.Shown.{refusal, shown};
 ghost use Rattle.formula.specs.Plain.{table_of};
 ghost use Rattle.formula.specs.PlainNodes.{proof_of};
 ghost use Rattle.formula.specs.Claim.{Form, clm1, clm2, form_number};
@@ -247,6 +247,15 @@ fn links_fit(rule: u8, links: &[u16], v: usize) -> bool
         && may_hold(Rule::has_back(rule), links[4 * v + 3])
 }
 
+// What a code earns that does not rise, or whose entry is none. A call, so that the loop over the codes has no place to count along.
+#[inline(never)]
+fn unfit_code(at: usize, i: usize) -> Refusal
+    requires { (at ≤ 58415) × (i ≤ 24) }
+    ensures { result ≡ refusal 34 (at + 2 * i) }
+{
+    ProofFault::Code.at((at + 2 * i) as u16)
+}
+
 // Codes rise strictly; the entry of each lies in range and is no name.
 fn judge_codes(
     kinds: &[u8; 256],
@@ -264,7 +273,7 @@ fn judge_codes(
         let code = codes[start + i];
         let number = wide(code);
         if number < least || !is_code(kinds, entries, code) {
-            return Err(ProofFault::Code.at((at + 2 * i) as u16));
+            return Err(unfit_code(at, i));
         }
         least = number + 1;
     }

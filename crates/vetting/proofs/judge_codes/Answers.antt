@@ -57,7 +57,7 @@ returns-then-number-least c =
       | then-number-least-via-then-number-least w ↦ rw (lt-leb (floor p) c.wide-number.result w.if-number-least.true) refl
       | then-number-least-via-else-number-least+then-not-is_code w ↦ tested p w.if-number-least.false ∙ sym w.if-not-is_code.ensures
     ]))
-    c.at.ensures
+    c.unfit_code.ensures
 
 pub loop-i-preserved : goal.loop-i-preserved
 loop-i-preserved c =
