@@ -34,7 +34,11 @@ pub fn same_entries(
     ensures { result ≡ same_entries_lem (entries table.now) (table_of other_kinds.now other_a.now other_b.now other_count) }
 {
     let EntryColumns {
-        kinds, a, b, count, ..
+        kinds,
+        a,
+        b,
+        count,
+        ..
     } = *table;
     count == other_count
         && kinds[..count] == other_kinds[..count]
